@@ -1,0 +1,1 @@
+// No code: specs/ holds the automaton, the step rule and the largest relation, for automata of any size.

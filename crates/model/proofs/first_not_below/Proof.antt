@@ -1,0 +1,108 @@
+use Rattle.field.specs.Taken.{taken-at}
+use Rattle.rules.specs.ReadingLaws.{firstNotBelow-turn, firstNotBelow-end}
+use Rattle.rules.specs.Reading.{sourceAt, placeOf, firstNotBelow}
+use Rattle.bisimulation.specs.ChoiceLaws.{via, less, notLess}
+use denote.Ref.{now}
+use Prim.Native.Nat.{_+_, _-_}
+use mathlib.Core.Path.{_≡_, refl, _∙_}
+use borrow.Author.Needs.{needs}
+use native.Mathlib.Omega.{arith}
+use Rattle.model.proofs.first_not_below.Statement.{statement}
+use Rattle.model.proofs.first_not_below.Tie as tie
+use Rattle.model.proofs.first_not_below.Reads as reads
+use Rattle.model.proofs.first_not_below.Lts as lts
+use Rattle.field.proofs.Cursor.byte.Reads as byte-reads
+use Rattle.field.proofs.Cursor.new.Reads as new-reads
+
+abbrev Inv-loop : tie.InvT-loop
+Inv-loop s state r count places left₀ at₀ left at =
+    (at + left ≡ count) × (firstNotBelow s state left at ≡ firstNotBelow s state (count - r) r)
+
+abbrev μ-loop : tie.MeasureT-loop
+μ-loop s state r count places left₀ at₀ left at = left
+
+-- src/lib.rt:346:20
+sub-left : tie.Need-sub-left Inv-loop μ-loop
+sub-left c = omega arith
+
+-- src/lib.rt:348:5
+loop-holds : tie.Need-loop-holds Inv-loop μ-loop
+loop-holds c = (omega arith, refl)
+
+-- src/lib.rt:349:21
+mul-place : tie.Need-mul-place Inv-loop μ-loop
+mul-place c = omega arith
+
+-- src/lib.rt:349:21
+element-copy-out-place : tie.Need-element-copy-out-place Inv-loop μ-loop
+element-copy-out-place c = omega arith
+
+-- src/lib.rt:350:34
+add-new : tie.Need-add-new Inv-loop μ-loop
+add-new c = omega (arith, c .before .before .before .before .pre .1 .places .held (c .before .before .loop .at) (omega arith), c .before .before .before .before .pre .1 .inside (c .before .before .loop .at) (omega arith))
+
+-- src/lib.rt:350:22
+new-requires : tie.Need-new-requires Inv-loop μ-loop
+new-requires c κs = search needs
+
+-- src/lib.rt:350:22
+byte-requires : tie.Need-byte-requires Inv-loop μ-loop
+byte-requires c κs = omega (arith, c .before .before .before .before .before .pre .1 .places .held (c .before .before .before .loop .at) (omega arith), c .before .before .before .before .before .pre .1 .inside (c .before .before .before .loop .at) (omega arith))
+
+-- src/lib.rt:352:13
+returns : tie.Need-returns Inv-loop μ-loop
+unfolding sourceAt
+returns c =
+    let l = c .before .before .before .before .before .loop in
+    let s = now (c .before .before .before .before .before .before .before .args .s) in
+    let held = c .before .before .before .before .before .before .before .pre .1 .places .held (l .at) (omega arith) in
+    let read = taken-at (c .before .byte .ensures) (placeOf s (l .at) + 2) (omega arith) in
+    via (firstNotBelow-turn s _ (l .left) (l .at) (omega arith)) (notLess _ (omega arith) refl) ∙ l .inv .1
+
+-- src/lib.rt:354:9
+add-at : tie.Need-add-at Inv-loop μ-loop
+add-at c = omega arith
+
+-- src/lib.rt:355:9
+sub-left-2 : tie.Need-sub-left-2 Inv-loop μ-loop
+sub-left-2 c = omega arith
+
+-- src/lib.rt:348:5
+loop-less : tie.Need-loop-less Inv-loop μ-loop
+loop-less c = omega arith
+
+-- src/lib.rt:348:5
+loop-again : tie.Need-loop-again Inv-loop μ-loop
+unfolding sourceAt
+loop-again c =
+    let l = c .before .before .before .before .before .loop in
+    let s = now (c .before .before .before .before .before .before .before .args .s) in
+    let held = c .before .before .before .before .before .before .before .pre .1 .places .held (l .at) (omega arith) in
+    let read = taken-at (c .before .byte .ensures) (placeOf s (l .at) + 2) (omega arith) in
+    (omega arith, via (firstNotBelow-turn s _ (l .left) (l .at) (omega arith)) (less _ (omega arith) refl) ∙ l .inv .1)
+
+-- src/lib.rt:342:1
+returns-2 : tie.Need-returns-2 Inv-loop μ-loop
+returns-2 c =
+    let l = c .before .loop in
+    via (firstNotBelow-end _ _ (l .left) (l .at) (omega arith)) refl ∙ l .inv .1
+
+pub first-not-below-spec : {M : Type 1} → statement M
+first-not-below-spec =
+    tie.close
+    (tie.spec
+    Inv-loop
+    μ-loop
+    sub-left
+    loop-holds
+    mul-place
+    element-copy-out-place
+    add-new
+    new-requires
+    byte-requires
+    returns
+    add-at
+    sub-left-2
+    loop-less
+    loop-again
+    returns-2)

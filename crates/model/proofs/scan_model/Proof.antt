@@ -1,0 +1,83 @@
+use Rattle.rules.specs.ReadingLaws.{refuse-stops, refuse-passes, head-passed, labels-passed}
+use Rattle.rules.specs.Reading.{scanModel, labelsFault}
+use Rattle.rules.specs.Limits.{limits}
+use mathlib.Core.Path.{sym, _∙_, ap}
+use native.Mathlib.Omega.{arith}
+use borrow.Author.Needs.{needs}
+use Rattle.model.proofs.scan_model.Statement.{statement}
+use Rattle.model.proofs.scan_model.Tie as tie
+use Rattle.model.proofs.scan_model.Reads as reads
+use Rattle.model.proofs.scan_model.Lts as lts
+use Rattle.model.proofs.head_at.Reads as head-at-reads
+use Rattle.model.proofs.head_fault.Reads as head-fault-reads
+use Rattle.model.proofs.labels_fault.Reads as labels-fault-reads
+use Rattle.model.proofs.scan_transitions.Reads as scan-transitions-reads
+
+-- src/lib.rt:293:9
+head-fault-requires : tie.Need-head-fault-requires
+head-fault-requires c κs = search needs
+
+-- src/lib.rt:295:9
+returns : tie.Need-returns
+unfolding scanModel
+returns c =
+    record {
+      answer = refuse-stops _ _ _ (c .before .head-fault .ensures) (c .if1 .taken);
+      places = tt;
+      size = c .before .before .before .pre;
+    }
+
+-- src/lib.rt:300:9
+head-at-requires : tie.Need-head-at-requires
+head-at-requires c κs = head-passed limits _ (sym (c .if1 .left) ∙ c .before .head-fault .ensures) .whole
+
+-- src/lib.rt:301:9
+labels-fault-requires : tie.Need-labels-fault-requires
+labels-fault-requires c κs = (head-passed limits _ (sym (c .before .if1 .left) ∙ c .before .before .head-fault .ensures) .whole, c .head-at .ensures .small)
+
+-- src/lib.rt:303:9
+returns-2 : tie.Need-returns-2
+unfolding scanModel
+returns-2 c =
+    record {
+      answer =
+          refuse-passes _ (c .before .before .before .before .head-fault .ensures) (c .before .before .before .if1 .left)
+          (refuse-stops _ _ _ (c .before .labels-fault .ensures ∙ ap (labelsFault limits _) (c .before .before .head-at .ensures .states)) (c .if2 .taken));
+      places = tt;
+      size = c .before .before .before .before .before .before .pre;
+    }
+
+-- src/lib.rt:308:5
+scan-transitions-requires : tie.Need-scan-transitions-requires
+scan-transitions-requires c κs =
+    let h = head-passed limits _ (sym (c .before .before .before .before .if1 .left) ∙ c .before .before .before .before .before .head-fault .ensures) in (
+      c .before .before .before .head-at .ensures .states,
+      labels-passed limits _ _ (sym (c .before .if2 .left) ∙ c .before .before .labels-fault .ensures),
+      omega arith,
+      c .before .before .before .before .before .before .before .pre,
+    )
+
+-- src/lib.rt:289:1
+returns-3 : tie.Need-returns-3
+unfolding scanModel
+returns-3 c =
+    record {
+      answer =
+          refuse-passes _ (c .before .before .before .before .before .before .head-fault .ensures) (c .before .before .before .before .before .if1 .left)
+          (refuse-passes _ (c .before .before .before .labels-fault .ensures ∙ ap (labelsFault limits _) (c .before .before .before .before .head-at .ensures .states)) (c .before .before .if2 .left)
+          (cc));
+      places = c .scan-transitions .ensures .places;
+      size = c .scan-transitions .ensures .size;
+    }
+
+pub scan-model-spec : {M : Type 1} → statement M
+scan-model-spec =
+    tie.close
+    (tie.spec
+    head-fault-requires
+    returns
+    head-at-requires
+    labels-fault-requires
+    returns-2
+    scan-transitions-requires
+    returns-3)

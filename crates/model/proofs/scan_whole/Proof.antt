@@ -1,0 +1,75 @@
+use borrow.Author.Needs.{needs}
+use Rattle.model.specs.Scanned.{scanOf, PlacesOf}
+use Rattle.model.specs.declared.Scanned.{Scanned}
+use Rattle.rules.specs.Reading.{scanWhole, refuseBytesLeft}
+use denote.Ref.{now}
+use mathlib.Core.Path.{refl, sym, _∙_, ap, subst}
+use Rattle.bisimulation.specs.ChoiceLaws.{via, less, notLess}
+use native.Mathlib.Omega.{arith}
+use Rattle.model.proofs.scan_whole.Statement.{statement}
+use Rattle.model.proofs.scan_whole.Tie as tie
+use Rattle.model.proofs.scan_whole.Reads as reads
+use Rattle.model.proofs.scan_whole.Lts as lts
+use Rattle.model.proofs.scan_model.Reads as scan-model-reads
+
+-- src/lib.rt:320:9
+scan-model-requires : tie.Need-scan-model-requires
+scan-model-requires c κs = search needs
+
+-- src/lib.rt:322:24
+enum-known-scanned : tie.Need-enum-known-scanned
+enum-known-scanned c = search needs
+
+-- src/lib.rt:324:17
+returns : tie.Need-returns
+unfolding scanWhole refuseBytesLeft
+returns c =
+    let told = c .before .before .before .before .before .scan-model .ensures in
+    let s = now (c .before .before .before .before .before .before .before .before .args .s) in
+    let q = sym (ap scanOf (c .before .before .before .scanned .given .1)) ∙ told .answer in
+    record {
+      answer = via (sym (ap (refuseBytesLeft s) q)) (less _ (omega arith) refl);
+      places = tt;
+      size = told .size;
+    }
+
+-- src/lib.rt:331:28
+enum-known-scanned-2 : tie.Need-enum-known-scanned-2
+enum-known-scanned-2 c = search needs
+
+-- src/lib.rt:316:1
+returns-2 : tie.Need-returns-2
+unfolding scanWhole refuseBytesLeft
+returns-2 c =
+    let told = c .before .before .before .before .before .scan-model .ensures in
+    let s = now (c .before .before .before .before .before .before .before .before .args .s) in
+    let q = sym (ap scanOf (c .before .before .before .scanned .given .1)) ∙ told .answer in
+    record {
+      answer = via (sym (ap (refuseBytesLeft s) q)) (notLess _ (omega arith) refl);
+      places = subst (λ (r : Scanned). PlacesOf s (c .before .before .before .before .before .scan-model .last .1 .0) (scanOf r)) (c .before .before .before .scanned .given .1) (told .places);
+      size = told .size;
+    }
+
+-- src/lib.rt:316:1
+returns-3 : tie.Need-returns-3
+unfolding scanWhole refuseBytesLeft
+returns-3 c =
+    let told = c .before .before .before .scan-model .ensures in
+    let s = now (c .before .before .before .before .before .before .args .s) in
+    let q = sym (ap scanOf (c .before .scanned2 .given .1)) ∙ told .answer in
+    record {
+      answer = via (sym (ap (refuseBytesLeft s) q)) (refl);
+      places = tt;
+      size = told .size;
+    }
+
+pub scan-whole-spec : {M : Type 1} → statement M
+scan-whole-spec =
+    tie.close
+    (tie.spec
+    scan-model-requires
+    enum-known-scanned
+    returns
+    enum-known-scanned-2
+    returns-2
+    returns-3)

@@ -1,0 +1,420 @@
+// The model file of document 01: its records judged in the order of the table 'Refused, and where', and the places of its
+// transitions.
+ghost use Prim.Native.Nat.{_+_, _*_, _-_, _≤_, _<_};
+ghost use lib.ListN.{length};
+ghost use mathlib.Core.Path.{_≡_};
+ghost use Rattle.rules.specs.Limits.{limits};
+ghost use Rattle.rules.specs.Reading.{headFault, labelFault, labelsFault, rangeFault, fixedFault, entriesFault, transitionFault, statesOf, scanTransitions, scanModel, scanWhole, firstNotBelow};
+ghost use Rattle.model.specs.Scanned.{HeadAt, FieldsAt, Scans};
+ghost use Rattle.rules.specs.Answers.{fetchAnswer};
+ghost use Rattle.model.specs.Fetched.{Walkable, IsRun, answerOf};
+use field::Cursor;
+
+pub const STATES: usize = 64;
+
+pub const ACTIONS: usize = 32;
+
+pub const TRANSITIONS: usize = 256;
+
+pub const ENTRIES: usize = 1024;
+
+pub const LABEL: usize = 63;
+
+const HEAD_MARK: usize = 0x5041;
+
+const LABELS_MARK: usize = 0x4C42;
+
+const TRANSITION_MARK: usize = 0x5452;
+
+// The place of each transition in the model file, and after them the place where the records end.
+pub const PLACES: usize = 257;
+
+pub type Places = [usize; PLACES];
+
+// What the head of a sound model says, and where its records end.
+pub struct Model {
+    pub states: usize,
+    pub actions: usize,
+    pub transitions: usize,
+    pub end: usize,
+}
+
+pub enum Scanned {
+    Sound(Model),
+    Refused { number: usize, place: usize },
+}
+
+struct Head {
+    states: usize,
+    actions: usize,
+    transitions: usize,
+}
+
+struct Fields {
+    source: usize,
+    action: usize,
+    denominator: usize,
+    count: usize,
+    entries: Cursor,
+}
+
+fn head_at(s: &[u8]) -> Head
+    requires { ⌜ 6 ≤ length (now s) ⌝ }
+    ensures { λ r. ⌜ HeadAt (now (s .entry)) r ⌝ }
+{
+    let states = Cursor::new(2).byte(s);
+    let actions = states.next.byte(s);
+    let transitions = actions.next.pair(s);
+    Head {
+        states: states.value,
+        actions: actions.value,
+        transitions: transitions.value,
+    }
+}
+
+fn range_fault(n: usize, m: usize, count: usize) -> usize
+    ensures { λ r. ⌜ r ≡ rangeFault limits n m count ⌝ }
+{
+    if n == 0 {
+        return 3;
+    }
+    if STATES < n {
+        return 3;
+    }
+    if m == 0 {
+        return 3;
+    }
+    if ACTIONS < m {
+        return 3;
+    }
+    if TRANSITIONS < count {
+        return 3;
+    }
+    0
+}
+
+fn head_fault(s: &[u8]) -> usize
+    ensures { λ r. ⌜ r ≡ headFault limits (now (s .entry)) ⌝ }
+{
+    if s.len() < 2 {
+        return 1;
+    }
+    let mark = Cursor::new(0).pair(s).value;
+    if mark != HEAD_MARK {
+        return 2;
+    }
+    if s.len() < 6 {
+        return 1;
+    }
+    let head = head_at(s);
+    range_fault(head.states, head.actions, head.transitions)
+}
+
+fn label_fault(s: &[u8], n: usize) -> usize
+    requires { ⌜ 8 + n ≤ length (now s) ⌝ }
+    ensures { λ r. ⌜ r ≡ labelFault limits (now (s .entry)) n 8 ⌝ }
+{
+    let mut left = n;
+    let mut place = Cursor::new(8);
+    while 0 < left {
+        let field = place.byte(s);
+        let label = field.value;
+        if LABEL < label {
+            return 4;
+        }
+        place = field.next;
+        left -= 1;
+    }
+    0
+}
+
+fn labels_fault(s: &[u8], n: usize) -> usize
+    requires { ⌜ (6 ≤ length (now s)) × (n < 256) ⌝ }
+    ensures { λ r. ⌜ r ≡ labelsFault limits (now (s .entry)) n ⌝ }
+{
+    if s.len() < 8 {
+        return 1;
+    }
+    let mark = Cursor::new(6).pair(s).value;
+    if mark != LABELS_MARK {
+        return 2;
+    }
+    if s.len() < 8 + n {
+        return 1;
+    }
+    label_fault(s, n)
+}
+
+fn fields_at(s: &[u8], at: usize) -> Fields
+    requires { ⌜ at + 7 ≤ length (now s) ⌝ }
+    ensures { λ r. ⌜ FieldsAt (now (s .entry)) at r ⌝ }
+{
+    let source = Cursor::new(at + 2).byte(s);
+    let action = source.next.byte(s);
+    let denominator = action.next.pair(s);
+    let count = denominator.next.byte(s);
+    let entries = count.next;
+    Fields {
+        source: source.value,
+        action: action.value,
+        denominator: denominator.value,
+        count: count.value,
+        entries,
+    }
+}
+
+// Of n states and m actions; the last source and the entries before the record; then the record's own fields.
+fn fixed_fault(
+    n: usize,
+    m: usize,
+    last: usize,
+    entries: usize,
+    source: usize,
+    action: usize,
+    denominator: usize,
+    count: usize,
+) -> usize
+    requires { ⌜ (entries ≤ 1024) × (count < 256) ⌝ }
+    ensures { λ r. ⌜ r ≡ fixedFault limits n m last entries source action denominator count ⌝ }
+{
+    if source < last {
+        return 5;
+    }
+    if n <= source {
+        return 5;
+    }
+    if m <= action {
+        return 5;
+    }
+    if denominator == 0 {
+        return 5;
+    }
+    if count == 0 {
+        return 5;
+    }
+    if n < count {
+        return 5;
+    }
+    if ENTRIES < entries + count {
+        return 8;
+    }
+    0
+}
+
+fn entries_fault(s: &[u8], n: usize, denominator: usize, count: usize, at: usize) -> usize
+    requires { ⌜ (at + 3 * count ≤ length (now s)) × (count < 256) ⌝ }
+    ensures { λ r. ⌜ r ≡ entriesFault (now (s .entry)) n denominator count at 0 0 ⌝ }
+{
+    let mut left = count;
+    let mut place = Cursor::new(at);
+    let mut lowest = 0;
+    let mut total = 0;
+    while 0 < left {
+        let state = place.byte(s);
+        let weight = state.next.pair(s);
+        let v = state.value;
+        let p = weight.value;
+        if v < lowest {
+            return 6;
+        }
+        if n <= v {
+            return 6;
+        }
+        if p == 0 {
+            return 6;
+        }
+        lowest = v + 1;
+        total += p;
+        place = weight.next;
+        left -= 1;
+    }
+    if total != denominator {
+        return 7;
+    }
+    0
+}
+
+fn transition_fault(s: &[u8], n: usize, m: usize, last: usize, entries: usize, at: usize) -> usize
+    requires { ⌜ (at ≤ length (now s)) × (entries ≤ 1024) ⌝ }
+    ensures { λ r. ⌜ r ≡ transitionFault limits (now (s .entry)) n m last entries at ⌝ }
+{
+    if s.len() - at < 2 {
+        return 1;
+    }
+    let mark = Cursor::new(at).pair(s).value;
+    if mark != TRANSITION_MARK {
+        return 2;
+    }
+    if s.len() - at < 7 {
+        return 1;
+    }
+    let t = fields_at(s, at);
+    let fixed = fixed_fault(
+        n,
+        m,
+        last,
+        entries,
+        t.source,
+        t.action,
+        t.denominator,
+        t.count,
+    );
+    if fixed != 0 {
+        return fixed;
+    }
+    let count = t.count;
+    let start = t.entries.at;
+    if s.len() - start < 3 * count {
+        return 1;
+    }
+    entries_fault(s, n, t.denominator, count, start)
+}
+
+fn scan_transitions(s: &[u8], n: usize, m: usize, count: usize, places: &mut Places) -> Scanned
+    requires { ⌜ (n ≡ statesOf (now s)) × (8 + n ≤ length (now s)) × (count ≤ 256) × (length (now places) ≡ 257) ⌝ }
+    ensures { λ r. ⌜ Scans (now (s .entry)) (scanTransitions limits (now (s .entry)) n m count count 0 0 (8 + n)) r (now (places .exit)) ⌝ }
+{
+    let mut left = count;
+    let mut last = 0;
+    let mut entries = 0;
+    let mut at = 8 + n;
+    while 0 < left {
+        let fault = transition_fault(s, n, m, last, entries, at);
+        if fault != 0 {
+            return Scanned::Refused {
+                number: fault,
+                place: at,
+            };
+        }
+        let r = count - left;
+        places[r] = at;
+        let t = fields_at(s, at);
+        let more = t.count;
+        let start = t.entries.at;
+        last = t.source;
+        entries += more;
+        at = start + 3 * more;
+        left -= 1;
+    }
+    places[count] = at;
+    Scanned::Sound(Model {
+        states: n,
+        actions: m,
+        transitions: count,
+        end: at,
+    })
+}
+
+// Refusals 1 to 8, or a sound model with the place of each of its transitions.
+pub fn scan_model(s: &[u8], places: &mut Places) -> Scanned
+    requires { ⌜ length (now places) ≡ 257 ⌝ }
+    ensures { λ r. ⌜ Scans (now (s .entry)) (scanModel limits (now (s .entry))) r (now (places .exit)) ⌝ }
+{
+    let fault = head_fault(s);
+    if fault != 0 {
+        return Scanned::Refused {
+            number: fault,
+            place: 0,
+        };
+    }
+    let head = head_at(s);
+    let labels = labels_fault(s, head.states);
+    if labels != 0 {
+        return Scanned::Refused {
+            number: labels,
+            place: 6,
+        };
+    }
+    scan_transitions(s, head.states, head.actions, head.transitions, places)
+}
+
+// Refusals 1 to 9, or a sound model that fills the file.
+pub fn scan_whole(s: &[u8], places: &mut Places) -> Scanned
+    requires { ⌜ length (now places) ≡ 257 ⌝ }
+    ensures { λ r. ⌜ Scans (now (s .entry)) (scanWhole limits (now (s .entry))) r (now (places .exit)) ⌝ }
+{
+    let scanned = scan_model(s, places);
+    match scanned {
+        Scanned::Sound(m) => {
+            if m.end < s.len() {
+                return Scanned::Refused {
+                    number: 9,
+                    place: m.end,
+                };
+            }
+            Scanned::Sound(m)
+        }
+        Scanned::Refused { number, place } => Scanned::Refused { number, place },
+    }
+}
+
+fn no_places() -> Places
+    ensures { λ r. ⌜ 257 ≡ length r ⌝ }
+{
+    [0; PLACES]
+}
+
+// Of the transitions from r on, the first whose source is not below a state; their count where there is none.
+fn first_not_below(s: &[u8], state: usize, r: usize, count: usize, places: &Places) -> usize
+    requires { ⌜ (r ≤ count) × Walkable (now s) count (now places) ⌝ }
+    ensures { λ x. ⌜ x ≡ firstNotBelow (now (s .entry)) state (count - r) r ⌝ }
+{
+    let mut left = count - r;
+    let mut at = r;
+    while 0 < left {
+        let place = places[at];
+        let source = Cursor::new(place + 2).byte(s).value;
+        if state <= source {
+            return at;
+        }
+        at += 1;
+        left -= 1;
+    }
+    at
+}
+
+struct Run {
+    start: usize,
+    end: usize,
+}
+
+fn run_of(s: &[u8], state: usize, count: usize, places: &Places) -> Run
+    requires { ⌜ (state < 256) × Walkable (now s) count (now places) ⌝ }
+    ensures { λ r. ⌜ IsRun (now (s .entry)) state r ⌝ }
+{
+    let first = first_not_below(s, state, 0, count, places);
+    let past = first_not_below(s, state + 1, first, count, places);
+    Run {
+        start: places[first],
+        end: places[past],
+    }
+}
+
+pub enum Fetched {
+    Found { start: usize, end: usize },
+    NoState,
+    Unsound { number: usize, place: usize },
+}
+
+// The run of the model's bytes that holds the transitions of a state, or why there is none.
+pub fn fetch_run(s: &[u8], state: usize) -> Fetched
+    ensures { λ r. ⌜ answerOf (now (s .entry)) r ≡ fetchAnswer limits (now (s .entry)) state ⌝ }
+{
+    let mut places = no_places();
+    let scanned = scan_whole(s, &mut places);
+    match scanned {
+        Scanned::Sound(m) => {
+            let n = m.states;
+            let count = m.transitions;
+            if n <= state {
+                return Fetched::NoState;
+            }
+            let run = run_of(s, state, count, &places);
+            Fetched::Found {
+                start: run.start,
+                end: run.end,
+            }
+        }
+        Scanned::Refused { number, place } => Fetched::Unsound { number, place },
+    }
+}

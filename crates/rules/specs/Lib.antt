@@ -1,0 +1,14 @@
+-- Document 01's rules of the files: what stands in them, when they are refused and where, and what each call answers.
+pub mod Limits
+pub mod Bytes
+pub mod Model
+pub mod Reading
+pub mod ReadingLaws
+pub mod Certificate
+pub mod PlainRule
+pub mod Judging
+pub mod Quotient
+pub mod Answers
+pub mod AnswerLaws
+pub mod Demand3
+pub mod Cases

@@ -1,7 +1,7 @@
 -- Laws of what a fetch answers.
 use Prim.Native.Nat.{ℕ, zero, suc, _+_, _-_, _≤_, _<_, min}
 use mathlib.Core.Path.{_≡_, refl, sym, _∙_, ap, subst}
-use mathlib.Core.Logic.{inl, inr}
+use mathlib.Core.Logic.{inl, inr, ⊎-elim}
 use mathlib.Core.List.{List}
 use lib.ListN.{length, take, drop, length-take, length-drop}
 use native.Mathlib.Omega.{arith}
@@ -92,3 +92,11 @@ fetch-inside L s state = go (scanWhole L s) (whole-tells L s)
         (eitherLess Inside (placeOf s (runFirst s state)) (placeOf s (runPast s state)) (omega arith) (omega arith))
         (omega arith)
     go (refused number place) t = omega (arith, t .inside)
+
+-- a refusal in the model that a fetch answers: its number is small, and its place in the file
+pub fetch-refusal : (L : Limits) (s : List ℕ) (state number place : ℕ) → refusalIn number 1 place (length s) ≡ fetchAnswer L s state → (number ≤ 24) × (place ≤ length s)
+unfolding refusalIn FetchNumber
+fetch-refusal L s state number place q = (
+  ⊎-elim (λ h. omega (arith, ap (λ (a : Answer). a .number) q)) (λ h. omega (arith, ap (λ (a : Answer). a .number) q)) (fetch-number L s state),
+  omega (arith, ap (λ (a : Answer). a .stretchStart) q, ap (λ (a : Answer). a .stretchLength) q, fetch-inside L s state),
+)

@@ -1,0 +1,26 @@
+use Rattle.rules.specs.AnswerLaws.{fetch-number}
+use Rattle.rules.specs.Answers.{Answer, FetchNumber}
+use Rattle.rules.specs.Limits.{limits}
+use mathlib.Core.Path.{ap, subst⁻¹}
+use borrow.Author.Needs.{needs}
+use Rattle.zolkirta.proofs.zolkirta_fetch.Statement.{statement}
+use Rattle.zolkirta.proofs.zolkirta_fetch.Tie as tie
+use Rattle.zolkirta.proofs.zolkirta_fetch.Reads as reads
+use Rattle.zolkirta.proofs.zolkirta_fetch.Lts as lts
+use Rattle.zolkirta.proofs.fetch_answer.Reads as fetch-answer-reads
+
+-- src/lib.rt:95:5
+fetch-answer-requires : tie.Need-fetch-answer-requires
+fetch-answer-requires c κs = search needs
+
+-- src/lib.rt:91:1
+returns : tie.Need-returns
+returns c =
+    let e = c .fetch-answer .ensures in
+    record {
+      answer = e;
+      number = subst⁻¹ FetchNumber (ap (λ (a : Answer). a .number) e) (fetch-number limits _ _);
+    }
+
+pub zolkirta-fetch-spec : {M : Type 1} → statement M
+zolkirta-fetch-spec = tie.close (tie.spec fetch-answer-requires returns)

@@ -4,7 +4,7 @@ ghost use Prim.Native.Nat.{_+_, _*_, _-_, _≤_, _<_};
 ghost use lib.ListN.{length};
 ghost use mathlib.Core.Path.{_≡_};
 ghost use Rattle.rules.specs.Limits.{limits};
-ghost use Rattle.rules.specs.Reading.{headFault, labelFault, labelsFault, rangeFault, fixedFault, entriesFault, transitionFault, statesOf, scanTransitions, scanModel, scanWhole, firstNotBelow};
+ghost use Rattle.rules.specs.Reading.{headFault, labelFault, labelsFault, rangeFault, fixedFaultAt, entriesFault, transitionFault, statesOf, scanTransitions, scanModel, scanWhole, firstNotBelow};
 ghost use Rattle.model.specs.Scanned.{HeadAt, FieldsAt, Scans};
 ghost use Rattle.rules.specs.Answers.{fetchAnswer};
 ghost use Rattle.model.specs.Fetched.{Walkable, IsRun, answerOf};
@@ -163,32 +163,32 @@ fn fields_at(s: &[u8], at: usize) -> Fields
     }
 }
 
-// Of n states and m actions; the last source and the entries before the record; then the record's own fields.
-fn fixed_fault(
-    n: usize,
-    m: usize,
-    last: usize,
-    entries: usize,
-    source: usize,
-    action: usize,
-    denominator: usize,
-    count: usize,
-) -> usize
-    requires { ⌜ (entries ≤ 1024) × (count < 256) ⌝ }
-    ensures { λ r. ⌜ r ≡ fixedFault limits n m last entries source action denominator count ⌝ }
+// The fixed fields of the record at a place, of n states and m actions, after the last source and so many entries. Each field
+// is judged before the next is read: that compiles to one branch a test.
+fn fixed_fault(s: &[u8], n: usize, m: usize, last: usize, entries: usize, at: usize) -> usize
+    requires { ⌜ (at + 7 ≤ length (now s)) × (entries ≤ 1024) ⌝ }
+    ensures { λ r. ⌜ r ≡ fixedFaultAt limits (now (s .entry)) n m last entries at ⌝ }
 {
+    let first = Cursor::new(at + 2).byte(s);
+    let source = first.value;
     if source < last {
         return 5;
     }
     if n <= source {
         return 5;
     }
+    let second = first.next.byte(s);
+    let action = second.value;
     if m <= action {
         return 5;
     }
+    let third = second.next.pair(s);
+    let denominator = third.value;
     if denominator == 0 {
         return 5;
     }
+    let fourth = third.next.byte(s);
+    let count = fourth.value;
     if count == 0 {
         return 5;
     }
@@ -201,23 +201,21 @@ fn fixed_fault(
     0
 }
 
+// States ascend, so it is enough to test after the last entry that its state is below n: that refusal is 6 as well.
 fn entries_fault(s: &[u8], n: usize, denominator: usize, count: usize, at: usize) -> usize
     requires { ⌜ (at + 3 * count ≤ length (now s)) × (count < 256) ⌝ }
     ensures { λ r. ⌜ r ≡ entriesFault (now (s .entry)) n denominator count at 0 0 ⌝ }
 {
-    let mut left = count;
+    let mut unread = count;
     let mut place = Cursor::new(at);
     let mut lowest = 0;
     let mut total = 0;
-    while 0 < left {
+    while 0 < unread {
         let state = place.byte(s);
         let weight = state.next.pair(s);
         let v = state.value;
         let p = weight.value;
         if v < lowest {
-            return 6;
-        }
-        if n <= v {
             return 6;
         }
         if p == 0 {
@@ -226,7 +224,10 @@ fn entries_fault(s: &[u8], n: usize, denominator: usize, count: usize, at: usize
         lowest = v + 1;
         total += p;
         place = weight.next;
-        left -= 1;
+        unread -= 1;
+    }
+    if n < lowest {
+        return 6;
     }
     if total != denominator {
         return 7;
@@ -248,20 +249,11 @@ fn transition_fault(s: &[u8], n: usize, m: usize, last: usize, entries: usize, a
     if s.len() - at < 7 {
         return 1;
     }
-    let t = fields_at(s, at);
-    let fixed = fixed_fault(
-        n,
-        m,
-        last,
-        entries,
-        t.source,
-        t.action,
-        t.denominator,
-        t.count,
-    );
+    let fixed = fixed_fault(s, n, m, last, entries, at);
     if fixed != 0 {
         return fixed;
     }
+    let t = fields_at(s, at);
     let count = t.count;
     let start = t.entries.at;
     if s.len() - start < 3 * count {
@@ -359,16 +351,16 @@ fn first_not_below(s: &[u8], state: usize, r: usize, count: usize, places: &Plac
     requires { ⌜ (r ≤ count) × Walkable (now s) count (now places) ⌝ }
     ensures { λ x. ⌜ x ≡ firstNotBelow (now (s .entry)) state (count - r) r ⌝ }
 {
-    let mut left = count - r;
+    let mut ahead = count - r;
     let mut at = r;
-    while 0 < left {
+    while 0 < ahead {
         let place = places[at];
         let source = Cursor::new(place + 2).byte(s).value;
         if state <= source {
             return at;
         }
         at += 1;
-        left -= 1;
+        ahead -= 1;
     }
     at
 }

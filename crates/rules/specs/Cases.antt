@@ -10,7 +10,7 @@ use Rattle.bisimulation.specs.Prices.{priceAt, priceOfTargets}
 use Rattle.rules.specs.Limits.{limits}
 use Rattle.rules.specs.Bytes.{byteAt, twoAt, threeAt, fourAt, signedAt}
 use Rattle.rules.specs.Model.{weightOf, automatonOf}
-use Rattle.rules.specs.Reading.{firstFault, statesOf, actionsOf, countOf, rangeFault, headFault, labelFault, labelsFault, sourceAt, actionAt, denominatorAt, entryCountAt, afterTransition, fixedFault, entriesFault, transitionFault, refuseAt, scanTransitions, scanModel, refuseBytesLeft, scanWhole, entriesAt, transitionAt, transitionsAt, modelAt, readingOf, readWhole}
+use Rattle.rules.specs.Reading.{firstFault, statesOf, actionsOf, countOf, rangeFault, headFault, labelFault, labelsFault, sourceAt, actionAt, denominatorAt, entryCountAt, afterTransition, fixedFault, fixedFaultAt, entriesFault, transitionFault, refuseAt, scanTransitions, scanModel, refuseBytesLeft, scanWhole, entriesAt, transitionAt, transitionsAt, modelAt, readingOf, readWhole}
 use Rattle.rules.specs.Certificate.{fault, firstOf, both, equalLabels, isPair, removed, refutationCount, certificateHeadFault, challengerAt, defenderAt, pricesAt, afterRefutation, pairFault, refutationFault, pairsAfter, blocksAt, numberedFault, sameBlock, agree, pairsFault, blocksFault, kCountAt, afterK, wCountAt, afterFlow, kOf, wOf, flowAt, kFault, wFault, flowFault}
 use Rattle.rules.specs.PlainRule.{byKind, plainPriceCount, priceCondition, allWithAction, allRelated, below, internalPricesFault, externalPricesFault, plainPricesFault, plainInQuestion, allHold, internalEquationsFault, externalEquationsFault, plainEquationsFault, plainRule}
 use Rattle.rules.specs.Judging.{Judgement, accepted, rejected, rejectAt, questionsOfPair, questionsOfState, questionsFrom, questions, judgeFlows, judgeBlocks, judgeRefutations, judgeCertificate, judgeReading, judge}
@@ -85,5 +85,5 @@ sizes = (refl, refl)
 
 -- the table, computed
 pub all-cases : map judged cases ≡ map (λ (c : Case). c .expected) cases
-unfolding ifLess ifSame ifTrue allBelow sum sumℤ arriving leaving overTargets overSources beforeMove afterMove internalMove atTarget priceAt priceOfTargets byteAt twoAt threeAt fourAt signedAt weightOf automatonOf firstFault statesOf actionsOf countOf rangeFault headFault labelFault labelsFault sourceAt actionAt denominatorAt entryCountAt afterTransition fixedFault entriesFault transitionFault refuseAt scanTransitions scanModel refuseBytesLeft scanWhole entriesAt transitionAt transitionsAt modelAt readingOf readWhole firstOf both equalLabels isPair removed refutationCount certificateHeadFault challengerAt defenderAt pricesAt afterRefutation pairFault refutationFault pairsAfter blocksAt numberedFault sameBlock agree pairsFault blocksFault kCountAt afterK wCountAt afterFlow kOf wOf flowAt kFault wFault flowFault byKind plainPriceCount priceCondition allWithAction allRelated below internalPricesFault externalPricesFault plainPricesFault plainInQuestion allHold internalEquationsFault externalEquationsFault plainEquationsFault rejectAt questionsOfPair questionsOfState questionsFrom questions judgeFlows judgeBlocks judgeRefutations judgeCertificate judgeReading judge modelS certificateS between cases judged
+unfolding ifLess ifSame ifTrue allBelow sum sumℤ arriving leaving overTargets overSources beforeMove afterMove internalMove atTarget priceAt priceOfTargets byteAt twoAt threeAt fourAt signedAt weightOf automatonOf firstFault statesOf actionsOf countOf rangeFault headFault labelFault labelsFault sourceAt actionAt denominatorAt entryCountAt afterTransition fixedFault fixedFaultAt entriesFault transitionFault refuseAt scanTransitions scanModel refuseBytesLeft scanWhole entriesAt transitionAt transitionsAt modelAt readingOf readWhole firstOf both equalLabels isPair removed refutationCount certificateHeadFault challengerAt defenderAt pricesAt afterRefutation pairFault refutationFault pairsAfter blocksAt numberedFault sameBlock agree pairsFault blocksFault kCountAt afterK wCountAt afterFlow kOf wOf flowAt kFault wFault flowFault byKind plainPriceCount priceCondition allWithAction allRelated below internalPricesFault externalPricesFault plainPricesFault plainInQuestion allHold internalEquationsFault externalEquationsFault plainEquationsFault rejectAt questionsOfPair questionsOfState questionsFrom questions judgeFlows judgeBlocks judgeRefutations judgeCertificate judgeReading judge modelS certificateS between cases judged
 all-cases = refl

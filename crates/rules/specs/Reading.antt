@@ -88,6 +88,11 @@ fixedFault L n m last entries source action d c =
     (ifLess (L .entries) (entries + c) 8
     0))))))
 
+-- the same of the record at a place
+unfoldable pub fixedFaultAt : Limits → List ℕ → (n m last entries at : ℕ) → ℕ
+fixedFaultAt L s n m last entries at =
+    fixedFault L n m last entries (sourceAt s at) (actionAt s at) (denominatorAt s at) (entryCountAt s at)
+
 -- 'transition, entries': 6, 'state absent or not ascending, weight 0'; after the last entry 7, 'sum not d'.
 -- For the entries left at a place: the lowest state that may follow, and the sum so far
 unfoldable pub entriesFault : List ℕ → (n d : ℕ) → (left at lowest total : ℕ) → ℕ
@@ -104,7 +109,7 @@ transitionFault L s n m last entries at =
     ifLess (length s) (at + 2) 1
     (unlessSame (twoAt s at) 0x5452 2
     (ifLess (length s) (at + 7) 1
-    (firstFault (fixedFault L n m last entries (sourceAt s at) (actionAt s at) (denominatorAt s at) (entryCountAt s at))
+    (firstFault (fixedFaultAt L s n m last entries at)
     (ifLess (length s) (afterTransition s at) 1
     (entriesFault s n (denominatorAt s at) (entryCountAt s at) (at + 7) 0 0)))))
 

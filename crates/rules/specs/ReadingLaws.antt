@@ -8,12 +8,12 @@ use borrow.Author.Tests.{eqb-true, eqb-false}
 use lib.ListN.{length, take, drop, length-take, length-drop}
 use native.Mathlib.Omega.{arith}
 use native.Mathlib.Numerals.{add-one}
-use native.Mathlib.Decide.{ℕ-discrete}
+use native.Mathlib.Decide.{ℕ-discrete, decLe}
 use Rattle.bisimulation.specs.Choice.{ifLess, ifSame, unlessLess, unlessSame}
-use Rattle.bisimulation.specs.ChoiceLaws.{same, notSame, pastLess, keptLess, keptSame, eitherLess, eitherSame}
+use Rattle.bisimulation.specs.ChoiceLaws.{via, less, notLess, same, notSame, pastLess, keptLess, keptSame, eitherLess, eitherSame}
 use Rattle.rules.specs.Limits.{Limits, limits}
 use Rattle.rules.specs.Bytes.{byteAt, twoAt}
-use Rattle.rules.specs.Reading.{firstFault, statesOf, actionsOf, countOf, rangeFault, headFault, labelFault, labelsFault, sourceAt, actionAt, denominatorAt, entryCountAt, afterTransition, fixedFault, entriesFault, transitionFault, Scan, sound, refused, refuseAt, scanTransitions, scanModel, refuseBytesLeft, scanWhole, modelAt, Reading, model, readingOf, readWhole, placeOf, firstNotBelow}
+use Rattle.rules.specs.Reading.{firstFault, statesOf, actionsOf, countOf, rangeFault, headFault, labelFault, labelsFault, sourceAt, actionAt, denominatorAt, entryCountAt, afterTransition, fixedFault, fixedFaultAt, entriesFault, transitionFault, Scan, sound, refused, refuseAt, scanTransitions, scanModel, refuseBytesLeft, scanWhole, modelAt, Reading, model, readingOf, readWhole, placeOf, firstNotBelow}
 
 one-less : (left : ℕ) → left ≡ suc left - 1
 one-less left = omega arith
@@ -120,7 +120,7 @@ zero-not : (k : ℕ) → 0 ≡ suc k → ⊥
 zero-not k e = omega arith
 
 pub transition-passed : (L : Limits) (s : List ℕ) (n m last entries at : ℕ) → 0 ≡ transitionFault L s n m last entries at → PassedTransition L s n m last entries at
-unfolding transitionFault fixedFault
+unfolding transitionFault fixedFaultAt fixedFault
 transition-passed L s n m last entries at e =
     let a = pastLess 1 _ (length s) (at + 2) (zero-not 0) e in
     let b = keptSame _ 2 (twoAt s at) 0x5452 (zero-not 1) (a .1) in
@@ -235,7 +235,7 @@ fixedFault-small L n m last entries source action d c =
     (omega arith))
 
 pub transitionFault-small : (L : Limits) (s : List ℕ) (n m last entries at : ℕ) → transitionFault L s n m last entries at ≤ 8
-unfolding transitionFault
+unfolding transitionFault fixedFaultAt
 transitionFault-small L s n m last entries at =
     orLess _ _ (omega arith)
     (orSame _ _
@@ -327,3 +327,57 @@ whole-tells L s = go (scanModel L s) (scan-tells L s)
     go (sound n m count end) t =
         eitherLess (Tells L s) end (length s) (record { known = omega arith; inside = t .inside }) t
     go (refused number place) t = t
+
+-- The range of an entry's state may be tested after the last entry: states ascend, so once one is not below n neither is the lowest that
+-- may follow, and the refusal is 6 in either order. `whole` is what all entries come to
+pub record EntriesSoFar (s : List ℕ) (n d left at lowest total whole : ℕ) : Type 0 where
+  pub inRange : lowest ≤ n → entriesFault s n d left at lowest total ≡ whole
+  pub outOfRange : n < lowest → 6 ≡ whole
+
+module _ (s : List ℕ) (n d left at lowest total whole : ℕ) (h : EntriesSoFar s n d left at lowest total whole) (some : 0 < left) where
+  -- where the lowest state is in range, a fault of the next entry is the fault of all
+  in-range : (6 ≡ entriesFault s n d left at lowest total) → lowest ≤ n → 6 ≡ whole
+  in-range e small = e ∙ h .inRange small
+
+  or-out : (lowest ≤ n → 6 ≡ entriesFault s n d left at lowest total) → 6 ≡ whole
+  or-out f = go (decLe lowest n)
+    where
+      go : Dec (lowest ≤ n) → 6 ≡ whole
+      go (yes small) = in-range (f small) small
+      go (no large) = h .outOfRange (omega arith)
+
+  -- an entry out of order, and one with weight 0
+  pub entry-descends : byteAt s at < lowest → 6 ≡ whole
+  entry-descends e = or-out (λ small. via (entriesFault-turn s n d left at lowest total some) (less _ e refl))
+
+  entry-beyond : lowest ≤ byteAt s at → n ≤ byteAt s at → 6 ≡ whole
+  entry-beyond e f = or-out (λ small. via (entriesFault-turn s n d left at lowest total some) (notLess _ e (notLess _ f refl)))
+
+  pub entry-empty : lowest ≤ byteAt s at → twoAt s (at + 1) ≡ 0 → 6 ≡ whole
+  entry-empty e z = go (decLe n (byteAt s at))
+    where
+      go : Dec (n ≤ byteAt s at) → 6 ≡ whole
+      go (yes large) = entry-beyond e large
+      go (no small) =
+          or-out
+          (λ q.
+          via (entriesFault-turn s n d left at lowest total some)
+          (notLess _ e (less _ (omega arith) (notLess _ (omega arith) refl))))
+
+  -- an entry that may follow: its state v, its weight p and the place after it
+  pub entry-follows : (v p next : ℕ) → v ≡ byteAt s at → p ≡ twoAt s (at + 1) → next ≡ at + 3 → lowest ≤ v → 0 < p → EntriesSoFar s n d (left - 1) next (v + 1) (total + p) whole
+  entry-follows v p next isV isP isNext e z =
+      record {
+        inRange = λ q.
+            via (sym (h .inRange (omega arith)) ∙ entriesFault-turn s n d left at lowest total some)
+            (notLess _ (omega arith) (less _ (omega arith) (less _ (omega arith) (cc))));
+        outOfRange = λ q. entry-beyond (omega arith) (omega arith);
+      }
+
+-- before the first entry, at its place, and what is left after the last
+pub entries-start : (s : List ℕ) (n d count at place : ℕ) → place ≡ at → EntriesSoFar s n d count place 0 0 (entriesFault s n d count at 0 0)
+entries-start s n d count at place e =
+    record { inRange = λ q. ap (λ (k : ℕ). entriesFault s n d count k 0 0) e; outOfRange = λ q. absurd (omega arith) }
+
+pub entries-end : (s : List ℕ) (n d left at lowest total whole : ℕ) → EntriesSoFar s n d left at lowest total whole → left ≤ 0 → lowest ≤ n → unlessSame total d 7 0 ≡ whole
+entries-end s n d left at lowest total whole h e q = sym (entriesFault-end s n d left at lowest total e) ∙ h .inRange q

@@ -15,15 +15,15 @@ use Rattle.field.proofs.Cursor.byte.Reads as byte-reads
 use Rattle.field.proofs.Cursor.new.Reads as new-reads
 
 abbrev Inv-loop : tie.InvT-loop
-Inv-loop s state r count places left₀ at₀ left at =
-    (at + left ≡ count) × (firstNotBelow s state left at ≡ firstNotBelow s state (count - r) r)
+Inv-loop s state r count places ahead₀ at₀ ahead at =
+    (at + ahead ≡ count) × (firstNotBelow s state ahead at ≡ firstNotBelow s state (count - r) r)
 
 abbrev μ-loop : tie.MeasureT-loop
-μ-loop s state r count places left₀ at₀ left at = left
+μ-loop s state r count places ahead₀ at₀ ahead at = ahead
 
 -- src/lib.rt:346:20
-sub-left : tie.Need-sub-left Inv-loop μ-loop
-sub-left c = omega arith
+sub-ahead : tie.Need-sub-ahead Inv-loop μ-loop
+sub-ahead c = omega arith
 
 -- src/lib.rt:348:5
 loop-holds : tie.Need-loop-holds Inv-loop μ-loop
@@ -57,15 +57,15 @@ returns c =
     let s = now (c .before .before .before .before .before .before .before .args .s) in
     let held = c .before .before .before .before .before .before .before .pre .1 .places .held (l .at) (omega arith) in
     let read = taken-at (c .before .byte .ensures) (placeOf s (l .at) + 2) (omega arith) in
-    via (firstNotBelow-turn s _ (l .left) (l .at) (omega arith)) (notLess _ (omega arith) refl) ∙ l .inv .1
+    via (firstNotBelow-turn s _ (l .ahead) (l .at) (omega arith)) (notLess _ (omega arith) refl) ∙ l .inv .1
 
 -- src/lib.rt:354:9
 add-at : tie.Need-add-at Inv-loop μ-loop
 add-at c = omega arith
 
 -- src/lib.rt:355:9
-sub-left-2 : tie.Need-sub-left-2 Inv-loop μ-loop
-sub-left-2 c = omega arith
+sub-ahead-2 : tie.Need-sub-ahead-2 Inv-loop μ-loop
+sub-ahead-2 c = omega arith
 
 -- src/lib.rt:348:5
 loop-less : tie.Need-loop-less Inv-loop μ-loop
@@ -79,13 +79,13 @@ loop-again c =
     let s = now (c .before .before .before .before .before .before .before .args .s) in
     let held = c .before .before .before .before .before .before .before .pre .1 .places .held (l .at) (omega arith) in
     let read = taken-at (c .before .byte .ensures) (placeOf s (l .at) + 2) (omega arith) in
-    (omega arith, via (firstNotBelow-turn s _ (l .left) (l .at) (omega arith)) (less _ (omega arith) refl) ∙ l .inv .1)
+    (omega arith, via (firstNotBelow-turn s _ (l .ahead) (l .at) (omega arith)) (less _ (omega arith) refl) ∙ l .inv .1)
 
 -- src/lib.rt:342:1
 returns-2 : tie.Need-returns-2 Inv-loop μ-loop
 returns-2 c =
     let l = c .before .loop in
-    via (firstNotBelow-end _ _ (l .left) (l .at) (omega arith)) refl ∙ l .inv .1
+    via (firstNotBelow-end _ _ (l .ahead) (l .at) (omega arith)) refl ∙ l .inv .1
 
 pub first-not-below-spec : {M : Type 1} → statement M
 first-not-below-spec =
@@ -93,7 +93,7 @@ first-not-below-spec =
     (tie.spec
     Inv-loop
     μ-loop
-    sub-left
+    sub-ahead
     loop-holds
     mul-place
     element-copy-out-place
@@ -102,7 +102,7 @@ first-not-below-spec =
     byte-requires
     returns
     add-at
-    sub-left-2
+    sub-ahead-2
     loop-less
     loop-again
     returns-2)

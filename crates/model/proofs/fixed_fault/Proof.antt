@@ -1,65 +1,131 @@
+use Rattle.rules.specs.Reading.{fixedFaultAt, fixedFault, sourceAt, actionAt, denominatorAt, entryCountAt}
+use Prim.Native.Nat.{_+_}
 use mathlib.Core.Path.{refl}
-use Rattle.rules.specs.Reading.{fixedFault}
 use Rattle.bisimulation.specs.ChoiceLaws.{less, notLess}
+use Rattle.field.specs.Taken.{taken-at}
 use native.Mathlib.Omega.{arith}
 use borrow.Author.Needs.{needs}
 use Rattle.model.proofs.fixed_fault.Statement.{statement}
 use Rattle.model.proofs.fixed_fault.Tie as tie
 use Rattle.model.proofs.fixed_fault.Reads as reads
 use Rattle.model.proofs.fixed_fault.Lts as lts
+use Rattle.field.proofs.Cursor.byte.Reads as byte-reads
+use Rattle.field.proofs.Cursor.new.Reads as new-reads
+use Rattle.field.proofs.Cursor.pair.Reads as pair-reads
 
--- src/lib.rt:170:9
+-- src/lib.rt:172:29
+add-new : tie.Need-add-new
+add-new c = search needs
+
+-- src/lib.rt:172:17
+new-requires : tie.Need-new-requires
+new-requires c κs = search needs
+
+-- src/lib.rt:172:9
+byte-requires : tie.Need-byte-requires
+byte-requires c κs = search needs
+
+-- src/lib.rt:175:9
 returns : tie.Need-returns
-unfolding fixedFault
-returns c = less _ (omega arith) refl
+unfolding fixedFaultAt fixedFault sourceAt actionAt denominatorAt entryCountAt
+returns c =
+    let source = taken-at (c .before .byte .ensures) (c .before .before .before .before .args .at + 2) (omega arith) in
+    less _ (omega arith) refl
 
--- src/lib.rt:173:9
+-- src/lib.rt:178:9
 returns-2 : tie.Need-returns-2
-unfolding fixedFault
-returns-2 c = notLess _ (omega arith) (notLess _ (omega arith) refl)
+unfolding fixedFaultAt fixedFault sourceAt actionAt denominatorAt entryCountAt
+returns-2 c =
+    let source = taken-at (c .before .before .byte .ensures) (c .before .before .before .before .before .args .at + 2) (omega arith) in
+    notLess _ (omega arith) (notLess _ (omega arith) refl)
 
--- src/lib.rt:176:9
+-- src/lib.rt:180:9
+byte-requires-2 : tie.Need-byte-requires-2
+byte-requires-2 c κs = search needs
+
+-- src/lib.rt:183:9
 returns-3 : tie.Need-returns-3
-unfolding fixedFault
-returns-3 c = notLess _ (omega arith) (less _ (omega arith) (notLess _ (omega arith) refl))
-
--- src/lib.rt:179:9
-returns-4 : tie.Need-returns-4
-unfolding fixedFault
-returns-4 c = notLess _ (omega arith) (less _ (omega arith) (less _ (omega arith) (notLess _ (omega arith) refl)))
-
--- src/lib.rt:182:9
-returns-5 : tie.Need-returns-5
-unfolding fixedFault
-returns-5 c = notLess _ (omega arith) (less _ (omega arith) (less _ (omega arith) (less _ (omega arith) (notLess _ (omega arith) refl))))
+unfolding fixedFaultAt fixedFault sourceAt actionAt denominatorAt entryCountAt
+returns-3 c =
+    let source = taken-at (c .before .before .before .before .byte .ensures) (c .before .before .before .before .before .before .before .args .at + 2) (omega arith) in
+    let action = taken-at (c .before .byte2 .ensures) (c .before .before .before .before .before .before .before .args .at + 3) (omega arith) in
+    notLess _ (omega arith) (less _ (omega arith) (notLess _ (omega arith) refl))
 
 -- src/lib.rt:185:9
-returns-6 : tie.Need-returns-6
-unfolding fixedFault
-returns-6 c = notLess _ (omega arith) (less _ (omega arith) (less _ (omega arith) (less _ (omega arith) (less _ (omega arith) (less _ (omega arith) refl)))))
+pair-requires : tie.Need-pair-requires
+pair-requires c κs = search needs
 
--- src/lib.rt:187:18
+-- src/lib.rt:188:9
+returns-4 : tie.Need-returns-4
+unfolding fixedFaultAt fixedFault sourceAt actionAt denominatorAt entryCountAt
+returns-4 c =
+    let source = taken-at (c .before .before .before .before .before .before .byte .ensures) (c .before .before .before .before .before .before .before .before .before .args .at + 2) (omega arith) in
+    let action = taken-at (c .before .before .before .byte2 .ensures) (c .before .before .before .before .before .before .before .before .before .args .at + 3) (omega arith) in
+    let d = taken-at (c .before .pair .ensures) (c .before .before .before .before .before .before .before .before .before .args .at + 4) (omega arith) in
+    notLess _ (omega arith) (less _ (omega arith) (less _ (omega arith) (notLess _ (omega arith) refl)))
+
+-- src/lib.rt:190:9
+byte-requires-3 : tie.Need-byte-requires-3
+byte-requires-3 c κs = search needs
+
+-- src/lib.rt:193:9
+returns-5 : tie.Need-returns-5
+unfolding fixedFaultAt fixedFault sourceAt actionAt denominatorAt entryCountAt
+returns-5 c =
+    let source = taken-at (c .before .before .before .before .before .before .before .before .byte .ensures) (c .before .before .before .before .before .before .before .before .before .before .before .args .at + 2) (omega arith) in
+    let action = taken-at (c .before .before .before .before .before .byte2 .ensures) (c .before .before .before .before .before .before .before .before .before .before .before .args .at + 3) (omega arith) in
+    let d = taken-at (c .before .before .before .pair .ensures) (c .before .before .before .before .before .before .before .before .before .before .before .args .at + 4) (omega arith) in
+    let count = taken-at (c .before .byte3 .ensures) (c .before .before .before .before .before .before .before .before .before .before .before .args .at + 6) (omega arith) in
+    notLess _ (omega arith) (less _ (omega arith) (less _ (omega arith) (less _ (omega arith) (notLess _ (omega arith) refl))))
+
+-- src/lib.rt:196:9
+returns-6 : tie.Need-returns-6
+unfolding fixedFaultAt fixedFault sourceAt actionAt denominatorAt entryCountAt
+returns-6 c =
+    let source = taken-at (c .before .before .before .before .before .before .before .before .before .byte .ensures) (c .before .before .before .before .before .before .before .before .before .before .before .before .args .at + 2) (omega arith) in
+    let action = taken-at (c .before .before .before .before .before .before .byte2 .ensures) (c .before .before .before .before .before .before .before .before .before .before .before .before .args .at + 3) (omega arith) in
+    let d = taken-at (c .before .before .before .before .pair .ensures) (c .before .before .before .before .before .before .before .before .before .before .before .before .args .at + 4) (omega arith) in
+    let count = taken-at (c .before .before .byte3 .ensures) (c .before .before .before .before .before .before .before .before .before .before .before .before .args .at + 6) (omega arith) in
+    notLess _ (omega arith) (less _ (omega arith) (less _ (omega arith) (less _ (omega arith) (less _ (omega arith) (less _ (omega arith) refl)))))
+
+-- src/lib.rt:198:18
 add-if7 : tie.Need-add-if7
 add-if7 c = search needs
 
--- src/lib.rt:188:9
+-- src/lib.rt:199:9
 returns-7 : tie.Need-returns-7
-unfolding fixedFault
-returns-7 c = notLess _ (omega arith) (less _ (omega arith) (less _ (omega arith) (less _ (omega arith) (less _ (omega arith) (notLess _ (omega arith) (less _ (omega arith) refl))))))
+unfolding fixedFaultAt fixedFault sourceAt actionAt denominatorAt entryCountAt
+returns-7 c =
+    let source = taken-at (c .before .before .before .before .before .before .before .before .before .before .byte .ensures) (c .before .before .before .before .before .before .before .before .before .before .before .before .before .args .at + 2) (omega arith) in
+    let action = taken-at (c .before .before .before .before .before .before .before .byte2 .ensures) (c .before .before .before .before .before .before .before .before .before .before .before .before .before .args .at + 3) (omega arith) in
+    let d = taken-at (c .before .before .before .before .before .pair .ensures) (c .before .before .before .before .before .before .before .before .before .before .before .before .before .args .at + 4) (omega arith) in
+    let count = taken-at (c .before .before .before .byte3 .ensures) (c .before .before .before .before .before .before .before .before .before .before .before .before .before .args .at + 6) (omega arith) in
+    notLess _ (omega arith) (less _ (omega arith) (less _ (omega arith) (less _ (omega arith) (less _ (omega arith) (notLess _ (omega arith) (less _ (omega arith) refl))))))
 
--- src/lib.rt:156:1
+-- src/lib.rt:168:1
 returns-8 : tie.Need-returns-8
-unfolding fixedFault
-returns-8 c = notLess _ (omega arith) (less _ (omega arith) (less _ (omega arith) (less _ (omega arith) (less _ (omega arith) (notLess _ (omega arith) (notLess _ (omega arith) refl))))))
+unfolding fixedFaultAt fixedFault sourceAt actionAt denominatorAt entryCountAt
+returns-8 c =
+    let source = taken-at (c .before .before .before .before .before .before .before .before .before .before .byte .ensures) (c .before .before .before .before .before .before .before .before .before .before .before .before .before .args .at + 2) (omega arith) in
+    let action = taken-at (c .before .before .before .before .before .before .before .byte2 .ensures) (c .before .before .before .before .before .before .before .before .before .before .before .before .before .args .at + 3) (omega arith) in
+    let d = taken-at (c .before .before .before .before .before .pair .ensures) (c .before .before .before .before .before .before .before .before .before .before .before .before .before .args .at + 4) (omega arith) in
+    let count = taken-at (c .before .before .before .byte3 .ensures) (c .before .before .before .before .before .before .before .before .before .before .before .before .before .args .at + 6) (omega arith) in
+    notLess _ (omega arith) (less _ (omega arith) (less _ (omega arith) (less _ (omega arith) (less _ (omega arith) (notLess _ (omega arith) (notLess _ (omega arith) refl))))))
 
 pub fixed-fault-spec : {M : Type 1} → statement M
 fixed-fault-spec =
     tie.close
     (tie.spec
+    add-new
+    new-requires
+    byte-requires
     returns
     returns-2
+    byte-requires-2
     returns-3
+    pair-requires
     returns-4
+    byte-requires-3
     returns-5
     returns-6
     add-if7

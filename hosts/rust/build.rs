@@ -1,0 +1,7 @@
+// Links the proved library, which `rt staticlib zolkirta` writes.
+fn main() {
+    let here = std::env::var("CARGO_MANIFEST_DIR").unwrap();
+    println!("cargo:rustc-link-search=native={here}/../../target/staticlib");
+    println!("cargo:rustc-link-lib=static=zolkirta");
+    println!("cargo:rerun-if-changed={here}/../../target/staticlib/libzolkirta.a");
+}

@@ -1,0 +1,25 @@
+//! Safe calls of the proved library, and a plain reader to compare it with.
+
+pub mod plain;
+
+/// What a call answers: document 01's number, file and place, the stretch or run, and the bytes written.
+#[repr(C)]
+#[derive(Clone, Copy, Debug, PartialEq, Eq)]
+pub struct Answer {
+    pub number: u32,
+    pub file: u32,
+    pub place: usize,
+    pub stretch_start: usize,
+    pub stretch_length: usize,
+    pub written: usize,
+}
+
+extern "C" {
+    fn zolkirta_fetch(model: *const u8, model_length: usize, state: u32) -> Answer;
+}
+
+/// The run of the model's bytes that holds the transitions that leave `state`.
+pub fn fetch(model: &[u8], state: u32) -> Answer {
+    // The library reads the slice and nothing else, and keeps no pointer.
+    unsafe { zolkirta_fetch(model.as_ptr(), model.len(), state) }
+}

@@ -27,6 +27,10 @@ unlessSame a b r x = ifSame a b x r
 abbrev pub unlessTrue {ℓ} : {X : Type ℓ} → Bool → X → X → X
 unlessTrue b r x = ifTrue b x r
 
+-- both tests hold
+unfoldable pub both : Bool → Bool → Bool
+both a b = cond a b false
+
 -- f holds of every number below n
 unfoldable pub allBelow : ℕ → (ℕ → Bool) → Bool
 allBelow zero f = true

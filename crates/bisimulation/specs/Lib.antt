@@ -4,5 +4,6 @@ pub mod ChoiceLaws
 pub mod Sum
 pub mod Automaton
 pub mod StepRule
+pub mod Pairs
 pub mod Prices
 pub mod Largest

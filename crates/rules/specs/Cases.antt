@@ -3,7 +3,7 @@ use Prim.Native.Nat.{ℕ}
 use mathlib.Core.Path.{_≡_, refl}
 use mathlib.Core.List.{List, [], _∷_, _++_, map}
 use lib.ListN.{length, take, drop, set}
-use Rattle.bisimulation.specs.Choice.{ifLess, ifSame, ifTrue, allBelow}
+use Rattle.bisimulation.specs.Choice.{ifLess, ifSame, ifTrue, allBelow, both}
 use Rattle.bisimulation.specs.Sum.{sum, sumℤ}
 use Rattle.bisimulation.specs.StepRule.{arriving, leaving, overTargets, overSources, beforeMove, afterMove, internalMove, atTarget}
 use Rattle.bisimulation.specs.Prices.{priceAt, priceOfTargets}
@@ -11,7 +11,8 @@ use Rattle.rules.specs.Limits.{limits}
 use Rattle.rules.specs.Bytes.{byteAt, twoAt, threeAt, fourAt, signedAt}
 use Rattle.rules.specs.Model.{weightOf, automatonOf}
 use Rattle.rules.specs.Reading.{firstFault, statesOf, actionsOf, countOf, rangeFault, headFault, labelFault, labelsFault, sourceAt, actionAt, denominatorAt, entryCountAt, afterTransition, fixedFault, fixedFaultAt, entriesFault, transitionFault, refuseAt, scanTransitions, scanModel, refuseBytesLeft, scanWhole, entriesAt, transitionAt, transitionsAt, modelAt, readingOf, readWhole}
-use Rattle.rules.specs.Certificate.{fault, firstOf, both, equalLabels, isPair, removed, refutationCount, certificateHeadFault, challengerAt, defenderAt, pricesAt, afterRefutation, pairFault, refutationFault, pairsAfter, blocksAt, numberedFault, sameBlock, agree, pairsFault, blocksFault, kCountAt, afterK, wCountAt, afterFlow, kOf, wOf, flowAt, kFault, wFault, flowFault}
+use Rattle.bisimulation.specs.Pairs.{equalLabels, isPair, removed}
+use Rattle.rules.specs.Certificate.{fault, firstOf, refutationCount, certificateHeadFault, challengerAt, defenderAt, pricesAt, afterRefutation, pairFault, refutationFault, pairsAfter, blocksAt, numberedFault, sameBlock, agree, pairsFault, blocksFault, kCountAt, afterK, wCountAt, afterFlow, kOf, wOf, flowAt, kFault, wFault, flowFault}
 use Rattle.rules.specs.PlainRule.{byKind, plainPriceCount, priceCondition, allWithAction, allRelated, below, internalPricesFault, externalPricesFault, plainPricesFault, plainInQuestion, allHold, internalEquationsFault, externalEquationsFault, plainEquationsFault, plainRule}
 use Rattle.rules.specs.Judging.{Judgement, accepted, rejected, rejectAt, questionsOfPair, questionsOfState, questionsFrom, questions, judgeFlows, judgeBlocks, judgeRefutations, judgeCertificate, judgeReading, judge}
 

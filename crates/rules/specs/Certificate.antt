@@ -6,7 +6,8 @@ use mathlib.Core.Bool.{Bool, false, not, cond}
 use lib.Dec.{eqb}
 use lib.ListN.{length, take, drop, getD}
 use lib.IntN.{ℤ}
-use Rattle.bisimulation.specs.Choice.{ifLess, ifSame, ifTrue, unlessLess, unlessSame, unlessTrue, allBelow}
+use Rattle.bisimulation.specs.Choice.{ifLess, ifSame, ifTrue, unlessLess, unlessSame, unlessTrue, both, allBelow}
+use Rattle.bisimulation.specs.Pairs.{Pairs, removed}
 use Rattle.bisimulation.specs.Automaton.{Automaton}
 use Rattle.bisimulation.specs.StepRule.{Flow}
 use Rattle.rules.specs.Limits.{Limits}
@@ -27,26 +28,6 @@ noFault = fault 0
 -- the first of two faults in reading order
 unfoldable pub firstOf : Fault → Fault → Fault
 firstOf f next = ifSame (f .number) 0 next f
-
--- both tests hold
-unfoldable pub both : Bool → Bool → Bool
-both a b = cond a b false
-
--- 'related pairs'
-abbrev pub Pairs : Type 0
-Pairs = ℕ → ℕ → Bool
-
--- 'The related pairs start as all pairs with equal labels'
-unfoldable pub equalLabels : Automaton → Pairs
-equalLabels A v u = eqb (A .label v) (A .label u)
-
--- (v,u) is the pair (s,t)
-unfoldable pub isPair : ℕ → ℕ → Pairs
-isPair s t v u = both (eqb v s) (eqb u t)
-
--- 'Then (s,t) and (t,s) are removed'
-unfoldable pub removed : ℕ → ℕ → Pairs → Pairs
-removed s t R v u = cond (isPair s t v u) false (cond (isPair t s v u) false (R v u))
 
 -- what a step rule decides of a certificate file
 pub record FileRule : Type 0 where

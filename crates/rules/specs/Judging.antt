@@ -8,7 +8,8 @@ use Rattle.bisimulation.specs.Automaton.{Automaton}
 use Rattle.rules.specs.Limits.{Limits}
 use Rattle.rules.specs.Model.{automatonOf}
 use Rattle.rules.specs.Reading.{Reading, model, noModel, readWhole}
-use Rattle.rules.specs.Certificate.{Fault, fault, Pairs, FileRule, equalLabels, refutationCount, certificateHeadFault, refutationFault, pairsAfter, afterRefutation, sameBlock, blocksAt, blocksFault, flowFault, afterFlow}
+use Rattle.bisimulation.specs.Pairs.{Pairs, equalLabels}
+use Rattle.rules.specs.Certificate.{Fault, fault, FileRule, refutationCount, certificateHeadFault, refutationFault, pairsAfter, afterRefutation, sameBlock, blocksAt, blocksFault, flowFault, afterFlow}
 
 -- acceptance with its blocks, or a refusal with its fault, file (1 model, 2 certificate) and place
 pub data Judgement : Type 0 where

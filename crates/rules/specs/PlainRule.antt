@@ -8,7 +8,8 @@ use Rattle.bisimulation.specs.Choice.{ifSame, ifTrue, unlessTrue, allBelow}
 use Rattle.bisimulation.specs.Automaton.{Automaton}
 use Rattle.bisimulation.specs.StepRule.{Flow, Sides, beforeMove, afterMove, internalMove, atTarget}
 use Rattle.bisimulation.specs.Prices.{priceAt, priceOfTargets}
-use Rattle.rules.specs.Certificate.{Fault, fault, noFault, Pairs, FileRule}
+use Rattle.bisimulation.specs.Pairs.{Pairs}
+use Rattle.rules.specs.Certificate.{Fault, fault, noFault, FileRule}
 
 module _ (A : Automaton) where
   -- x for an internal challenger, y for an external one

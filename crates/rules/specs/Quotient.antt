@@ -4,9 +4,8 @@ use mathlib.Core.List.{List, [], _∷_, _++_}
 use mathlib.Core.Bool.{Bool, true, false}
 use lib.Dec.{eqb}
 use lib.ListN.{getD}
-use Rattle.bisimulation.specs.Choice.{ifLess, ifSame, ifTrue}
+use Rattle.bisimulation.specs.Choice.{ifLess, ifSame, ifTrue, both}
 use Rattle.rules.specs.Model.{Entry, Transition, Model, modelBytes}
-use Rattle.rules.specs.Certificate.{both}
 
 -- 'one state for each block': block numbers count up from 0, so there is one more than the highest
 unfoldable pub blockCount : List ℕ → ℕ

@@ -5,7 +5,7 @@ use mathlib.Core.List.{List}
 use lib.ListN.{length}
 use native.Mathlib.Omega.{arith}
 use Rattle.rules.specs.Limits.{limits}
-use Rattle.rules.specs.Reading.{sound, scanWhole, statesOf, countOf, afterTransition, placeOf, runStart, runEnd}
+use Rattle.rules.specs.Reading.{sound, scanWhole, countOf, afterTransition, placeOf, runStart, runEnd}
 use Rattle.rules.specs.ReadingLaws.{Sound, Tells, whole-tells}
 use Rattle.rules.specs.Answers.{Answer, refusalIn, answerWithoutPlace, runAnswer}
 use Rattle.model.specs.Scanned.{PlacesHeld}

@@ -1,14 +1,14 @@
 -- Laws of what a fetch answers.
-use Prim.Native.Nat.{ℕ, zero, suc, _+_, _-_, _≤_, _<_, min}
+use Prim.Native.Nat.{ℕ, zero, suc, _+_, _-_, _≤_, _<_}
 use mathlib.Core.Path.{_≡_, refl, sym, _∙_, ap, subst}
 use mathlib.Core.Logic.{inl, inr, ⊎-elim}
 use mathlib.Core.List.{List}
-use lib.ListN.{length, take, drop, length-take, length-drop}
+use lib.ListN.{length, length-take, length-drop}
 use native.Mathlib.Omega.{arith}
 use Rattle.bisimulation.specs.ChoiceLaws.{via, less, notLess, eitherLess}
 use Rattle.rules.specs.Limits.{Limits}
-use Rattle.rules.specs.Reading.{Scan, sound, refused, scanWhole, statesOf, countOf, modelAt, readingOf, readWhole, placeOf, afterTransition, sourceAt, firstNotBelow, runFirst, runPast, runStart, runEnd}
-use Rattle.rules.specs.ReadingLaws.{Sound, Placed, Tells, whole-tells}
+use Rattle.rules.specs.Reading.{Scan, sound, refused, scanWhole, statesOf, countOf, modelAt, readingOf, readWhole, placeOf, sourceAt, firstNotBelow, runFirst, runPast, runStart, runEnd}
+use Rattle.rules.specs.ReadingLaws.{Sound, Tells, whole-tells}
 use Rattle.rules.specs.Answers.{Answer, refusalIn, answerWithoutPlace, runAnswer, fetchReading, fetchAnswer, FetchNumber}
 
 -- the labels of a sound model are n

@@ -2,7 +2,7 @@
 -- What a step rule decides comes in as a `FileRule`.
 use Prim.Native.Nat.{ℕ, zero, suc, _+_, _*_}
 use mathlib.Core.List.{List}
-use mathlib.Core.Bool.{Bool, false, not, cond}
+use mathlib.Core.Bool.{Bool, not, cond}
 use lib.Dec.{eqb}
 use lib.ListN.{length, take, drop, getD}
 use lib.IntN.{ℤ}

@@ -1,19 +1,19 @@
 -- Laws of reading a model: what the code and the theorems use of the definitions in `Reading`.
-use Prim.Native.Nat.{ℕ, zero, suc, _+_, _*_, _-_, _≤_, _<_}
+use Prim.Native.Nat.{ℕ, zero, suc, _+_, _-_, _≤_, _<_}
 use mathlib.Core.Path.{_≡_, refl, sym, _∙_, ap, subst}
 use mathlib.Core.List.{List}
 use mathlib.Core.Bool.{Bool, true, false, cond}
 use lib.Dec.{eqb}
 use borrow.Author.Tests.{eqb-true, eqb-false}
-use lib.ListN.{length, take, drop, length-take, length-drop}
+use lib.ListN.{length}
 use native.Mathlib.Omega.{arith}
 use native.Mathlib.Numerals.{add-one}
 use native.Mathlib.Decide.{ℕ-discrete, decLe}
 use Rattle.bisimulation.specs.Choice.{ifLess, ifSame, unlessLess, unlessSame}
 use Rattle.bisimulation.specs.ChoiceLaws.{via, less, notLess, same, notSame, pastLess, keptLess, keptSame, eitherLess, eitherSame}
-use Rattle.rules.specs.Limits.{Limits, limits}
+use Rattle.rules.specs.Limits.{Limits}
 use Rattle.rules.specs.Bytes.{byteAt, twoAt}
-use Rattle.rules.specs.Reading.{firstFault, statesOf, actionsOf, countOf, rangeFault, headFault, labelFault, labelsFault, sourceAt, actionAt, denominatorAt, entryCountAt, afterTransition, fixedFault, fixedFaultAt, entriesFault, transitionFault, Scan, sound, refused, refuseAt, scanTransitions, scanModel, refuseBytesLeft, scanWhole, modelAt, Reading, model, readingOf, readWhole, placeOf, firstNotBelow}
+use Rattle.rules.specs.Reading.{firstFault, statesOf, actionsOf, countOf, rangeFault, headFault, labelFault, labelsFault, sourceAt, actionAt, denominatorAt, entryCountAt, afterTransition, fixedFault, fixedFaultAt, entriesFault, transitionFault, Scan, sound, refused, refuseAt, scanTransitions, scanModel, refuseBytesLeft, scanWhole, placeOf, firstNotBelow}
 
 one-less : (left : ℕ) → left ≡ suc left - 1
 one-less left = omega arith

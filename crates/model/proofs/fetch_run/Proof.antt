@@ -1,3 +1,4 @@
+-- `fetch_run` meets its contract: each case of the scan is a case of the answer.
 use Rattle.model.specs.Fetched.{walkable, few-states}
 use Rattle.model.specs.Scanned.{scanOf, PlacesOf}
 use Rattle.model.specs.declared.Scanned.{Scanned}
@@ -10,25 +11,16 @@ use native.Mathlib.Omega.{arith}
 use borrow.Author.Needs.{needs}
 use Rattle.model.proofs.fetch_run.Statement.{statement}
 use Rattle.model.proofs.fetch_run.Tie as tie
-use Rattle.model.proofs.fetch_run.Reads as reads
-use Rattle.model.proofs.fetch_run.Lts as lts
-use Rattle.model.proofs.no_places.Reads as no-places-reads
-use Rattle.model.proofs.run_of.Reads as run-of-reads
-use Rattle.model.proofs.scan_whole.Reads as scan-whole-reads
 
--- src/lib.rt:387:22
 no-places-requires : tie.Need-no-places-requires
 no-places-requires c κs = search needs
 
--- src/lib.rt:388:9
 scan-whole-requires : tie.Need-scan-whole-requires
 scan-whole-requires c κs = search needs
 
--- src/lib.rt:390:24
 enum-known-scanned : tie.Need-enum-known-scanned
 enum-known-scanned c = search needs
 
--- src/lib.rt:394:17
 returns : tie.Need-returns
 returns c =
     let same = c .before .before .scanned .given .1 in
@@ -37,7 +29,6 @@ returns c =
     let q = sym (ap scanOf same) ∙ told .answer in
     fetch-no-state limits s _ _ _ _ _ q (omega arith)
 
--- src/lib.rt:396:17
 run-of-requires : tie.Need-run-of-requires
 run-of-requires c κs =
     let same = c .before .before .before .scanned .given .1 in
@@ -47,11 +38,9 @@ run-of-requires c κs =
     let held = subst (λ (r : Scanned). PlacesOf s (c .before .before .before .before .before .scan-whole .last .1 .0) (scanOf r)) same (told .places) in
     (omega (arith, few-states s _ _ _ _ q), walkable s _ _ _ _ _ q held)
 
--- src/lib.rt:402:28
 enum-known-scanned-2 : tie.Need-enum-known-scanned-2
 enum-known-scanned-2 c = search needs
 
--- src/lib.rt:384:1
 returns-2 : tie.Need-returns-2
 returns-2 c =
     let same = c .before .before .before .before .scanned .given .1 in
@@ -60,7 +49,6 @@ returns-2 c =
     let q = sym (ap scanOf same) ∙ told .answer in
     ap₂ runAnswer (c .run-of .ensures .start) (c .run-of .ensures .end) ∙ fetch-runs limits s _ _ _ _ _ q (omega arith)
 
--- src/lib.rt:384:1
 returns-3 : tie.Need-returns-3
 returns-3 c =
     let same = c .before .scanned2 .given .1 in

@@ -1,3 +1,4 @@
+-- `first_not_below` meets its contract. The invariant: the search from here on finds what the whole search finds.
 use Rattle.field.specs.Taken.{taken-at}
 use Rattle.rules.specs.ReadingLaws.{firstNotBelow-turn, firstNotBelow-end}
 use Rattle.rules.specs.Reading.{sourceAt, placeOf, firstNotBelow}
@@ -9,10 +10,6 @@ use borrow.Author.Needs.{needs}
 use native.Mathlib.Omega.{arith}
 use Rattle.model.proofs.first_not_below.Statement.{statement}
 use Rattle.model.proofs.first_not_below.Tie as tie
-use Rattle.model.proofs.first_not_below.Reads as reads
-use Rattle.model.proofs.first_not_below.Lts as lts
-use Rattle.field.proofs.Cursor.byte.Reads as byte-reads
-use Rattle.field.proofs.Cursor.new.Reads as new-reads
 
 abbrev Inv-loop : tie.InvT-loop
 Inv-loop s state r count places ahead₀ at₀ ahead at =
@@ -21,35 +18,27 @@ Inv-loop s state r count places ahead₀ at₀ ahead at =
 abbrev μ-loop : tie.MeasureT-loop
 μ-loop s state r count places ahead₀ at₀ ahead at = ahead
 
--- src/lib.rt:346:20
 sub-ahead : tie.Need-sub-ahead Inv-loop μ-loop
 sub-ahead c = omega arith
 
--- src/lib.rt:348:5
 loop-holds : tie.Need-loop-holds Inv-loop μ-loop
 loop-holds c = (omega arith, refl)
 
--- src/lib.rt:349:21
 mul-place : tie.Need-mul-place Inv-loop μ-loop
 mul-place c = omega arith
 
--- src/lib.rt:349:21
 element-copy-out-place : tie.Need-element-copy-out-place Inv-loop μ-loop
 element-copy-out-place c = omega arith
 
--- src/lib.rt:350:34
 add-new : tie.Need-add-new Inv-loop μ-loop
 add-new c = omega (arith, c .before .before .before .before .pre .1 .places .held (c .before .before .loop .at) (omega arith), c .before .before .before .before .pre .1 .inside (c .before .before .loop .at) (omega arith))
 
--- src/lib.rt:350:22
 new-requires : tie.Need-new-requires Inv-loop μ-loop
 new-requires c κs = search needs
 
--- src/lib.rt:350:22
 byte-requires : tie.Need-byte-requires Inv-loop μ-loop
 byte-requires c κs = omega (arith, c .before .before .before .before .before .pre .1 .places .held (c .before .before .before .loop .at) (omega arith), c .before .before .before .before .before .pre .1 .inside (c .before .before .before .loop .at) (omega arith))
 
--- src/lib.rt:352:13
 returns : tie.Need-returns Inv-loop μ-loop
 unfolding sourceAt
 returns c =
@@ -59,19 +48,15 @@ returns c =
     let read = taken-at (c .before .byte .ensures) (placeOf s (l .at) + 2) (omega arith) in
     via (firstNotBelow-turn s _ (l .ahead) (l .at) (omega arith)) (notLess _ (omega arith) refl) ∙ l .inv .1
 
--- src/lib.rt:354:9
 add-at : tie.Need-add-at Inv-loop μ-loop
 add-at c = omega arith
 
--- src/lib.rt:355:9
 sub-ahead-2 : tie.Need-sub-ahead-2 Inv-loop μ-loop
 sub-ahead-2 c = omega arith
 
--- src/lib.rt:348:5
 loop-less : tie.Need-loop-less Inv-loop μ-loop
 loop-less c = omega arith
 
--- src/lib.rt:348:5
 loop-again : tie.Need-loop-again Inv-loop μ-loop
 unfolding sourceAt
 loop-again c =
@@ -81,7 +66,6 @@ loop-again c =
     let read = taken-at (c .before .byte .ensures) (placeOf s (l .at) + 2) (omega arith) in
     (omega arith, via (firstNotBelow-turn s _ (l .ahead) (l .at) (omega arith)) (less _ (omega arith) refl) ∙ l .inv .1)
 
--- src/lib.rt:342:1
 returns-2 : tie.Need-returns-2 Inv-loop μ-loop
 returns-2 c =
     let l = c .before .loop in

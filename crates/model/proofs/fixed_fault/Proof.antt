@@ -1,3 +1,4 @@
+-- `fixed_fault` meets its contract: each return follows the tests before it through `fixedFault`, of the fields read so far.
 use Rattle.rules.specs.Reading.{fixedFaultAt, fixedFault, sourceAt, actionAt, denominatorAt, entryCountAt}
 use Prim.Native.Nat.{_+_}
 use mathlib.Core.Path.{refl}
@@ -7,43 +8,31 @@ use native.Mathlib.Omega.{arith}
 use borrow.Author.Needs.{needs}
 use Rattle.model.proofs.fixed_fault.Statement.{statement}
 use Rattle.model.proofs.fixed_fault.Tie as tie
-use Rattle.model.proofs.fixed_fault.Reads as reads
-use Rattle.model.proofs.fixed_fault.Lts as lts
-use Rattle.field.proofs.Cursor.byte.Reads as byte-reads
-use Rattle.field.proofs.Cursor.new.Reads as new-reads
-use Rattle.field.proofs.Cursor.pair.Reads as pair-reads
 
--- src/lib.rt:172:29
 add-new : tie.Need-add-new
 add-new c = search needs
 
--- src/lib.rt:172:17
 new-requires : tie.Need-new-requires
 new-requires c κs = search needs
 
--- src/lib.rt:172:9
 byte-requires : tie.Need-byte-requires
 byte-requires c κs = search needs
 
--- src/lib.rt:175:9
 returns : tie.Need-returns
 unfolding fixedFaultAt fixedFault sourceAt actionAt denominatorAt entryCountAt
 returns c =
     let source = taken-at (c .before .byte .ensures) (c .before .before .before .before .args .at + 2) (omega arith) in
     less _ (omega arith) refl
 
--- src/lib.rt:178:9
 returns-2 : tie.Need-returns-2
 unfolding fixedFaultAt fixedFault sourceAt actionAt denominatorAt entryCountAt
 returns-2 c =
     let source = taken-at (c .before .before .byte .ensures) (c .before .before .before .before .before .args .at + 2) (omega arith) in
     notLess _ (omega arith) (notLess _ (omega arith) refl)
 
--- src/lib.rt:180:9
 byte-requires-2 : tie.Need-byte-requires-2
 byte-requires-2 c κs = search needs
 
--- src/lib.rt:183:9
 returns-3 : tie.Need-returns-3
 unfolding fixedFaultAt fixedFault sourceAt actionAt denominatorAt entryCountAt
 returns-3 c =
@@ -51,11 +40,9 @@ returns-3 c =
     let action = taken-at (c .before .byte2 .ensures) (c .before .before .before .before .before .before .before .args .at + 3) (omega arith) in
     notLess _ (omega arith) (less _ (omega arith) (notLess _ (omega arith) refl))
 
--- src/lib.rt:185:9
 pair-requires : tie.Need-pair-requires
 pair-requires c κs = search needs
 
--- src/lib.rt:188:9
 returns-4 : tie.Need-returns-4
 unfolding fixedFaultAt fixedFault sourceAt actionAt denominatorAt entryCountAt
 returns-4 c =
@@ -64,11 +51,9 @@ returns-4 c =
     let d = taken-at (c .before .pair .ensures) (c .before .before .before .before .before .before .before .before .before .args .at + 4) (omega arith) in
     notLess _ (omega arith) (less _ (omega arith) (less _ (omega arith) (notLess _ (omega arith) refl)))
 
--- src/lib.rt:190:9
 byte-requires-3 : tie.Need-byte-requires-3
 byte-requires-3 c κs = search needs
 
--- src/lib.rt:193:9
 returns-5 : tie.Need-returns-5
 unfolding fixedFaultAt fixedFault sourceAt actionAt denominatorAt entryCountAt
 returns-5 c =
@@ -78,7 +63,6 @@ returns-5 c =
     let count = taken-at (c .before .byte3 .ensures) (c .before .before .before .before .before .before .before .before .before .before .before .args .at + 6) (omega arith) in
     notLess _ (omega arith) (less _ (omega arith) (less _ (omega arith) (less _ (omega arith) (notLess _ (omega arith) refl))))
 
--- src/lib.rt:196:9
 returns-6 : tie.Need-returns-6
 unfolding fixedFaultAt fixedFault sourceAt actionAt denominatorAt entryCountAt
 returns-6 c =
@@ -88,11 +72,9 @@ returns-6 c =
     let count = taken-at (c .before .before .byte3 .ensures) (c .before .before .before .before .before .before .before .before .before .before .before .before .args .at + 6) (omega arith) in
     notLess _ (omega arith) (less _ (omega arith) (less _ (omega arith) (less _ (omega arith) (less _ (omega arith) (less _ (omega arith) refl)))))
 
--- src/lib.rt:198:18
 add-if7 : tie.Need-add-if7
 add-if7 c = search needs
 
--- src/lib.rt:199:9
 returns-7 : tie.Need-returns-7
 unfolding fixedFaultAt fixedFault sourceAt actionAt denominatorAt entryCountAt
 returns-7 c =
@@ -102,7 +84,6 @@ returns-7 c =
     let count = taken-at (c .before .before .before .byte3 .ensures) (c .before .before .before .before .before .before .before .before .before .before .before .before .before .args .at + 6) (omega arith) in
     notLess _ (omega arith) (less _ (omega arith) (less _ (omega arith) (less _ (omega arith) (less _ (omega arith) (notLess _ (omega arith) (less _ (omega arith) refl))))))
 
--- src/lib.rt:168:1
 returns-8 : tie.Need-returns-8
 unfolding fixedFaultAt fixedFault sourceAt actionAt denominatorAt entryCountAt
 returns-8 c =

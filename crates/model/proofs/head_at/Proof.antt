@@ -1,32 +1,23 @@
+-- `head_at` meets its contract: each field is read at its place.
 use Rattle.field.specs.Taken.{taken-at}
 use native.Mathlib.Omega.{arith}
 use Rattle.rules.specs.Reading.{statesOf, actionsOf, countOf}
 use borrow.Author.Needs.{needs}
 use Rattle.model.proofs.head_at.Statement.{statement}
 use Rattle.model.proofs.head_at.Tie as tie
-use Rattle.model.proofs.head_at.Reads as reads
-use Rattle.model.proofs.head_at.Lts as lts
-use Rattle.field.proofs.Cursor.byte.Reads as byte-reads
-use Rattle.field.proofs.Cursor.new.Reads as new-reads
-use Rattle.field.proofs.Cursor.pair.Reads as pair-reads
 
--- src/lib.rt:55:18
 new-requires : tie.Need-new-requires
 new-requires c κs = search needs
 
--- src/lib.rt:55:9
 byte-requires : tie.Need-byte-requires
 byte-requires c κs = search needs
 
--- src/lib.rt:56:9
 byte-requires-2 : tie.Need-byte-requires-2
 byte-requires-2 c κs = search needs
 
--- src/lib.rt:57:9
 pair-requires : tie.Need-pair-requires
 pair-requires c κs = search needs
 
--- src/lib.rt:51:1
 returns : tie.Need-returns
 unfolding statesOf actionsOf countOf
 returns c =

@@ -1,3 +1,4 @@
+-- `head_fault` meets its contract: each return follows the tests before it through `headFault`.
 use Rattle.rules.specs.Reading.{headFault}
 use Rattle.bisimulation.specs.ChoiceLaws.{less, notLess, same, notSame}
 use mathlib.Core.Path.{refl}
@@ -6,45 +7,31 @@ use native.Mathlib.Omega.{arith}
 use borrow.Author.Needs.{needs}
 use Rattle.model.proofs.head_fault.Statement.{statement}
 use Rattle.model.proofs.head_fault.Tie as tie
-use Rattle.model.proofs.head_fault.Reads as reads
-use Rattle.model.proofs.head_fault.Lts as lts
-use Rattle.field.proofs.Cursor.new.Reads as new-reads
-use Rattle.field.proofs.Cursor.pair.Reads as pair-reads
-use Rattle.model.proofs.head_at.Reads as head-at-reads
-use Rattle.model.proofs.range_fault.Reads as range-fault-reads
 
--- src/lib.rt:90:9
 returns : tie.Need-returns
 unfolding headFault
 returns c = less _ (omega arith) refl
 
--- src/lib.rt:92:16
 new-requires : tie.Need-new-requires
 new-requires c κs = search needs
 
--- src/lib.rt:92:9
 pair-requires : tie.Need-pair-requires
 pair-requires c κs = search needs
 
--- src/lib.rt:94:9
 returns-2 : tie.Need-returns-2
 unfolding headFault
 returns-2 c = notLess _ (omega arith) (notSame _ (omega (arith, taken-at (c .before .pair .ensures) 0 (omega arith))) refl)
 
--- src/lib.rt:97:9
 returns-3 : tie.Need-returns-3
 unfolding headFault
 returns-3 c = notLess _ (omega arith) (same _ (omega (arith, taken-at (c .before .before .pair .ensures) 0 (omega arith))) (less _ (omega arith) refl))
 
--- src/lib.rt:99:9
 head-at-requires : tie.Need-head-at-requires
 head-at-requires c κs = search needs
 
--- src/lib.rt:100:5
 range-fault-requires : tie.Need-range-fault-requires
 range-fault-requires c κs = search needs
 
--- src/lib.rt:86:1
 returns-4 : tie.Need-returns-4
 unfolding headFault
 returns-4 c =

@@ -1,17 +1,14 @@
+-- `label_fault` meets its contract. The invariant: the labels left have the fault of all.
 use Rattle.rules.specs.ReadingLaws.{labelFault-turn, labelFault-end}
 use Rattle.rules.specs.Reading.{labelFault}
 use Rattle.rules.specs.Limits.{limits}
 use borrow.Author.Needs.{needs}
 use Prim.Native.Nat.{_+_}
 use mathlib.Core.Path.{_≡_, refl, _∙_}
-use Rattle.bisimulation.specs.ChoiceLaws.{via, less, notLess, same, notSame}
+use Rattle.bisimulation.specs.ChoiceLaws.{via, less, notLess}
 use native.Mathlib.Omega.{arith}
 use Rattle.model.proofs.label_fault.Statement.{statement}
 use Rattle.model.proofs.label_fault.Tie as tie
-use Rattle.model.proofs.label_fault.Reads as reads
-use Rattle.model.proofs.label_fault.Lts as lts
-use Rattle.field.proofs.Cursor.byte.Reads as byte-reads
-use Rattle.field.proofs.Cursor.new.Reads as new-reads
 
 abbrev Inv-loop : tie.InvT-loop
 Inv-loop s n left₀ place₀ left place =
@@ -20,33 +17,26 @@ Inv-loop s n left₀ place₀ left place =
 abbrev μ-loop : tie.MeasureT-loop
 μ-loop s n left₀ place₀ left place = left
 
--- src/lib.rt:108:9
 new-requires : tie.Need-new-requires Inv-loop μ-loop
 new-requires c κs = search needs
 
--- src/lib.rt:109:5
 loop-holds : tie.Need-loop-holds Inv-loop μ-loop
 loop-holds c = (omega arith, (cc))
 
--- src/lib.rt:110:13
 byte-requires : tie.Need-byte-requires Inv-loop μ-loop
 byte-requires c κs = omega arith
 
--- src/lib.rt:113:13
 returns : tie.Need-returns Inv-loop μ-loop
 returns c =
     let l = c .before .before .before .loop in
     via (labelFault-turn limits _ (l .left) (l .place .at) (omega arith)) (less _ (omega arith) refl) ∙ l .inv .1
 
--- src/lib.rt:116:9
 sub-left : tie.Need-sub-left Inv-loop μ-loop
 sub-left c = omega arith
 
--- src/lib.rt:109:5
 loop-less : tie.Need-loop-less Inv-loop μ-loop
 loop-less c = omega arith
 
--- src/lib.rt:109:5
 loop-again : tie.Need-loop-again Inv-loop μ-loop
 loop-again c =
     let l = c .before .before .before .before .loop in
@@ -55,7 +45,6 @@ loop-again c =
       via (labelFault-turn limits _ (l .left) (l .place .at) (omega arith)) (notLess _ (omega arith) (cc)) ∙ l .inv .1,
     )
 
--- src/lib.rt:103:1
 returns-2 : tie.Need-returns-2 Inv-loop μ-loop
 returns-2 c =
     let l = c .before .loop in

@@ -1,3 +1,4 @@
+-- `labels_fault` meets its contract: each return follows the tests before it through `labelsFault`.
 use Rattle.rules.specs.Reading.{labelsFault}
 use Rattle.bisimulation.specs.ChoiceLaws.{less, notLess, same, notSame}
 use mathlib.Core.Path.{refl}
@@ -6,44 +7,31 @@ use native.Mathlib.Omega.{arith}
 use borrow.Author.Needs.{needs}
 use Rattle.model.proofs.labels_fault.Statement.{statement}
 use Rattle.model.proofs.labels_fault.Tie as tie
-use Rattle.model.proofs.labels_fault.Reads as reads
-use Rattle.model.proofs.labels_fault.Lts as lts
-use Rattle.field.proofs.Cursor.new.Reads as new-reads
-use Rattle.field.proofs.Cursor.pair.Reads as pair-reads
-use Rattle.model.proofs.label_fault.Reads as label-fault-reads
 
--- src/lib.rt:126:9
 returns : tie.Need-returns
 unfolding labelsFault
 returns c = less _ (omega arith) refl
 
--- src/lib.rt:128:16
 new-requires : tie.Need-new-requires
 new-requires c κs = search needs
 
--- src/lib.rt:128:16
 pair-requires : tie.Need-pair-requires
 pair-requires c κs = search needs
 
--- src/lib.rt:130:9
 returns-2 : tie.Need-returns-2
 unfolding labelsFault
 returns-2 c = notLess _ (omega arith) (notSame _ (omega (arith, taken-at (c .before .pair .ensures) _ (c .before .before .new .ensures))) refl)
 
--- src/lib.rt:132:18
 add-if3 : tie.Need-add-if3
 add-if3 c = search needs
 
--- src/lib.rt:133:9
 returns-3 : tie.Need-returns-3
 unfolding labelsFault
 returns-3 c = notLess _ (omega arith) (same _ (omega (arith, taken-at (c .before .before .pair .ensures) _ (c .before .before .before .new .ensures))) (less _ (omega arith) refl))
 
--- src/lib.rt:135:5
 label-fault-requires : tie.Need-label-fault-requires
 label-fault-requires c κs = search needs
 
--- src/lib.rt:121:1
 returns-4 : tie.Need-returns-4
 unfolding labelsFault
 returns-4 c = notLess _ (omega arith) (same _ (omega (arith, taken-at (c .before .before .before .pair .ensures) _ (c .before .before .before .before .new .ensures))) (notLess _ (omega arith) (c .label-fault .ensures)))

@@ -1,38 +1,31 @@
+-- `range_fault` meets its contract: each return follows the tests before it through `rangeFault`.
 use mathlib.Core.Path.{refl}
 use Rattle.rules.specs.Reading.{rangeFault}
 use Rattle.bisimulation.specs.ChoiceLaws.{less, notLess}
 use native.Mathlib.Omega.{arith}
 use Rattle.model.proofs.range_fault.Statement.{statement}
 use Rattle.model.proofs.range_fault.Tie as tie
-use Rattle.model.proofs.range_fault.Reads as reads
-use Rattle.model.proofs.range_fault.Lts as lts
 
--- src/lib.rt:69:9
 returns : tie.Need-returns
 unfolding rangeFault
 returns c = notLess _ (omega arith) refl
 
--- src/lib.rt:72:9
 returns-2 : tie.Need-returns-2
 unfolding rangeFault
 returns-2 c = less _ (omega arith) (less _ (omega arith) refl)
 
--- src/lib.rt:75:9
 returns-3 : tie.Need-returns-3
 unfolding rangeFault
 returns-3 c = less _ (omega arith) (notLess _ (omega arith) (notLess _ (omega arith) refl))
 
--- src/lib.rt:78:9
 returns-4 : tie.Need-returns-4
 unfolding rangeFault
 returns-4 c = less _ (omega arith) (notLess _ (omega arith) (less _ (omega arith) (less _ (omega arith) refl)))
 
--- src/lib.rt:81:9
 returns-5 : tie.Need-returns-5
 unfolding rangeFault
 returns-5 c = less _ (omega arith) (notLess _ (omega arith) (less _ (omega arith) (notLess _ (omega arith) (less _ (omega arith) refl))))
 
--- src/lib.rt:65:1
 returns-6 : tie.Need-returns-6
 unfolding rangeFault
 returns-6 c = less _ (omega arith) (notLess _ (omega arith) (less _ (omega arith) (notLess _ (omega arith) (notLess _ (omega arith) refl))))

@@ -1,3 +1,4 @@
+-- `run_of` meets its contract: the two searches find the run's ends, whose places are in the table.
 use Rattle.model.specs.Fetched.{Walkable}
 use Rattle.rules.specs.AnswerLaws.{run-most}
 use Rattle.rules.specs.Reading.{countOf, placeOf, firstNotBelow, runFirst, runPast, runStart, runEnd}
@@ -9,9 +10,6 @@ use native.Mathlib.Omega.{arith}
 use borrow.Author.Needs.{needs}
 use Rattle.model.proofs.run_of.Statement.{statement}
 use Rattle.model.proofs.run_of.Tie as tie
-use Rattle.model.proofs.run_of.Reads as reads
-use Rattle.model.proofs.run_of.Lts as lts
-use Rattle.model.proofs.first_not_below.Reads as first-not-below-reads
 
 -- the two searches find the run's ends, which are transitions of the model or its end
 module _ (s table : List ℕ) (state count : ℕ) (w : Walkable s count table) where
@@ -29,35 +27,27 @@ module _ (s table : List ℕ) (state count : ℕ) (w : Walkable s count table) w
   past-most : (first past : ℕ) → first ≡ runFirst s state → past ≡ firstNotBelow s (state + 1) (count - first) first → past ≤ count
   past-most first past e f = omega (arith, w .transitions, past-is first past e f, run-most s state)
 
--- src/lib.rt:369:9
 first-not-below-requires : tie.Need-first-not-below-requires
 first-not-below-requires c κs = search needs
 
--- src/lib.rt:370:35
 add-first-not-below : tie.Need-add-first-not-below
 add-first-not-below c = search needs
 
--- src/lib.rt:370:9
 first-not-below-requires-2 : tie.Need-first-not-below-requires-2
 first-not-below-requires-2 c κs = (first-most _ _ _ _ (c .before .before .pre .1) _ (c .first-not-below .ensures), c .before .before .pre .1)
 
--- src/lib.rt:372:16
 mul-t7 : tie.Need-mul-t7
 mul-t7 c = omega (arith, first-most _ _ _ _ (c .before .before .before .pre .1) _ (c .before .first-not-below .ensures), c .before .before .before .pre .1 .most)
 
--- src/lib.rt:372:16
 element-copy-out-t10 : tie.Need-element-copy-out-t10
 element-copy-out-t10 c = omega (arith, first-most _ _ _ _ (c .before .before .before .pre .1) _ (c .before .first-not-below .ensures), c .before .before .before .pre .1 .most)
 
--- src/lib.rt:373:14
 mul-t11 : tie.Need-mul-t11
 mul-t11 c = omega (arith, past-most _ _ _ _ (c .before .before .before .before .pre .1) _ _ (first-is _ _ _ _ (c .before .before .before .before .pre .1) _ (c .before .before .first-not-below .ensures)) (c .before .first-not-below2 .ensures), c .before .before .before .before .pre .1 .most)
 
--- src/lib.rt:373:14
 element-copy-out-t14 : tie.Need-element-copy-out-t14
 element-copy-out-t14 c = omega (arith, past-most _ _ _ _ (c .before .before .before .before .pre .1) _ _ (first-is _ _ _ _ (c .before .before .before .before .pre .1) _ (c .before .before .first-not-below .ensures)) (c .before .first-not-below2 .ensures), c .before .before .before .before .pre .1 .most)
 
--- src/lib.rt:365:1
 returns : tie.Need-returns
 unfolding runStart runEnd
 returns c =

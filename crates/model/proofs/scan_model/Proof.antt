@@ -1,3 +1,4 @@
+-- `scan_model` meets its contract: the head, the labels and the transitions in the order of `scanModel`.
 use Rattle.rules.specs.ReadingLaws.{refuse-stops, refuse-passes, head-passed, labels-passed}
 use Rattle.rules.specs.Reading.{scanModel, labelsFault}
 use Rattle.rules.specs.Limits.{limits}
@@ -6,18 +7,10 @@ use native.Mathlib.Omega.{arith}
 use borrow.Author.Needs.{needs}
 use Rattle.model.proofs.scan_model.Statement.{statement}
 use Rattle.model.proofs.scan_model.Tie as tie
-use Rattle.model.proofs.scan_model.Reads as reads
-use Rattle.model.proofs.scan_model.Lts as lts
-use Rattle.model.proofs.head_at.Reads as head-at-reads
-use Rattle.model.proofs.head_fault.Reads as head-fault-reads
-use Rattle.model.proofs.labels_fault.Reads as labels-fault-reads
-use Rattle.model.proofs.scan_transitions.Reads as scan-transitions-reads
 
--- src/lib.rt:293:9
 head-fault-requires : tie.Need-head-fault-requires
 head-fault-requires c κs = search needs
 
--- src/lib.rt:295:9
 returns : tie.Need-returns
 unfolding scanModel
 returns c =
@@ -27,15 +20,12 @@ returns c =
       size = c .before .before .before .pre;
     }
 
--- src/lib.rt:300:9
 head-at-requires : tie.Need-head-at-requires
 head-at-requires c κs = head-passed limits _ (sym (c .if1 .left) ∙ c .before .head-fault .ensures) .whole
 
--- src/lib.rt:301:9
 labels-fault-requires : tie.Need-labels-fault-requires
 labels-fault-requires c κs = (head-passed limits _ (sym (c .before .if1 .left) ∙ c .before .before .head-fault .ensures) .whole, c .head-at .ensures .small)
 
--- src/lib.rt:303:9
 returns-2 : tie.Need-returns-2
 unfolding scanModel
 returns-2 c =
@@ -47,7 +37,6 @@ returns-2 c =
       size = c .before .before .before .before .before .before .pre;
     }
 
--- src/lib.rt:308:5
 scan-transitions-requires : tie.Need-scan-transitions-requires
 scan-transitions-requires c κs =
     let h = head-passed limits _ (sym (c .before .before .before .before .if1 .left) ∙ c .before .before .before .before .before .head-fault .ensures) in (
@@ -57,7 +46,6 @@ scan-transitions-requires c κs =
       c .before .before .before .before .before .before .before .pre,
     )
 
--- src/lib.rt:289:1
 returns-3 : tie.Need-returns-3
 unfolding scanModel
 returns-3 c =

@@ -1,9 +1,9 @@
+-- `scan_transitions` meets its contract. The invariant is `Walked`.
 use Rattle.model.specs.Places.{none-held, one-more-held}
 use Rattle.model.specs.Scanned.{PlacesHeld}
 use Rattle.rules.specs.ReadingLaws.{scanTransitions-turn, scanTransitions-end, refuse-stops, refuse-passes, transition-passed, placeOf-next}
 use Rattle.rules.specs.Reading.{scanTransitions, placeOf, afterTransition}
 use Rattle.rules.specs.Limits.{limits}
-use borrow.Author.Needs.{needs}
 use denote.Ref.{now}
 use lib.ListN.{length, set, length-set}
 use Prim.Native.Nat.{ℕ, _+_, _*_, _-_, _≤_}
@@ -13,10 +13,6 @@ use Rattle.bisimulation.specs.ChoiceLaws.{via}
 use native.Mathlib.Omega.{arith}
 use Rattle.model.proofs.scan_transitions.Statement.{statement}
 use Rattle.model.proofs.scan_transitions.Tie as tie
-use Rattle.model.proofs.scan_transitions.Reads as reads
-use Rattle.model.proofs.scan_transitions.Lts as lts
-use Rattle.model.proofs.fields_at.Reads as fields-at-reads
-use Rattle.model.proofs.transition_fault.Reads as transition-fault-reads
 
 -- what is known before each record: the places so far, and that the scan of what is left is the whole scan
 record Walked (s : List ℕ) (n m count : ℕ) (places : List ℕ) (left last entries at : ℕ) : Type 0 where
@@ -35,11 +31,9 @@ Inv-loop s n m count places₀ left₀ last₀ entries₀ at₀ places left last
 abbrev μ-loop : tie.MeasureT-loop
 μ-loop s n m count places₀ left₀ last₀ entries₀ at₀ places left last entries at = left
 
--- src/lib.rt:264:18
 add-at : tie.Need-add-at Inv-loop μ-loop
 add-at c = omega arith
 
--- src/lib.rt:265:5
 loop-holds : tie.Need-loop-holds Inv-loop μ-loop
 unfolding placeOf
 loop-holds c =
@@ -55,11 +49,9 @@ loop-holds c =
       scan = refl;
     }
 
--- src/lib.rt:266:13
 transition-fault-requires : tie.Need-transition-fault-requires Inv-loop μ-loop
 transition-fault-requires c κs = omega arith
 
--- src/lib.rt:268:13
 returns : tie.Need-returns Inv-loop μ-loop
 returns c =
     let l = c .before .before .before .loop in
@@ -72,43 +64,33 @@ returns c =
       size = l .inv .size;
     }
 
--- src/lib.rt:273:17
 sub-r : tie.Need-sub-r Inv-loop μ-loop
 sub-r c = omega arith
 
--- src/lib.rt:274:9
 mul-places : tie.Need-mul-places Inv-loop μ-loop
 mul-places c = omega arith
 
--- src/lib.rt:274:9
 element-write-places : tie.Need-element-write-places Inv-loop μ-loop
 element-write-places c = omega arith
 
--- src/lib.rt:275:13
 fields-at-requires : tie.Need-fields-at-requires Inv-loop μ-loop
 fields-at-requires c κs = transition-passed limits _ _ _ _ _ _ (sym (c .if1 .left) ∙ c .before .transition-fault .ensures) .fixed
 
--- src/lib.rt:279:9
 add-entries : tie.Need-add-entries Inv-loop μ-loop
 add-entries c = omega arith
 
--- src/lib.rt:280:22
 mul-at : tie.Need-mul-at Inv-loop μ-loop
 mul-at c = omega arith
 
--- src/lib.rt:280:14
 add-at-2 : tie.Need-add-at-2 Inv-loop μ-loop
 add-at-2 c = omega arith
 
--- src/lib.rt:281:9
 sub-left : tie.Need-sub-left Inv-loop μ-loop
 sub-left c = omega arith
 
--- src/lib.rt:265:5
 loop-less : tie.Need-loop-less Inv-loop μ-loop
 loop-less c = omega arith
 
--- src/lib.rt:265:5
 loop-again : tie.Need-loop-again Inv-loop μ-loop
 unfolding afterTransition
 loop-again c =
@@ -131,15 +113,12 @@ loop-again c =
           ∙ l .inv .scan;
     }
 
--- src/lib.rt:283:5
 mul-places-2 : tie.Need-mul-places-2 Inv-loop μ-loop
 mul-places-2 c = omega arith
 
--- src/lib.rt:283:5
 element-write-places-2 : tie.Need-element-write-places-2 Inv-loop μ-loop
 element-write-places-2 c = omega arith
 
--- src/lib.rt:257:1
 returns-2 : tie.Need-returns-2 Inv-loop μ-loop
 returns-2 c =
     let l = c .before .loop in

@@ -1,3 +1,4 @@
+-- `scan_whole` meets its contract: bytes left after the records of a sound model.
 use borrow.Author.Needs.{needs}
 use Rattle.model.specs.Scanned.{scanOf, PlacesOf}
 use Rattle.model.specs.declared.Scanned.{Scanned}
@@ -8,19 +9,13 @@ use Rattle.bisimulation.specs.ChoiceLaws.{via, less, notLess}
 use native.Mathlib.Omega.{arith}
 use Rattle.model.proofs.scan_whole.Statement.{statement}
 use Rattle.model.proofs.scan_whole.Tie as tie
-use Rattle.model.proofs.scan_whole.Reads as reads
-use Rattle.model.proofs.scan_whole.Lts as lts
-use Rattle.model.proofs.scan_model.Reads as scan-model-reads
 
--- src/lib.rt:320:9
 scan-model-requires : tie.Need-scan-model-requires
 scan-model-requires c κs = search needs
 
--- src/lib.rt:322:24
 enum-known-scanned : tie.Need-enum-known-scanned
 enum-known-scanned c = search needs
 
--- src/lib.rt:324:17
 returns : tie.Need-returns
 unfolding scanWhole refuseBytesLeft
 returns c =
@@ -33,11 +28,9 @@ returns c =
       size = told .size;
     }
 
--- src/lib.rt:331:28
 enum-known-scanned-2 : tie.Need-enum-known-scanned-2
 enum-known-scanned-2 c = search needs
 
--- src/lib.rt:316:1
 returns-2 : tie.Need-returns-2
 unfolding scanWhole refuseBytesLeft
 returns-2 c =
@@ -50,7 +43,6 @@ returns-2 c =
       size = told .size;
     }
 
--- src/lib.rt:316:1
 returns-3 : tie.Need-returns-3
 unfolding scanWhole refuseBytesLeft
 returns-3 c =

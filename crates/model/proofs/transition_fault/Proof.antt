@@ -1,3 +1,4 @@
+-- `transition_fault` meets its contract: each return follows the tests before it through `transitionFault`.
 use Rattle.rules.specs.ReadingLaws.{first-stops, first-passes}
 use Rattle.rules.specs.Reading.{transitionFault, afterTransition}
 use Rattle.bisimulation.specs.ChoiceLaws.{less, notLess, same, notSame}
@@ -7,50 +8,34 @@ use native.Mathlib.Omega.{arith}
 use borrow.Author.Needs.{needs}
 use Rattle.model.proofs.transition_fault.Statement.{statement}
 use Rattle.model.proofs.transition_fault.Tie as tie
-use Rattle.model.proofs.transition_fault.Reads as reads
-use Rattle.model.proofs.transition_fault.Lts as lts
-use Rattle.field.proofs.Cursor.new.Reads as new-reads
-use Rattle.field.proofs.Cursor.pair.Reads as pair-reads
-use Rattle.model.proofs.entries_fault.Reads as entries-fault-reads
-use Rattle.model.proofs.fields_at.Reads as fields-at-reads
-use Rattle.model.proofs.fixed_fault.Reads as fixed-fault-reads
 
--- src/lib.rt:242:8
 sub-if1 : tie.Need-sub-if1
 sub-if1 c = search needs
 
--- src/lib.rt:243:9
 returns : tie.Need-returns
 unfolding transitionFault
 returns c = less _ (omega arith) refl
 
--- src/lib.rt:245:16
 new-requires : tie.Need-new-requires
 new-requires c κs = search needs
 
--- src/lib.rt:245:16
 pair-requires : tie.Need-pair-requires
 pair-requires c κs = search needs
 
--- src/lib.rt:247:9
 returns-2 : tie.Need-returns-2
 unfolding transitionFault
 returns-2 c = notLess _ (omega arith) (notSame _ (omega (arith, taken-at (c .before .pair .ensures) _ (c .before .before .new .ensures))) refl)
 
--- src/lib.rt:249:8
 sub-if3 : tie.Need-sub-if3
 sub-if3 c = search needs
 
--- src/lib.rt:250:9
 returns-3 : tie.Need-returns-3
 unfolding transitionFault
 returns-3 c = notLess _ (omega arith) (same _ (omega (arith, taken-at (c .before .before .pair .ensures) _ (c .before .before .before .new .ensures))) (less _ (omega arith) refl))
 
--- src/lib.rt:252:9
 fixed-fault-requires : tie.Need-fixed-fault-requires
 fixed-fault-requires c κs = search needs
 
--- src/lib.rt:254:9
 returns-4 : tie.Need-returns-4
 unfolding transitionFault
 returns-4 c =
@@ -59,19 +44,15 @@ returns-4 c =
     (notLess _ (omega arith)
     (first-stops _ _ (c .before .fixed-fault .ensures) (c .if4 .taken))))
 
--- src/lib.rt:256:9
 fields-at-requires : tie.Need-fields-at-requires
 fields-at-requires c κs = search needs
 
--- src/lib.rt:259:8
 sub-if5 : tie.Need-sub-if5
 sub-if5 c = search needs
 
--- src/lib.rt:259:26
 mul-if5 : tie.Need-mul-if5
 mul-if5 c = search needs
 
--- src/lib.rt:260:9
 returns-5 : tie.Need-returns-5
 unfolding transitionFault afterTransition
 returns-5 c =
@@ -80,11 +61,9 @@ returns-5 c =
     (notLess _ (omega arith)
     (first-passes (c .before .before .before .fixed-fault .ensures) (c .before .before .if4 .left) (less _ (omega arith) refl))))
 
--- src/lib.rt:262:5
 entries-fault-requires : tie.Need-entries-fault-requires
 entries-fault-requires c κs = search needs
 
--- src/lib.rt:238:1
 returns-6 : tie.Need-returns-6
 unfolding transitionFault afterTransition
 returns-6 c =

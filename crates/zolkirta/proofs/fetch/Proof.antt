@@ -1,3 +1,4 @@
+-- `fetch` meets its contract: the answer's stretch or run lies in the model, and is the part handed back.
 use native.Mathlib.Nat.{add-sub-cancel-left}
 use lib.ListN.{take, drop}
 use Prim.Native.Nat.{ℕ}
@@ -11,31 +12,22 @@ use native.Mathlib.Omega.{arith}
 use borrow.Author.Needs.{needs}
 use Rattle.zolkirta.proofs.fetch.Statement.{statement}
 use Rattle.zolkirta.proofs.fetch.Tie as tie
-use Rattle.zolkirta.proofs.fetch.Reads as reads
-use Rattle.zolkirta.proofs.fetch.Lts as lts
-use Rattle.zolkirta.proofs.fetch_answer.Reads as fetch-answer-reads
 
--- src/lib.rt:81:9
 fetch-answer-requires : tie.Need-fetch-answer-requires
 fetch-answer-requires c κs = search needs
 
--- src/lib.rt:87:19
 add-result : tie.Need-add-result
 add-result c = omega (arith, ap (λ (a : Answer). a .stretchStart) (c .fetch-answer .ensures), ap (λ (a : Answer). a .stretchLength) (c .fetch-answer .ensures), fetch-inside limits (now (c .before .before .args .model)) (c .before .before .args .state))
 
--- src/lib.rt:87:5
 sub-result : tie.Need-sub-result
 sub-result c = search needs
 
--- src/lib.rt:87:5
 part-result-start : tie.Need-part-result-start
 part-result-start c = search needs
 
--- src/lib.rt:87:5
 part-result-end : tie.Need-part-result-end
 part-result-end c = omega (arith, ap (λ (a : Answer). a .stretchStart) (c .fetch-answer .ensures), ap (λ (a : Answer). a .stretchLength) (c .fetch-answer .ensures), fetch-inside limits (now (c .before .before .args .model)) (c .before .before .args .state))
 
--- src/lib.rt:78:1
 returns : tie.Need-returns
 unfolding stretchIn
 returns c =

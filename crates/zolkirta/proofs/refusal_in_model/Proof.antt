@@ -1,20 +1,16 @@
+-- `refusal_in_model` meets its contract.
 use Rattle.rules.specs.Answers.{refusalIn}
 use mathlib.Core.Path.{refl}
 use borrow.Author.Needs.{needs}
 use Rattle.zolkirta.proofs.refusal_in_model.Statement.{statement}
 use Rattle.zolkirta.proofs.refusal_in_model.Tie as tie
-use Rattle.zolkirta.proofs.refusal_in_model.Reads as reads
-use Rattle.zolkirta.proofs.refusal_in_model.Lts as lts
 
--- src/lib.rt:40:17
 cast-t4 : tie.Need-cast-t4
 cast-t4 c = search needs
 
--- src/lib.rt:44:25
 sub-t5 : tie.Need-sub-t5
 sub-t5 c = search needs
 
--- src/lib.rt:35:1
 returns : tie.Need-returns
 unfolding refusalIn
 returns c = refl

@@ -1,11 +1,9 @@
+-- `without_place` meets its contract.
 use Rattle.rules.specs.Answers.{answerWithoutPlace}
 use mathlib.Core.Path.{refl}
 use Rattle.zolkirta.proofs.without_place.Statement.{statement}
 use Rattle.zolkirta.proofs.without_place.Tie as tie
-use Rattle.zolkirta.proofs.without_place.Reads as reads
-use Rattle.zolkirta.proofs.without_place.Lts as lts
 
--- src/lib.rt:22:1
 returns : tie.Need-returns
 unfolding answerWithoutPlace
 returns c = refl

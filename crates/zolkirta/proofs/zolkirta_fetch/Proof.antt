@@ -1,3 +1,4 @@
+-- `zolkirta_fetch` meets its contract.
 use Rattle.rules.specs.AnswerLaws.{fetch-number}
 use Rattle.rules.specs.Answers.{Answer, FetchNumber}
 use Rattle.rules.specs.Limits.{limits}
@@ -5,15 +6,10 @@ use mathlib.Core.Path.{ap, subst⁻¹}
 use borrow.Author.Needs.{needs}
 use Rattle.zolkirta.proofs.zolkirta_fetch.Statement.{statement}
 use Rattle.zolkirta.proofs.zolkirta_fetch.Tie as tie
-use Rattle.zolkirta.proofs.zolkirta_fetch.Reads as reads
-use Rattle.zolkirta.proofs.zolkirta_fetch.Lts as lts
-use Rattle.zolkirta.proofs.fetch_answer.Reads as fetch-answer-reads
 
--- src/lib.rt:95:5
 fetch-answer-requires : tie.Need-fetch-answer-requires
 fetch-answer-requires c κs = search needs
 
--- src/lib.rt:91:1
 returns : tie.Need-returns
 returns c =
     let e = c .fetch-answer .ensures in

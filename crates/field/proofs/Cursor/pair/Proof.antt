@@ -1,45 +1,34 @@
+-- `Cursor::pair` meets its contract: the two elements are below 256, so the sum fits and is the field.
 use native.Mathlib.Omega.{arith}
 use Rattle.rules.specs.Bytes.{byteAt, twoAt}
 use borrow.Author.Needs.{needs}
 use Rattle.field.proofs.Cursor.pair.Statement.{statement}
 use Rattle.field.proofs.Cursor.pair.Tie as tie
-use Rattle.field.proofs.Cursor.pair.Reads as reads
-use Rattle.field.proofs.Cursor.pair.Lts as lts
-use Rattle.field.proofs.wide.Reads as wide-reads
 
--- src/lib.rt:48:19
 add-low : tie.Need-add-low
 add-low c = search needs
 
--- src/lib.rt:50:25
 shared-slice-read-wide : tie.Need-shared-slice-read-wide
 shared-slice-read-wide c = search needs
 
--- src/lib.rt:50:20
 wide-requires : tie.Need-wide-requires
 wide-requires c κs = search needs
 
--- src/lib.rt:50:20
 mul-t8 : tie.Need-mul-t8
 mul-t8 c = search needs
 
--- src/lib.rt:50:45
 shared-slice-read-wide-2 : tie.Need-shared-slice-read-wide-2
 shared-slice-read-wide-2 c = search needs
 
--- src/lib.rt:50:40
 wide-requires-2 : tie.Need-wide-requires-2
 wide-requires-2 c κs = search needs
 
--- src/lib.rt:50:20
 add-t12 : tie.Need-add-t12
 add-t12 c = search needs
 
--- src/lib.rt:51:32
 add-t13 : tie.Need-add-t13
 add-t13 c = search needs
 
--- src/lib.rt:43:5
 returns : tie.Need-returns
 unfolding twoAt byteAt
 returns c = omega arith

@@ -1,10 +1,12 @@
 -- The laws of the tests: what a choice comes to, and what it tells.
-use Prim.Native.Nat.{ℕ, _≤_, _<_}
-use mathlib.Core.Path.{_≡_, refl, sym, _∙_, ap}
+use Prim.Native.Nat.{ℕ, zero, suc, _≤_, _<_}
+use mathlib.Core.Path.{_≡_, refl, sym, _∙_, ap, subst}
 use mathlib.Core.Bool.{Bool, true, false, cond}
 use lib.Dec.{ltb, eqb}
-use borrow.Author.Tests.{lt-ltb, le-ltb, eq-eqb, ne-eqb, ltb-true, ltb-false, eqb-true}
-use Rattle.bisimulation.specs.Choice.{ifLess, ifSame}
+use borrow.Author.Tests.{lt-ltb, le-ltb, eq-eqb, ne-eqb, ltb-true, ltb-false, eqb-true, eqb-false}
+use native.Mathlib.Omega.{arith}
+use native.Mathlib.Decide.{ℕ-discrete}
+use Rattle.bisimulation.specs.Choice.{ifLess, ifSame, ifTrue, allBelow}
 
 -- z is what the choice comes to: x where the test holds, y where it does not
 pub less {ℓ} : {X : Type ℓ} {z x : X} (y : X) {a b : ℕ} → a < b → z ≡ x → z ≡ ifLess a b x y
@@ -68,3 +70,40 @@ keptSame {z = z} x r a b n = go (eqb a b) refl
     go : (t : Bool) → eqb a b ≡ t → z ≡ cond t x r → (a ≡ b) × (z ≡ x)
     go true q e = (eqb-true a b q, e)
     go false q e = absurd (n e)
+
+pub isTrue {ℓ} : {X : Type ℓ} {z x : X} (y : X) {b : Bool} → b ≡ true → z ≡ x → z ≡ ifTrue b x y
+unfolding ifTrue
+isTrue {x = x} y h e = e ∙ ap (λ (t : Bool). cond t x y) (sym h)
+
+pub keptTrue {ℓ} : {X : Type ℓ} {z : X} (x r : X) (b : Bool) → (z ≡ r → ⊥) → z ≡ ifTrue b x r → (b ≡ true) × (z ≡ x)
+unfolding ifTrue
+keptTrue x r true n e = (refl, e)
+keptTrue x r false n e = absurd (n e)
+
+pub pastSame {ℓ} : {X : Type ℓ} {z : X} (r y : X) (a b : ℕ) → (z ≡ r → ⊥) → z ≡ ifSame a b r y → (a ≡ b → ⊥) × (z ≡ y)
+unfolding ifSame
+pastSame {z = z} r y a b n = go (eqb a b) refl
+  where
+    go : (t : Bool) → eqb a b ≡ t → z ≡ cond t r y → (a ≡ b → ⊥) × (z ≡ y)
+    go true q e = absurd (n e)
+    go false q e = (eqb-false a b q, e)
+
+pub false-not : false ≡ true → ⊥
+false-not e = subst (λ (t : Bool). cond t ⊥ (Unit {0})) e tt
+
+-- what holds of every number below n holds of each, and the other way round
+pub all-below : (n : ℕ) (f : ℕ → Bool) → allBelow n f ≡ true → (i : ℕ) → i < n → f i ≡ true
+unfolding allBelow
+all-below zero f e i h = absurd (omega arith)
+all-below (suc n) f e i h = go (λ q. all-below n f q i) (allBelow n f) refl e (ℕ-discrete i n)
+  where
+    go : (allBelow n f ≡ true → i < n → f i ≡ true) → (t : Bool) → allBelow n f ≡ t → cond t (f n) false ≡ true → Dec (i ≡ n) → f i ≡ true
+    go below true q e (yes p) = ap f p ∙ e
+    go below true q e (no p) = below q (omega arith)
+    go below false q e d = absurd (false-not e)
+
+pub below-all : (n : ℕ) (f : ℕ → Bool) → ((i : ℕ) → i < n → f i ≡ true) → allBelow n f ≡ true
+unfolding allBelow
+below-all zero f h = refl
+below-all (suc n) f h =
+    ap (λ (t : Bool). cond t (f n) false) (below-all n f (λ i less. h i (omega arith))) ∙ h n (omega arith)

@@ -1,0 +1,106 @@
+-- Document 01's rules of acceptance as plain propositions: no reading order, and no numbers of refusals.
+use Prim.Native.Nat.{ℕ, _+_, _*_, _≤_, _<_, _^_}
+use mathlib.Core.Path.{_≡_}
+use mathlib.Core.Logic.{_≢_, _↔_}
+use mathlib.Core.Bool.{Bool, true}
+use mathlib.Core.List.{List, [], _∷_}
+use lib.ListN.{length, getD}
+use lib.IntN.{ℤ}
+use lib.Signed.{mag}
+use Rattle.bisimulation.specs.Automaton.{Automaton}
+use Rattle.bisimulation.specs.StepRule.{Flow}
+use Rattle.bisimulation.specs.Pairs.{Pairs, equalLabels, removed}
+use Rattle.rules.specs.Limits.{Limits}
+use Rattle.rules.specs.Certificate.{FileRule}
+use Rattle.rules.specs.Judging.{Question, questions}
+use Rattle.rules.specs.Encoding.{Refutation, KEntry, WEntry, FlowRecord, Certificate, pricesOf, flowOf}
+
+-- what a step rule says of a certificate, as propositions
+pub record RuleSays : Type 1 where
+  -- how many prices a refutation by the challenger q has
+  pub priceCount : Automaton → ℕ → ℕ
+  -- the price conditions
+  pub refutes : Automaton → Pairs → (q t : ℕ) → (ℕ → ℤ) → Type 0
+  -- an entry of a layer and a transition is in the question
+  pub inQuestion : Automaton → (q t : ℕ) → (layer r : ℕ) → Type 0
+  -- the equations
+  pub equations : Automaton → (q t : ℕ) → Flow → Type 0
+
+-- every element of a list has a property
+pub data Each {X : Type 0} (P : X → Type 0) : List X → Type 0 where
+  none : Each P []
+  more : {x : X} {xs : List X} → P x → Each P xs → Each P (x ∷ xs)
+
+-- a number of a list strictly ascends, from a lowest value on
+pub data Ascends {X : Type 0} (number : X → ℕ) : ℕ → List X → Type 0 where
+  end : {lowest : ℕ} → Ascends number lowest []
+  next : {lowest : ℕ} {x : X} {xs : List X} → lowest ≤ number x → Ascends number (number x + 1) xs → Ascends number lowest (x ∷ xs)
+
+-- 'A refutation needs t different from the challenger's source s, and s, t still related. Its prices must satisfy ..'
+pub record GoodRefutation (says : RuleSays) (A : Automaton) (R : Pairs) (x : Refutation) : Type 0 where
+  pub transition : x .challenger < A .transitions
+  pub state : x .defender < A .states
+  pub different : x .defender ≢ A .source (x .challenger)
+  pub related : R (A .source (x .challenger)) (x .defender) ≡ true
+  pub whole : length (x .prices) ≡ says .priceCount A (x .challenger)
+  pub fits : Each (λ z. mag z < 2 ^ 31) (x .prices)
+  pub refutes : says .refutes A R (x .challenger) (x .defender) (pricesOf x)
+
+-- refutations in a row, each against the pairs left when it is read: from some pairs to the pairs left
+pub data GoodRefutations (says : RuleSays) (A : Automaton) : Pairs → List Refutation → Pairs → Type 0 where
+  done : {R : Pairs} → GoodRefutations says A R [] R
+  refute : {R left : Pairs} {x : Refutation} {xs : List Refutation} → GoodRefutation says A R x → GoodRefutations says A (removed (A .source (x .challenger)) (x .defender) R) xs left → GoodRefutations says A R (x ∷ xs) left
+
+-- 'Block numbers are given in order of first appearance from 0. Two states share a block exactly when they are still related.'
+pub record GoodBlocks (A : Automaton) (R : Pairs) (blocks : List ℕ) : Type 0 where
+  pub whole : length blocks ≡ A .states
+  pub firstAppearance : (v : ℕ) → v < A .states → (b : ℕ) → b < getD blocks v 0 → (u : ℕ) × (u < v) × (getD blocks u 0 ≡ b)
+  pub asRelated : (v u : ℕ) → v < A .states → u < A .states → (getD blocks v 0 ≡ getD blocks u 0) ↔ (R v u ≡ true)
+
+-- 'k .. at least 1', in the question, and its fields fit
+pub record GoodK (says : RuleSays) (A : Automaton) (q t : ℕ) (e : KEntry) : Type 0 where
+  pub layer : e .layer < 256
+  pub transition : e .transition < A .transitions
+  pub allowed : says .inQuestion A q t (e .layer) (e .transition)
+  pub some : 1 ≤ e .k
+  pub fits : e .k < 2 ^ 32
+
+-- 'w .. at least 1', of related states
+pub record GoodW (A : Automaton) (R : Pairs) (e : WEntry) : Type 0 where
+  pub from : e .v < A .states
+  pub to : e .u < A .states
+  pub related : R (e .v) (e .u) ≡ true
+  pub some : 1 ≤ e .w
+  pub fits : e .w < 2 ^ 32
+
+-- (layer, transition) and (v, u) as one number: fields of two bytes and one
+unfoldable pub kKey : KEntry → ℕ
+kKey e = e .layer * 65536 + e .transition
+
+unfoldable pub wKey : WEntry → ℕ
+wKey e = e .v * 256 + e .u
+
+-- a flow record meets its question: 'Entries strictly ascend by (layer, transition) and by (v,u)'
+pub record GoodFlow (says : RuleSays) (A : Automaton) (R : Pairs) (x : Question) (f : FlowRecord) : Type 0 where
+  pub some : 1 ≤ f .D
+  pub fits : f .D < 2 ^ 32
+  pub kFew : length (f .ks) < 65536
+  pub ks : Each (GoodK says A (x .challenger) (x .defender)) (f .ks)
+  pub kOrder : Ascends kKey 0 (f .ks)
+  pub wFew : length (f .ws) < 65536
+  pub ws : Each (GoodW A R) (f .ws)
+  pub wOrder : Ascends wKey 0 (f .ws)
+  pub equations : says .equations A (x .challenger) (x .defender) (flowOf f)
+
+-- 'Place alone says which question a record meets': one flow for each question, in their order
+pub data GoodFlows (says : RuleSays) (A : Automaton) (R : Pairs) : List Question → List FlowRecord → Type 0 where
+  done : GoodFlows says A R [] []
+  flow : {x : Question} {f : FlowRecord} {xs : List Question} {fs : List FlowRecord} → GoodFlow says A R x f → GoodFlows says A R xs fs → GoodFlows says A R (x ∷ xs) (f ∷ fs)
+
+-- a certificate keeps every rule for an automaton
+pub record KeepsRules (L : Limits) (says : RuleSays) (A : Automaton) (K : Certificate) : Type 0 where
+  pub left : Pairs
+  pub few : length (K .refutations) ≤ L .refutations
+  pub refutations : GoodRefutations says A (equalLabels A) (K .refutations) left
+  pub blocks : GoodBlocks A left (K .blocks)
+  pub flows : GoodFlows says A left (questions A (K .blocks)) (K .flows)

@@ -10,6 +10,8 @@ pub mod PlainRule
 pub mod Judging
 pub mod Encoding
 pub mod Accepted
+pub mod RefutationRecords
+pub mod BlocksRecord
 pub mod Quotient
 pub mod Answers
 pub mod AnswerLaws

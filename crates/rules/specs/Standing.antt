@@ -177,3 +177,20 @@ signed-stands s at b room = subst⁻¹ (λ (k : ℕ). Stands s at (fourBytes k))
 
 pub signed-small : (s : List ℕ) (at : ℕ) → IsBytes s → mag (signedAt s at) < 2 ^ 31
 signed-small s at b = signed-cases s at b .1
+
+-- a mark
+pub mark-stands : (s : List ℕ) (at mark : ℕ) → IsBytes s → at + 2 ≤ length s → twoAt s at ≡ mark → Stands s at (twoBytes mark)
+mark-stands s at mark b room e = subst (λ (k : ℕ). Stands s at (twoBytes k)) e (two-stands s at b room)
+
+-- what follows a field of two or four bytes
+pub after-two : (s : List ℕ) (at x : ℕ) (xs : List ℕ) → Stands s at (twoBytes x) → Stands s (at + 2) xs → Stands s at (twoBytes x ++ xs)
+after-two s at x xs h k = stands-both s at (twoBytes x) xs h (stands-at k (ap (λ (j : ℕ). at + j) (sym (length-two x))))
+
+pub after-four : (s : List ℕ) (at x : ℕ) (xs : List ℕ) → Stands s at (fourBytes x) → Stands s (at + 4) xs → Stands s at (fourBytes x ++ xs)
+after-four s at x xs h k = stands-both s at (fourBytes x) xs h (stands-at k (ap (λ (j : ℕ). at + j) (sym (length-four x))))
+
+pub rest-of-two : (s : List ℕ) (at x : ℕ) (xs : List ℕ) → Stands s at (twoBytes x ++ xs) → Stands s (at + 2) xs
+rest-of-two s at x xs h = stands-at (stands-second s at (twoBytes x) xs h) (ap (λ (j : ℕ). at + j) (length-two x))
+
+pub rest-of-four : (s : List ℕ) (at x : ℕ) (xs : List ℕ) → Stands s at (fourBytes x ++ xs) → Stands s (at + 4) xs
+rest-of-four s at x xs h = stands-at (stands-second s at (fourBytes x) xs h) (ap (λ (j : ℕ). at + j) (length-four x))

@@ -11,6 +11,7 @@ use Rattle.bisimulation.specs.Automaton.{Automaton}
 use Rattle.bisimulation.specs.StepRule.{Flow}
 use Rattle.bisimulation.specs.Pairs.{Pairs, equalLabels, removed}
 use Rattle.rules.specs.Limits.{Limits}
+use Rattle.rules.specs.SoundModel.{Each}
 use Rattle.rules.specs.Certificate.{FileRule}
 use Rattle.rules.specs.Judging.{Question, questions}
 use Rattle.rules.specs.Encoding.{Refutation, KEntry, WEntry, FlowRecord, Certificate, pricesOf, flowOf}
@@ -25,11 +26,6 @@ pub record RuleSays : Type 1 where
   pub inQuestion : Automaton → (q t : ℕ) → (layer r : ℕ) → Type 0
   -- the equations
   pub equations : Automaton → (q t : ℕ) → Flow → Type 0
-
--- every element of a list has a property
-pub data Each {X : Type 0} (P : X → Type 0) : List X → Type 0 where
-  none : Each P []
-  more : {x : X} {xs : List X} → P x → Each P xs → Each P (x ∷ xs)
 
 -- a number of a list strictly ascends, from a lowest value on
 pub data Ascends {X : Type 0} (number : X → ℕ) : ℕ → List X → Type 0 where

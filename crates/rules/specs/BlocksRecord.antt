@@ -144,13 +144,13 @@ module _ (A : Automaton) (C : List ℕ) (R : Pairs) (at : ℕ) where
   unfolding sameBlock
   blocks-good e =
       let p = passed e in
-      record
-        { whole = block-length (p .whole)
-        ; firstAppearance = λ v h b l.
-          let a = numbered-appear C (at + 2) (A .states) 0 0 (λ c m. absurd (omega arith)) (subst (λ (k : ℕ). noFault ≡ numberedFault C (A .states) k 0) (plus-zero (at + 2)) (p .numbered)) v (omega arith) (omega arith) b (subst (λ (k : ℕ). b < k) (block-byte v h) l) in
-          (a .u, a .before, block-byte (a .u) (omega (arith, a .before)) ∙ a .here)
-        ; asRelated = λ v u h l. agree-iff _ _ (R v u) (all-below (A .states) _ (all-below (A .states) _ (p .pairs) v h) u l)
-        }
+      record {
+        whole = block-length (p .whole);
+        firstAppearance = λ v h b l.
+            let a = numbered-appear C (at + 2) (A .states) 0 0 (λ c m. absurd (omega arith)) (subst (λ (k : ℕ). noFault ≡ numberedFault C (A .states) k 0) (plus-zero (at + 2)) (p .numbered)) v (omega arith) (omega arith) b (subst (λ (k : ℕ). b < k) (block-byte v h) l) in
+            (a .u, a .before, block-byte (a .u) (omega (arith, a .before)) ∙ a .here);
+        asRelated = λ v u h l. agree-iff _ _ (R v u) (all-below (A .states) _ (all-below (A .states) _ (p .pairs) v h) u l);
+      }
     where
       plus-zero : (k : ℕ) → k ≡ k + 0
       plus-zero k = omega arith
@@ -160,10 +160,10 @@ module _ (A : Automaton) (C : List ℕ) (R : Pairs) (at : ℕ) where
   blocks-stand e b =
       let p = passed e in
       after-two C at 0x424B _ (mark-stands C at 0x424B b (omega (arith, p .whole)) (p .mark))
-      (record
-        { inside = omega (arith, block-length (p .whole), p .whole)
-        ; bytes = λ i h. sym (block-byte i (omega (arith, block-length (p .whole))))
-        })
+      (record {
+        inside = omega (arith, block-length (p .whole), p .whole);
+        bytes = λ i h. sym (block-byte i (omega (arith, block-length (p .whole))));
+      })
 
   -- where the encoding of good blocks stands, there is no fault, and these blocks are read
   module _ (blocks : List ℕ) (good : GoodBlocks A R blocks) (stands : Stands C at (blocksBytes blocks)) where
@@ -178,8 +178,8 @@ module _ (A : Automaton) (C : List ℕ) (R : Pairs) (at : ℕ) where
     blocks-read =
         ext-getD 0 (blocksAt A C at) blocks (block-length blocks-whole ∙ sym (good .whole))
         (λ i h.
-          let l = block-length blocks-whole in
-          block-byte i (omega arith) ∙ blocks-there .bytes i (omega (arith, good .whole)))
+        let l = block-length blocks-whole in
+        block-byte i (omega arith) ∙ blocks-there .bytes i (omega (arith, good .whole)))
 
     mark-read : twoAt C at ≡ 0x424B
     unfolding blocksBytes twoBytes

@@ -48,45 +48,44 @@ unfoldable pub complement : ℤ → ℕ
 complement (pos n) = n
 complement (negsuc n) = 0xFFFF_FFFF - n
 
-unfoldable pub pricesBytes : List ℤ → List ℕ
-pricesBytes [] = []
-pricesBytes (z ∷ zs) = fourBytes (complement z) ++ pricesBytes zs
+-- the bytes of a list's elements, one after the other
+unfoldable pub listBytes : {X : Type 0} → (X → List ℕ) → List X → List ℕ
+listBytes f [] = []
+listBytes f (x ∷ xs) = f x ++ listBytes f xs
+
+unfoldable pub priceBytes : ℤ → List ℕ
+priceBytes z = fourBytes (complement z)
+
+abbrev pub pricesBytes : List ℤ → List ℕ
+pricesBytes zs = listBytes priceBytes zs
 
 -- 'refutation, 50 58'
 unfoldable pub refutationBytes : Refutation → List ℕ
 refutationBytes x = 0x50 ∷ 0x58 ∷ (twoBytes (x .challenger) ++ (x .defender ∷ pricesBytes (x .prices)))
 
-unfoldable pub refutationsBytes : List Refutation → List ℕ
-refutationsBytes [] = []
-refutationsBytes (x ∷ xs) = refutationBytes x ++ refutationsBytes xs
-
 -- 'blocks, 42 4B'
 unfoldable pub blocksBytes : List ℕ → List ℕ
 blocksBytes blocks = 0x42 ∷ 0x4B ∷ blocks
 
-unfoldable pub ksBytes : List KEntry → List ℕ
-ksBytes [] = []
-ksBytes (e ∷ es) = e .layer ∷ (twoBytes (e .transition) ++ (fourBytes (e .k) ++ ksBytes es))
+-- a k entry: 'layer 1, transition 2, k 4'
+unfoldable pub kBytes : KEntry → List ℕ
+kBytes e = e .layer ∷ (twoBytes (e .transition) ++ fourBytes (e .k))
 
-unfoldable pub wsBytes : List WEntry → List ℕ
-wsBytes [] = []
-wsBytes (e ∷ es) = e .v ∷ e .u ∷ (fourBytes (e .w) ++ wsBytes es)
+-- a w entry: 'v 1, u 1, w 4'
+unfoldable pub wBytes : WEntry → List ℕ
+wBytes e = e .v ∷ e .u ∷ fourBytes (e .w)
 
 -- 'flow, 46 4C'
 unfoldable pub flowBytes : FlowRecord → List ℕ
 flowBytes f =
-    0x46 ∷ 0x4C ∷ (fourBytes (f .D) ++ (twoBytes (length (f .ks)) ++ (ksBytes (f .ks) ++ (twoBytes (length (f .ws)) ++ wsBytes (f .ws)))))
-
-unfoldable pub flowsBytes : List FlowRecord → List ℕ
-flowsBytes [] = []
-flowsBytes (f ∷ fs) = flowBytes f ++ flowsBytes fs
+    0x46 ∷ 0x4C ∷ (fourBytes (f .D) ++ (twoBytes (length (f .ks)) ++ (listBytes kBytes (f .ks) ++ (twoBytes (length (f .ws)) ++ listBytes wBytes (f .ws)))))
 
 -- the file of a certificate, whose head has a mark
 unfoldable pub certificateBytes : (mark : ℕ) → Certificate → List ℕ
 certificateBytes mark K =
     twoBytes mark
     ++ (twoBytes (length (K .refutations))
-    ++ (refutationsBytes (K .refutations) ++ (blocksBytes (K .blocks) ++ flowsBytes (K .flows))))
+    ++ (listBytes refutationBytes (K .refutations) ++ (blocksBytes (K .blocks) ++ listBytes flowBytes (K .flows))))
 
 -- 'absent ones are 0': the k and w of a record, and the flow that they are
 unfoldable pub kIn : List KEntry → (layer r : ℕ) → ℕ

@@ -18,8 +18,9 @@ use Rattle.bisimulation.specs.Pairs.{Pairs}
 use Rattle.rules.specs.Bytes.{byteAt, twoAt, signedAt, twoBytes}
 use Rattle.rules.specs.Standing.{Stands, IsBytes, stands-nothing, stands-both, stands-first, stands-second, stands-cons, stands-byte, stands-rest, stands-at, mark-stands, after-two, rest-of-two, two-is, two-stands, two-small, length-two, length-four, signed-is, signed-stands, signed-small}
 use Rattle.rules.specs.Certificate.{Fault, fault, noFault, firstOf, FileRule, challengerAt, defenderAt, pricesAt, afterRefutation, pairFault, refutationFault}
-use Rattle.rules.specs.Encoding.{Refutation, fourBytes, complement, pricesBytes, refutationBytes, pricesOf}
-use Rattle.rules.specs.Accepted.{RuleSays, Each, none, more, GoodRefutation}
+use Rattle.rules.specs.Encoding.{Refutation, fourBytes, complement, listBytes, priceBytes, pricesBytes, refutationBytes, pricesOf}
+use Rattle.rules.specs.Accepted.{RuleSays, GoodRefutation}
+use Rattle.rules.specs.SoundModel.{Each}
 
 -- what a rule decides of a file is what it says: a test that finds no fault is the proposition
 pub record Decides (file : FileRule) (says : RuleSays) : Type 0 where
@@ -61,23 +62,23 @@ length-pricesFrom C zero at = refl
 length-pricesFrom C (suc n) at = ap suc (length-pricesFrom C n (at + 4))
 
 pub length-pricesBytes : (zs : List ℤ) → length (pricesBytes zs) ≡ 4 * length zs
-unfolding pricesBytes
+unfolding listBytes priceBytes
 length-pricesBytes [] = refl
 length-pricesBytes (z ∷ zs) =
     length-append (fourBytes (complement z)) (pricesBytes zs)
     ∙ omega (arith, length-four (complement z), length-pricesBytes zs)
 
 pub pricesFrom-stand : (C : List ℕ) (n at : ℕ) → IsBytes C → at + 4 * n ≤ length C → Stands C at (pricesBytes (pricesFrom C n at))
-unfolding pricesFrom pricesBytes
+unfolding pricesFrom listBytes priceBytes
 pricesFrom-stand C zero at b h = stands-nothing C at (omega arith)
 pricesFrom-stand C (suc n) at b h =
     stands-both C at (fourBytes (complement (signedAt C at))) (pricesBytes (pricesFrom C n (at + 4))) (signed-stands C at b (omega arith))
     (stands-at (pricesFrom-stand C n (at + 4) b (omega arith)) (ap (λ (k : ℕ). at + k) (sym (length-four (complement (signedAt C at))))))
 
 pub pricesFrom-fit : (C : List ℕ) (n at : ℕ) → IsBytes C → Each (λ z. mag z < 2 ^ 31) (pricesFrom C n at)
-unfolding pricesFrom
-pricesFrom-fit C zero at b = none
-pricesFrom-fit C (suc n) at b = more (signed-small C at b) (pricesFrom-fit C n (at + 4) b)
+unfolding pricesFrom Each
+pricesFrom-fit C zero at b = tt
+pricesFrom-fit C (suc n) at b = (signed-small C at b, pricesFrom-fit C n (at + 4) b)
 
 -- a price by its number
 pub pricesFrom-get : (C : List ℕ) (n at i : ℕ) → i < n → getD (pricesFrom C n at) i (pos 0) ≡ signedAt C (at + 4 * i)
@@ -88,35 +89,36 @@ pricesFrom-get C (suc n) at (suc i) h =
     let e : at + 4 + 4 * i ≡ at + 4 * suc i = omega arith in pricesFrom-get C n (at + 4) i (omega arith) ∙ ap (signedAt C) e
 
 pub prices-read : (C : List ℕ) (zs : List ℤ) (at : ℕ) → Each (λ z. mag z < 2 ^ 31) zs → Stands C at (pricesBytes zs) → (i : ℕ) → i < length zs → signedAt C (at + 4 * i) ≡ getD zs i (pos 0)
-unfolding pricesBytes
-prices-read C zs at none h i less = absurd (omega arith)
-prices-read C zs at (more {x = x} {xs = xs} p ps) h zero less =
+unfolding listBytes priceBytes Each
+prices-read C [] at g h i less = absurd (omega arith)
+prices-read C (x ∷ xs) at g h zero less =
     let e : at + 4 * 0 ≡ at = omega arith in
-    ap (signedAt C) e ∙ signed-is C at x p (stands-first C at (fourBytes (complement x)) (pricesBytes xs) h)
-prices-read C zs at (more {x = x} {xs = xs} p ps) h (suc i) less =
+    ap (signedAt C) e ∙ signed-is C at x (g .0) (stands-first C at (fourBytes (complement x)) (pricesBytes xs) h)
+prices-read C (x ∷ xs) at g h (suc i) less =
     let e : at + 4 * suc i ≡ at + 4 + 4 * i = omega arith in
     ap (signedAt C) e
-    ∙ prices-read C xs (at + 4) ps
-      (stands-at (stands-second C at (fourBytes (complement x)) (pricesBytes xs) h) (ap (λ (k : ℕ). at + k) (length-four (complement x))))
-      i (omega arith)
+    ∙ prices-read C xs (at + 4) (g .1)
+    (stands-at (stands-second C at (fourBytes (complement x)) (pricesBytes xs) h) (ap (λ (k : ℕ). at + k) (length-four (complement x))))
+    i (omega arith)
 
 -- the refutation that stands at a place
 unfoldable pub refutationAt : FileRule → Automaton → List ℕ → ℕ → Refutation
 refutationAt file A C at =
-    record
-      { challenger = challengerAt C at
-      ; defender = defenderAt C at
-      ; prices = pricesFrom C (file .priceCount A (challengerAt C at)) (at + 5)
-      }
+    record {
+      challenger = challengerAt C at;
+      defender = defenderAt C at;
+      prices = pricesFrom C (file .priceCount A (challengerAt C at)) (at + 5);
+    }
 
 pub length-refutation : (x : Refutation) → length (refutationBytes x) ≡ 5 + 4 * length (x .prices)
 unfolding refutationBytes
 length-refutation x =
-    omega
-    (arith
-    , length-append (twoBytes (x .challenger)) (x .defender ∷ pricesBytes (x .prices))
-    , length-two (x .challenger)
-    , length-pricesBytes (x .prices))
+    omega (
+      arith,
+      length-append (twoBytes (x .challenger)) (x .defender ∷ pricesBytes (x .prices)),
+      length-two (x .challenger),
+      length-pricesBytes (x .prices),
+    )
 
 module _ (file : FileRule) (says : RuleSays) (decides : Decides file says) (A : Automaton) (C : List ℕ) (R : Pairs) (at : ℕ) where
   -- what a refutation record without fault tells
@@ -141,33 +143,33 @@ module _ (file : FileRule) (says : RuleSays) (decides : Decides file says) (A : 
       let h = pastSame (fault 14) _ (defenderAt C at) (A .source (challengerAt C at)) (no-fault 13) (g .1) in
       let i = keptTrue _ (fault 14) (R (A .source (challengerAt C at)) (defenderAt C at)) (no-fault 13) (h .1) in
       let j = pastLess (fault 11) _ (length C) (afterRefutation file A C at) (no-fault 10) (d .1) in
-      record
-        { mark = b .0
-        ; transition = f .0
-        ; state = g .0
-        ; different = h .0
-        ; related = i .0
-        ; whole = j .0
-        ; prices = j .1
-        }
+      record {
+        mark = b .0;
+        transition = f .0;
+        state = g .0;
+        different = h .0;
+        related = i .0;
+        whole = j .0;
+        prices = j .1;
+      }
 
   -- it is good, and its encoding stands there
   pub refutation-good : noFault ≡ refutationFault file A C R at → IsBytes C → GoodRefutation says A R (refutationAt file A C at)
   unfolding refutationAt pricesOf pricesAt
   refutation-good e b =
       let p = passed e in
-      record
-        { transition = p .transition
-        ; state = p .state
-        ; different = p .different
-        ; related = p .related
-        ; whole = length-pricesFrom C _ _ ∙ decides .priceCount A (challengerAt C at)
-        ; fits = pricesFrom-fit C _ _ b
-        ; refutes =
-          decides .onlyPrices A R (challengerAt C at) (defenderAt C at) (pricesAt C at) _
-          (λ i less. sym (pricesFrom-get C _ (at + 5) i (subst (λ (k : ℕ). i < k) (sym (decides .priceCount A (challengerAt C at))) less)))
-          (decides .refutes A R _ _ _ .0 (p .prices))
-        }
+      record {
+        transition = p .transition;
+        state = p .state;
+        different = p .different;
+        related = p .related;
+        whole = length-pricesFrom C _ _ ∙ decides .priceCount A (challengerAt C at);
+        fits = pricesFrom-fit C _ _ b;
+        refutes =
+            decides .onlyPrices A R (challengerAt C at) (defenderAt C at) (pricesAt C at) _
+            (λ i less. sym (pricesFrom-get C _ (at + 5) i (subst (λ (k : ℕ). i < k) (sym (decides .priceCount A (challengerAt C at))) less)))
+            (decides .refutes A R _ _ _ .0 (p .prices));
+      }
 
   pub refutation-stands : noFault ≡ refutationFault file A C R at → IsBytes C → Stands C at (refutationBytes (refutationAt file A C at))
   unfolding refutationAt refutationBytes challengerAt defenderAt afterRefutation twoBytes

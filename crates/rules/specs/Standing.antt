@@ -50,19 +50,19 @@ stands-both s at xs ys h k =
 
 pub stands-first : (s : List ℕ) (at : ℕ) (xs ys : List ℕ) → Stands s at (xs ++ ys) → Stands s at xs
 stands-first s at xs ys h =
-    record
-      { inside = omega (arith, length-append xs ys, h .inside)
-      ; bytes = λ i less. h .bytes i (omega (arith, length-append xs ys)) ∙ List·getD-append xs ys 0 i less
-      }
+    record {
+      inside = omega (arith, length-append xs ys, h .inside);
+      bytes = λ i less. h .bytes i (omega (arith, length-append xs ys)) ∙ List·getD-append xs ys 0 i less;
+    }
 
 pub stands-second : (s : List ℕ) (at : ℕ) (xs ys : List ℕ) → Stands s at (xs ++ ys) → Stands s (at + length xs) ys
 stands-second s at xs ys h =
-    record
-      { inside = omega (arith, length-append xs ys, h .inside)
-      ; bytes = λ i less.
-        let e : at + length xs + i ≡ at + (length xs + i) = omega arith in
-        ap (byteAt s) e ∙ h .bytes (length xs + i) (omega (arith, length-append xs ys)) ∙ getD-append-add xs ys i 0
-      }
+    record {
+      inside = omega (arith, length-append xs ys, h .inside);
+      bytes = λ i less.
+          let e : at + length xs + i ≡ at + (length xs + i) = omega arith in
+          ap (byteAt s) e ∙ h .bytes (length xs + i) (omega (arith, length-append xs ys)) ∙ getD-append-add xs ys i 0;
+    }
 
 -- a byte in front
 pub stands-cons : (s : List ℕ) (at x : ℕ) (xs : List ℕ) → at < length s → byteAt s at ≡ x → Stands s (at + 1) xs → Stands s at (x ∷ xs)
@@ -70,10 +70,10 @@ stands-cons s at x xs room e h = stands-both s at (x ∷ []) xs front h
   where
     front : Stands s at (x ∷ [])
     front =
-        record
-          { inside = omega arith
-          ; bytes = λ i less. let z : at + i ≡ at = omega arith in let o : i ≡ 0 = omega arith in ap (byteAt s) z ∙ e ∙ ap (λ (k : ℕ). getD (x ∷ []) k 0) (sym o)
-          }
+        record {
+          inside = omega arith;
+          bytes = λ i less. let z : at + i ≡ at = omega arith in let o : i ≡ 0 = omega arith in ap (byteAt s) z ∙ e ∙ ap (λ (k : ℕ). getD (x ∷ []) k 0) (sym o);
+        }
 
 pub stands-byte : (s : List ℕ) (at x : ℕ) (xs : List ℕ) → Stands s at (x ∷ xs) → byteAt s at ≡ x
 stands-byte s at x xs h = let z : at ≡ at + 0 = omega arith in ap (byteAt s) z ∙ h .bytes 0 (omega arith)
@@ -118,11 +118,12 @@ length-four x = refl
 pub four-is : (s : List ℕ) (at x : ℕ) → x < 2 ^ 32 → Stands s at (fourBytes x) → fourAt s at ≡ x
 unfolding fourAt fourBytes
 four-is s at x small h =
-    omega
-    (arith
-    , two-is s at (x / 65536) (omega arith) (stands-first s at (twoBytes (x / 65536)) (twoBytes (x % 65536)) h)
-    , two-is s (at + 2) (x % 65536) (omega arith)
-      (stands-at (stands-second s at (twoBytes (x / 65536)) (twoBytes (x % 65536)) h) (ap (λ (k : ℕ). at + k) (length-two (x / 65536)))))
+    omega (
+      arith,
+      two-is s at (x / 65536) (omega arith) (stands-first s at (twoBytes (x / 65536)) (twoBytes (x % 65536)) h),
+      two-is s (at + 2) (x % 65536) (omega arith)
+          (stands-at (stands-second s at (twoBytes (x / 65536)) (twoBytes (x % 65536)) h) (ap (λ (k : ℕ). at + k) (length-two (x / 65536)))),
+    )
 
 pub four-stands : (s : List ℕ) (at : ℕ) → IsBytes s → at + 4 ≤ length s → Stands s at (fourBytes (fourAt s at))
 unfolding fourBytes

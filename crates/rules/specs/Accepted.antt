@@ -14,7 +14,7 @@ use Rattle.rules.specs.Limits.{Limits}
 use Rattle.rules.specs.SoundModel.{Each}
 use Rattle.rules.specs.Certificate.{FileRule}
 use Rattle.rules.specs.Judging.{Question, questions}
-use Rattle.rules.specs.Encoding.{Refutation, KEntry, WEntry, FlowRecord, Certificate, pricesOf, flowOf}
+use Rattle.rules.specs.Encoding.{Refutation, KEntry, WEntry, FlowRecord, Certificate, certificateBytes, pricesOf, flowOf}
 
 -- what a step rule says of a certificate, as propositions
 pub record RuleSays : Type 1 where
@@ -100,3 +100,10 @@ pub record KeepsRules (L : Limits) (says : RuleSays) (A : Automaton) (K : Certif
   pub refutations : GoodRefutations says A (equalLabels A) (K .refutations) left
   pub blocks : GoodBlocks A left (K .blocks)
   pub flows : GoodFlows says A left (questions A (K .blocks)) (K .flows)
+
+-- the certificate bytes are the encoding of a certificate that keeps every rule for an automaton and names these blocks
+pub record Kept (L : Limits) (says : RuleSays) (mark : ℕ) (A : Automaton) (C blocks : List ℕ) : Type 0 where
+  pub certificate : Certificate
+  pub encoded : C ≡ certificateBytes mark certificate
+  pub keeps : KeepsRules L says A certificate
+  pub named : certificate .blocks ≡ blocks

@@ -19,6 +19,7 @@ pub mod EntryLists
 pub mod RefutationRecords
 pub mod BlocksRecord
 pub mod FlowRecords
+pub mod CertificateKept
 pub mod Quotient
 pub mod Answers
 pub mod AnswerLaws

@@ -1,10 +1,11 @@
 -- The laws of the tests: what a choice comes to, and what it tells.
-use Prim.Native.Nat.{ℕ, zero, suc, _≤_, _<_}
+use Prim.Native.Nat.{ℕ, zero, suc, _*_, _≤_, _<_}
 use mathlib.Core.Path.{_≡_, refl, sym, _∙_, ap, subst}
 use mathlib.Core.Bool.{Bool, true, false, cond}
 use lib.Dec.{ltb, eqb}
 use borrow.Author.Tests.{lt-ltb, le-ltb, eq-eqb, ne-eqb, ltb-true, ltb-false, eqb-true, eqb-false}
 use native.Mathlib.Omega.{arith}
+use native.Mathlib.Nat.{zero-mul}
 use native.Mathlib.Decide.{ℕ-discrete}
 use Rattle.bisimulation.specs.Choice.{ifLess, ifSame, ifTrue, allBelow}
 
@@ -45,6 +46,23 @@ eitherSame P a b {x} {y} p q = go (eqb a b)
     go : (t : Bool) → P (cond t x y)
     go true = p
     go false = q
+
+-- the numbers that are compared change places
+pub turned {ℓ} : {X : Type ℓ} (a b : ℕ) (x y : X) → ifSame a b x y ≡ ifSame b a x y
+turned a b x y = go (ℕ-discrete b a)
+  where
+    go : Dec (b ≡ a) → ifSame a b x y ≡ ifSame b a x y
+    go (yes e) = same y e (sym (same y (sym e) refl))
+    go (no n) = notSame x n (sym (notSame x (λ e. n (sym e)) refl))
+
+-- a factor goes into the choice
+pub timesSame : (a b x c : ℕ) → ifSame a b x 0 * c ≡ ifSame a b (x * c) 0
+unfolding ifSame
+timesSame a b x c = go (eqb a b)
+  where
+    go : (t : Bool) → cond t x 0 * c ≡ cond t (x * c) 0
+    go true = refl
+    go false = zero-mul c
 
 -- z is not the refusal r, so the choice went the other way. The refusal stands first, or second
 pub pastLess {ℓ} : {X : Type ℓ} {z : X} (r y : X) (a b : ℕ) → (z ≡ r → ⊥) → z ≡ ifLess a b r y → (b ≤ a) × (z ≡ y)

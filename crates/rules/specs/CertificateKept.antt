@@ -56,13 +56,13 @@ module _ (L : Limits) (file : FileRule) (says : RuleSays) (decides : Decides fil
       let stands = flow-stands file says decides A narrow C R x at (p .0) b in
       let after = flow-after file says decides A narrow C R x at in
       let r = flows-found b R named blocks xs (afterFlow C at) (omega (arith, stands .inside)) (p .1) in
-      record
-        { fs = flowRecordAt C at ∷ r .fs
-        ; good = GoodFlows.flow (flow-good file says decides A narrow C R x at (p .0) b) (r .good)
-        ; stand = stands-both C at (flowBytes (flowRecordAt C at)) (listBytes flowBytes (r .fs)) stands (stands-at (r .stand) after)
-        ; last = omega (arith, after, r .last, length-append (flowBytes (flowRecordAt C at)) (listBytes flowBytes (r .fs)))
-        ; named-is = r .named-is
-        }
+      record {
+        fs = flowRecordAt C at ∷ r .fs;
+        good = GoodFlows.flow (flow-good file says decides A narrow C R x at (p .0) b) (r .good);
+        stand = stands-both C at (flowBytes (flowRecordAt C at)) (listBytes flowBytes (r .fs)) stands (stands-at (r .stand) after);
+        last = omega (arith, after, r .last, length-append (flowBytes (flowRecordAt C at)) (listBytes flowBytes (r .fs)));
+        named-is = r .named-is;
+      }
 
   flows-accepted : (R : Pairs) (blocks : List ℕ) (xs : List Question) (fs : List FlowRecord) (at : ℕ) → GoodFlows says A R xs fs → Stands C at (listBytes flowBytes fs) → at + length (listBytes flowBytes fs) ≡ length C → accepted blocks ≡ judgeFlows L file A C R blocks xs at
   unfolding judgeFlows listBytes
@@ -88,14 +88,14 @@ module _ (L : Limits) (file : FileRule) (says : RuleSays) (decides : Decides fil
   unfolding judgeRefutations listBytes pairsAfter refutationAt
   refutations-found b named zero R at inside e =
       let z : at ≡ at + 0 = omega arith in
-      record
-        { xs = []
-        ; pairs = R
-        ; good = GoodRefutations.done
-        ; count = refl
-        ; stand = stands-nothing C at inside
-        ; rest = e ∙ ap (judgeBlocks L file A C R) z
-        }
+      record {
+        xs = [];
+        pairs = R;
+        good = GoodRefutations.done;
+        count = refl;
+        stand = stands-nothing C at inside;
+        rest = e ∙ ap (judgeBlocks L file A C R) z;
+      }
   refutations-found b named (suc left) R at inside e =
       let p = no-reject named _ at _ e in
       let stands = refutation-stands file says decides A C R at (p .0) b in
@@ -103,16 +103,16 @@ module _ (L : Limits) (file : FileRule) (says : RuleSays) (decides : Decides fil
       let x = refutationAt file A C at in
       let r = refutations-found b named left (pairsAfter A C R at) (afterRefutation file A C at) (omega (arith, stands .inside)) (p .1) in
       let z : afterRefutation file A C at + length (listBytes refutationBytes (r .xs)) ≡ at + length (refutationBytes x ++ listBytes refutationBytes (r .xs)) =
-            omega (arith, after, length-append (refutationBytes x) (listBytes refutationBytes (r .xs)))
+      omega (arith, after, length-append (refutationBytes x) (listBytes refutationBytes (r .xs)))
       in
-      record
-        { xs = x ∷ r .xs
-        ; pairs = r .pairs
-        ; good = GoodRefutations.refute (refutation-good file says decides A C R at (p .0) b) (r .good)
-        ; count = ap suc (r .count)
-        ; stand = stands-both C at (refutationBytes x) (listBytes refutationBytes (r .xs)) stands (stands-at (r .stand) after)
-        ; rest = r .rest ∙ ap (judgeBlocks L file A C (r .pairs)) z
-        }
+      record {
+        xs = x ∷ r .xs;
+        pairs = r .pairs;
+        good = GoodRefutations.refute (refutation-good file says decides A C R at (p .0) b) (r .good);
+        count = ap suc (r .count);
+        stand = stands-both C at (refutationBytes x) (listBytes refutationBytes (r .xs)) stands (stands-at (r .stand) after);
+        rest = r .rest ∙ ap (judgeBlocks L file A C (r .pairs)) z;
+      }
 
   refutations-accepted : (named : List ℕ) (R pairs : Pairs) (xs : List Refutation) (at : ℕ) → GoodRefutations says A R xs pairs → Stands C at (listBytes refutationBytes xs) → accepted named ≡ judgeBlocks L file A C pairs (at + length (listBytes refutationBytes xs)) → accepted named ≡ judgeRefutations L file A C (length xs) R at
   unfolding judgeRefutations listBytes pairsAfter
@@ -123,7 +123,7 @@ module _ (L : Limits) (file : FileRule) (says : RuleSays) (decides : Decides fil
       let q = challenger-read file says decides A C R at narrow x g stands in
       let t = defender-read file says decides A C R at narrow x g stands in
       let z : at + length (refutationBytes x ++ listBytes refutationBytes rest) ≡ at + length (refutationBytes x) + length (listBytes refutationBytes rest) =
-            omega (arith, length-append (refutationBytes x) (listBytes refutationBytes rest))
+      omega (arith, length-append (refutationBytes x) (listBytes refutationBytes rest))
       in
       go-on named _ at _ (refutation-passes file says decides A C R at narrow x g stands)
       (refutations-accepted named (removed (A .source (x .challenger)) (x .defender) R) pairs rest (at + length (refutationBytes x)) gs
@@ -154,13 +154,13 @@ module _ (L : Limits) (file : FileRule) (says : RuleSays) (decides : Decides fil
       let r = flows-found b R named blocks (questions A blocks) (at + 2 + A .states) (omega (arith, good .whole, stands .inside)) (p .1) in
       let z : at + 2 + A .states ≡ at + length (blocksBytes blocks) = omega (arith, good .whole) in
       subst (BlocksFound R at) (sym (r .named-is))
-      (record
-        { fs = r .fs
-        ; good = good
-        ; flows = r .good
-        ; stand = stands-both C at (blocksBytes blocks) (listBytes flowBytes (r .fs)) stands (stands-at (r .stand) z)
-        ; last = omega (arith, r .last, length-append (blocksBytes blocks) (listBytes flowBytes (r .fs)))
-        })
+      (record {
+        fs = r .fs;
+        good = good;
+        flows = r .good;
+        stand = stands-both C at (blocksBytes blocks) (listBytes flowBytes (r .fs)) stands (stands-at (r .stand) z);
+        last = omega (arith, r .last, length-append (blocksBytes blocks) (listBytes flowBytes (r .fs)));
+      })
 
   blocks-accepted : (R : Pairs) (at : ℕ) (named : List ℕ) (fs : List FlowRecord) → GoodBlocks A R named → GoodFlows says A R (questions A named) fs → Stands C at (blocksBytes named ++ listBytes flowBytes fs) → at + length (blocksBytes named ++ listBytes flowBytes fs) ≡ length C → accepted named ≡ judgeBlocks L file A C R at
   unfolding judgeBlocks
@@ -200,31 +200,32 @@ module _ (L : Limits) (file : FileRule) (says : RuleSays) (decides : Decides fil
       let tail = listBytes refutationBytes (r .xs) ++ (blocksBytes blocks ++ listBytes flowBytes (f .fs)) in
       let body : Stands C 4 tail = stands-both C 4 (listBytes refutationBytes (r .xs)) (blocksBytes blocks ++ listBytes flowBytes (f .fs)) (r .stand) (f .stand) in
       let whole : Stands C 0 (twoBytes (file .mark) ++ (twoBytes (length (r .xs)) ++ tail)) =
-            after-two C 0 (file .mark) _ (mark-stands C 0 (file .mark) b (omega (arith, head .whole)) (head .mark))
-            (after-two C 2 (length (r .xs)) _ (mark-stands C 2 (length (r .xs)) b (omega (arith, head .whole)) (sym (r .count))) body)
+      after-two C 0 (file .mark) _ (mark-stands C 0 (file .mark) b (omega (arith, head .whole)) (head .mark))
+      (after-two C 2 (length (r .xs)) _ (mark-stands C 2 (length (r .xs)) b (omega (arith, head .whole)) (sym (r .count))) body)
       in
-      record
-        { certificate = record { refutations = r .xs; blocks = blocks; flows = f .fs }
-        ; encoded =
-          stands-is C (twoBytes (file .mark) ++ (twoBytes (length (r .xs)) ++ tail)) whole
-          (omega
-          (arith
-          , f .last
-          , length-append (twoBytes (file .mark)) (twoBytes (length (r .xs)) ++ tail)
-          , length-append (twoBytes (length (r .xs))) tail
-          , length-append (listBytes refutationBytes (r .xs)) (blocksBytes blocks ++ listBytes flowBytes (f .fs))
-          , length-two (file .mark)
-          , length-two (length (r .xs))))
-        ; keeps =
-          record
-            { left = r .pairs
-            ; few = omega (arith, head .few, r .count)
-            ; refutations = r .good
-            ; blocks = f .good
-            ; flows = f .flows
-            }
-        ; named = refl
-        }
+      record {
+        certificate = record { refutations = r .xs; blocks = blocks; flows = f .fs };
+        encoded =
+            stands-is C (twoBytes (file .mark) ++ (twoBytes (length (r .xs)) ++ tail)) whole
+            (omega (
+              arith,
+              f .last,
+              length-append (twoBytes (file .mark)) (twoBytes (length (r .xs)) ++ tail),
+              length-append (twoBytes (length (r .xs))) tail,
+              length-append (listBytes refutationBytes (r .xs)) (blocksBytes blocks ++ listBytes flowBytes (f .fs)),
+              length-two (file .mark),
+              length-two (length (r .xs)),
+            ));
+        keeps =
+            record {
+              left = r .pairs;
+              few = omega (arith, head .few, r .count);
+              refutations = r .good;
+              blocks = f .good;
+              flows = f .flows;
+            };
+        named = refl;
+      }
 
   -- kept, so accepted, where the mark and the limit fit their fields
   pub kept-accepted : file .mark < 65536 → L .refutations < 65536 → (K : Certificate) → C ≡ certificateBytes (file .mark) K → KeepsRules L says A K → accepted (K .blocks) ≡ judgeCertificate L file A C
@@ -243,11 +244,12 @@ module _ (L : Limits) (file : FileRule) (says : RuleSays) (decides : Decides fil
       (stands-first C 4 (listBytes refutationBytes (K .refutations)) _ body)
       (blocks-accepted (keeps .left) (4 + length (listBytes refutationBytes (K .refutations))) (K .blocks) (K .flows) (keeps .blocks) (keeps .flows)
       (stands-second C 4 (listBytes refutationBytes (K .refutations)) _ body)
-      (omega
-      (arith
-      , ap length e
-      , length-append (twoBytes (file .mark)) (twoBytes (length (K .refutations)) ++ tail)
-      , length-append (twoBytes (length (K .refutations))) tail
-      , length-append (listBytes refutationBytes (K .refutations)) (blocksBytes (K .blocks) ++ listBytes flowBytes (K .flows))
-      , length-two (file .mark)
-      , length-two (length (K .refutations)))))))
+      (omega (
+        arith,
+        ap length e,
+        length-append (twoBytes (file .mark)) (twoBytes (length (K .refutations)) ++ tail),
+        length-append (twoBytes (length (K .refutations))) tail,
+        length-append (listBytes refutationBytes (K .refutations)) (blocksBytes (K .blocks) ++ listBytes flowBytes (K .flows)),
+        length-two (file .mark),
+        length-two (length (K .refutations)),
+      )))))

@@ -11,7 +11,8 @@ use Rattle.bisimulation.specs.Automaton.{Automaton}
 use Rattle.bisimulation.specs.StepRule.{Flow}
 use Rattle.bisimulation.specs.Pairs.{Pairs, equalLabels, removed}
 use Rattle.rules.specs.Limits.{Limits}
-use Rattle.rules.specs.SoundModel.{Each}
+use Rattle.rules.specs.Model.{Model, modelBytes, automatonOf}
+use Rattle.rules.specs.SoundModel.{Each, SoundModel}
 use Rattle.rules.specs.Certificate.{FileRule}
 use Rattle.rules.specs.Judging.{Question, questions}
 use Rattle.rules.specs.Encoding.{Refutation, KEntry, WEntry, FlowRecord, Certificate, certificateBytes, pricesOf, flowOf}
@@ -107,3 +108,11 @@ pub record Kept (L : Limits) (says : RuleSays) (mark : ℕ) (A : Automaton) (C b
   pub encoded : C ≡ certificateBytes mark certificate
   pub keeps : KeepsRules L says A certificate
   pub named : certificate .blocks ≡ blocks
+
+-- demand 2: 'A certificate is accepted if, and only if, it keeps every rule of document 01 on a sound model'. The model bytes are those of a
+-- sound model, and the certificate bytes those of a certificate that keeps every rule for its automaton
+pub record Accepted (L : Limits) (says : RuleSays) (mark : ℕ) (bytes C blocks : List ℕ) : Type 0 where
+  pub M : Model
+  pub sound : SoundModel L M
+  pub encoded : bytes ≡ modelBytes M
+  pub kept : Kept L says mark (automatonOf M) C blocks

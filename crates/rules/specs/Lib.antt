@@ -20,6 +20,7 @@ pub mod RefutationRecords
 pub mod BlocksRecord
 pub mod FlowRecords
 pub mod CertificateKept
+pub mod AcceptedExactly
 pub mod Quotient
 pub mod Answers
 pub mod AnswerLaws

@@ -12,6 +12,7 @@ use Rattle.rules.specs.Bytes.{byteAt}
 use Rattle.rules.specs.Model.{Model, modelBytes, automatonOf}
 use Rattle.rules.specs.Reading.{Reading, model, noModel, readWhole}
 use Rattle.rules.specs.SoundModel.{Bytes, SoundModel, FitsWidths}
+use Rattle.rules.specs.SoundModelLaws.{sound-automaton}
 use Rattle.rules.specs.ReadBack.{read-back-whole}
 use Rattle.rules.specs.ReadSound.{read-whole-sound}
 use Rattle.rules.specs.Standing.{IsBytes}
@@ -41,7 +42,8 @@ pub narrow-model : (L : Limits) (file : FileRule) (M : Model) → FitsFields L f
 unfolding automatonOf
 narrow-model L file M fits sound =
     record
-      { states = omega (arith, sound .states, fits .widths .states)
+      { sound = sound-automaton L M sound
+      ; states = omega (arith, sound .states, fits .widths .states)
       ; transitions = omega (arith, sound .count, fits .widths .transitions)
       }
 

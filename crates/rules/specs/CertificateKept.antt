@@ -98,8 +98,8 @@ module _ (L : Limits) (file : FileRule) (says : RuleSays) (decides : Decides fil
       }
   refutations-found b named (suc left) R at inside e =
       let p = no-reject named _ at _ e in
-      let stands = refutation-stands file says decides A C R at (p .0) b in
-      let after = refutation-after file says decides A C R at (p .0) in
+      let stands = refutation-stands file says decides A narrow C R at (p .0) b in
+      let after = refutation-after file says decides A narrow C R at (p .0) in
       let x = refutationAt file A C at in
       let r = refutations-found b named left (pairsAfter A C R at) (afterRefutation file A C at) (omega (arith, stands .inside)) (p .1) in
       let z : afterRefutation file A C at + length (listBytes refutationBytes (r .xs)) ≡ at + length (refutationBytes x ++ listBytes refutationBytes (r .xs)) =
@@ -108,7 +108,7 @@ module _ (L : Limits) (file : FileRule) (says : RuleSays) (decides : Decides fil
       record {
         xs = x ∷ r .xs;
         pairs = r .pairs;
-        good = GoodRefutations.refute (refutation-good file says decides A C R at (p .0) b) (r .good);
+        good = GoodRefutations.refute (refutation-good file says decides A narrow C R at (p .0) b) (r .good);
         count = ap suc (r .count);
         stand = stands-both C at (refutationBytes x) (listBytes refutationBytes (r .xs)) stands (stands-at (r .stand) after);
         rest = r .rest ∙ ap (judgeBlocks L file A C (r .pairs)) z;
@@ -119,13 +119,13 @@ module _ (L : Limits) (file : FileRule) (says : RuleSays) (decides : Decides fil
   refutations-accepted named R pairs xs at GoodRefutations.done h e = let z : at + 0 ≡ at = omega arith in e ∙ ap (judgeBlocks L file A C R) z
   refutations-accepted named R pairs xs at (GoodRefutations.refute {x = x} {xs = rest} g gs) h e =
       let stands = stands-first C at (refutationBytes x) (listBytes refutationBytes rest) h in
-      let after = after-read file says decides A C R at narrow x g stands in
-      let q = challenger-read file says decides A C R at narrow x g stands in
-      let t = defender-read file says decides A C R at narrow x g stands in
+      let after = after-read file says decides A narrow C R at x g stands in
+      let q = challenger-read file says decides A narrow C R at x g stands in
+      let t = defender-read file says decides A narrow C R at x g stands in
       let z : at + length (refutationBytes x ++ listBytes refutationBytes rest) ≡ at + length (refutationBytes x) + length (listBytes refutationBytes rest) =
       omega (arith, length-append (refutationBytes x) (listBytes refutationBytes rest))
       in
-      go-on named _ at _ (refutation-passes file says decides A C R at narrow x g stands)
+      go-on named _ at _ (refutation-passes file says decides A narrow C R at x g stands)
       (refutations-accepted named (removed (A .source (x .challenger)) (x .defender) R) pairs rest (at + length (refutationBytes x)) gs
       (stands-second C at (refutationBytes x) (listBytes refutationBytes rest) h)
       (e ∙ ap (judgeBlocks L file A C pairs) z)

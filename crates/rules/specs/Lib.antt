@@ -21,6 +21,8 @@ pub mod BlocksRecord
 pub mod FlowRecords
 pub mod CertificateKept
 pub mod AcceptedExactly
+pub mod PlainSays
+pub mod PlainDecides
 pub mod Quotient
 pub mod Answers
 pub mod AnswerLaws

@@ -12,7 +12,7 @@ use borrow.Author.Tests.{eqb-true, eqb-false}
 use native.Mathlib.Omega.{arith}
 use Rattle.bisimulation.specs.Choice.{ifLess, ifSame, ifTrue, unlessLess, unlessSame, unlessTrue}
 use Rattle.bisimulation.specs.ChoiceLaws.{via, less, notLess, same, notSame, isTrue, pastLess, keptLess, keptSame, pastSame, keptTrue}
-use Rattle.bisimulation.specs.Automaton.{Automaton}
+use Rattle.bisimulation.specs.Automaton.{Automaton, SoundAutomaton}
 use Rattle.bisimulation.specs.StepRule.{Flow}
 use Rattle.bisimulation.specs.Pairs.{Pairs}
 use Rattle.rules.specs.Bytes.{byteAt, twoAt, signedAt, twoBytes}
@@ -26,12 +26,13 @@ use Rattle.rules.specs.SoundModel.{Each}
 pub record Decides (file : FileRule) (says : RuleSays) : Type 0 where
   pub priceCount : (A : Automaton) (q : ℕ) → file .priceCount A q ≡ says .priceCount A q
   pub refutes : (A : Automaton) (R : Pairs) (q t : ℕ) (p : ℕ → ℤ) → (noFault ≡ file .pricesFault A R q t p) ↔ says .refutes A R q t p
-  pub onlyPrices : (A : Automaton) (R : Pairs) (q t : ℕ) (p p′ : ℕ → ℤ) → ((i : ℕ) → i < says .priceCount A q → p i ≡ p′ i) → says .refutes A R q t p → says .refutes A R q t p′
+  pub onlyPrices : (A : Automaton) → SoundAutomaton A → (R : Pairs) (q t : ℕ) (p p′ : ℕ → ℤ) → t < A .states → ((i : ℕ) → i < says .priceCount A q → p i ≡ p′ i) → says .refutes A R q t p → says .refutes A R q t p′
   pub inQuestion : (A : Automaton) (q t layer r : ℕ) → (file .inQuestion A q t layer r ≡ true) ↔ says .inQuestion A q t layer r
   pub equations : (A : Automaton) (q t : ℕ) (f : Flow) → (noFault ≡ file .equationsFault A q t f) ↔ says .equations A q t f
 
--- the automaton's numbers fit the fields of a certificate
+-- the automaton is sound, and its numbers fit the fields of a certificate
 pub record Narrow (A : Automaton) : Type 0 where
+  pub sound : SoundAutomaton A
   pub states : A .states ≤ 256
   pub transitions : A .transitions ≤ 65536
 
@@ -120,7 +121,7 @@ length-refutation x =
       length-pricesBytes (x .prices),
     )
 
-module _ (file : FileRule) (says : RuleSays) (decides : Decides file says) (A : Automaton) (C : List ℕ) (R : Pairs) (at : ℕ) where
+module _ (file : FileRule) (says : RuleSays) (decides : Decides file says) (A : Automaton) (narrow : Narrow A) (C : List ℕ) (R : Pairs) (at : ℕ) where
   -- what a refutation record without fault tells
   record Passed : Type 0 where
     pub mark : twoAt C at ≡ 0x5058
@@ -166,7 +167,7 @@ module _ (file : FileRule) (says : RuleSays) (decides : Decides file says) (A : 
         whole = length-pricesFrom C _ _ ∙ decides .priceCount A (challengerAt C at);
         fits = pricesFrom-fit C _ _ b;
         refutes =
-            decides .onlyPrices A R (challengerAt C at) (defenderAt C at) (pricesAt C at) _
+            decides .onlyPrices A (narrow .sound) R (challengerAt C at) (defenderAt C at) (pricesAt C at) _ (p .state)
             (λ i less. sym (pricesFrom-get C _ (at + 5) i (subst (λ (k : ℕ). i < k) (sym (decides .priceCount A (challengerAt C at))) less)))
             (decides .refutes A R _ _ _ .0 (p .prices));
       }
@@ -189,7 +190,7 @@ module _ (file : FileRule) (says : RuleSays) (decides : Decides file says) (A : 
       omega (arith, length-refutation (refutationAt file A C at), length-pricesFrom C (file .priceCount A (challengerAt C at)) (at + 5))
 
   -- where the encoding of a good refutation stands, there is no fault
-  module _ (narrow : Narrow A) (x : Refutation) (good : GoodRefutation says A R x) (stands : Stands C at (refutationBytes x)) where
+  module _ (x : Refutation) (good : GoodRefutation says A R x) (stands : Stands C at (refutationBytes x)) where
     after-mark : Stands C (at + 2) (twoBytes (x .challenger) ++ (x .defender ∷ pricesBytes (x .prices)))
     unfolding refutationBytes twoBytes
     after-mark = rest-of-two C at 0x5058 _ stands
@@ -224,7 +225,7 @@ module _ (file : FileRule) (says : RuleSays) (decides : Decides file says) (A : 
     unfolding pricesAt pricesOf
     prices-good =
         decides .refutes A R (challengerAt C at) (defenderAt C at) (pricesAt C at) .1
-        (decides .onlyPrices A R (challengerAt C at) (defenderAt C at) (pricesOf x) (pricesAt C at)
+        (decides .onlyPrices A (narrow .sound) R (challengerAt C at) (defenderAt C at) (pricesOf x) (pricesAt C at) (omega (arith, defender-read, good .state))
         (λ i less. sym (prices-read C (x .prices) (at + 5) (good .fits) prices-there i (subst (λ (k : ℕ). i < k) (sym (decides .priceCount A (challengerAt C at)) ∙ count-read) less)))
         (subst₂ (λ (q u : ℕ). says .refutes A R q u (pricesOf x)) (sym challenger-read) (sym defender-read) (good .refutes)))
 

@@ -41,23 +41,23 @@ pub record FitsFields (L : Limits) (file : FileRule) : Type 0 where
 pub narrow-model : (L : Limits) (file : FileRule) (M : Model) → FitsFields L file → SoundModel L M → Narrow (automatonOf M)
 unfolding automatonOf
 narrow-model L file M fits sound =
-    record
-      { sound = sound-automaton L M sound
-      ; states = omega (arith, sound .states, fits .widths .states)
-      ; transitions = omega (arith, sound .count, fits .widths .transitions)
-      }
+    record {
+      sound = sound-automaton L M sound;
+      states = omega (arith, sound .states, fits .widths .states);
+      transitions = omega (arith, sound .count, fits .widths .transitions);
+    }
 
 module _ (L : Limits) (file : FileRule) (says : RuleSays) (decides : Decides file says) (fits : FitsFields L file) (bytes C blocks : List ℕ) (isBytes : Bytes bytes) (isC : Bytes C) where
   judged-accepted : (r : Reading) → readWhole L bytes ≡ r → accepted blocks ≡ judgeReading L file r C → Accepted L says (file .mark) bytes C blocks
   unfolding judgeReading
   judged-accepted (model M end) q e =
       let s = read-whole-sound L bytes M end isBytes q in
-      record
-        { M = M
-        ; sound = s .0
-        ; encoded = s .1
-        ; kept = accepted-kept L file says decides (automatonOf M) (narrow-model L file M fits (s .0)) C (is-bytes C isC) blocks e
-        }
+      record {
+        M = M;
+        sound = s .0;
+        encoded = s .1;
+        kept = accepted-kept L file says decides (automatonOf M) (narrow-model L file M fits (s .0)) C (is-bytes C isC) blocks e;
+      }
   judged-accepted (noModel number place) q e = let z : _≡_ {A = ℕ} 0 1 = cc in absurd (omega arith)
 
   accepted-judged : Accepted L says (file .mark) bytes C blocks → judge L file bytes C ≡ accepted blocks

@@ -8,6 +8,7 @@ use Rattle.bisimulation.specs.Largest.{LargestBisimulation}
 use Rattle.rules.specs.Limits.{Limits, limits}
 use Rattle.rules.specs.Model.{Model, automatonOf, HoldOneAutomaton}
 use Rattle.rules.specs.Reading.{readWhole, model}
+use Rattle.rules.specs.SoundModel.{Bytes}
 use Rattle.rules.specs.Certificate.{FileRule}
 use Rattle.rules.specs.PlainRule.{plainRule}
 use Rattle.rules.specs.Judging.{AcceptedFor, NameSameBlocks}
@@ -29,11 +30,11 @@ pub record LargestBlocks (L : Limits) (rule : StepRule) (bytes blocks : List ℕ
   pub holds : HoldsModel L bytes M
   pub largest : LargestBisimulation rule (automatonOf M) (InOneBlock blocks)
 
--- demand 3 for a step rule and what it decides of a certificate file: 'Whenever a certificate is accepted for an automaton, ..'; 'So any
+-- demand 3 for a step rule and what it decides of a certificate file, for all files of bytes: 'Whenever a certificate is accepted for an automaton, ..'; 'So any
 -- two accepted certificates for one automaton name the same blocks, also where two model files spell its fractions differently'
 pub record Demand3 (L : Limits) (file : FileRule) (rule : StepRule) : Type 1 where
-  pub largest : (bytes C blocks : List ℕ) → AcceptedFor L file bytes C blocks → LargestBlocks L rule bytes blocks
-  pub oneAnswer : (bytes₁ C₁ blocks₁ bytes₂ C₂ blocks₂ : List ℕ) → AcceptedFor L file bytes₁ C₁ blocks₁ → AcceptedFor L file bytes₂ C₂ blocks₂ → (M₁ M₂ : Model) → HoldsModel L bytes₁ M₁ → HoldsModel L bytes₂ M₂ → HoldOneAutomaton M₁ M₂ → NameSameBlocks blocks₁ blocks₂
+  pub largest : (bytes C blocks : List ℕ) → Bytes bytes → Bytes C → AcceptedFor L file bytes C blocks → LargestBlocks L rule bytes blocks
+  pub oneAnswer : (bytes₁ C₁ blocks₁ bytes₂ C₂ blocks₂ : List ℕ) → Bytes bytes₁ → Bytes C₁ → Bytes bytes₂ → Bytes C₂ → AcceptedFor L file bytes₁ C₁ blocks₁ → AcceptedFor L file bytes₂ C₂ blocks₂ → (M₁ M₂ : Model) → HoldsModel L bytes₁ M₁ → HoldsModel L bytes₂ M₂ → HoldOneAutomaton M₁ M₂ → NameSameBlocks blocks₁ blocks₂
 
 -- for document 01's limits and step rule
 abbrev pub PlainDemand3 : Type 1

@@ -21,10 +21,12 @@ pub mod BlocksRecord
 pub mod FlowRecords
 pub mod CertificateKept
 pub mod AcceptedExactly
+pub mod Demand3
 pub mod PlainSays
 pub mod PlainDecides
+pub mod LargestBlocks
+pub mod Demand3Holds
 pub mod Quotient
 pub mod Answers
 pub mod AnswerLaws
-pub mod Demand3
 pub mod Cases

@@ -44,10 +44,10 @@ module _ (A : Automaton) where
   all-conditions : (a : ℕ) (X Y : ℕ → ℤ) → allWithAction A a (priceCondition A X Y) ≡ true → PriceCondition A a X Y
   unfolding allWithAction priceCondition
   all-conditions a X Y e =
-      record
-        { holds = λ r l isA.
-          record { le = holds-T (same true isA refl ∙ all-below (A .transitions) _ e r l) }
-        }
+      record {
+        holds = λ r l isA.
+            record { le = holds-T (same true isA refl ∙ all-below (A .transitions) _ e r l) };
+      }
 
   conditions-all : (a : ℕ) (X Y : ℕ → ℤ) → PriceCondition A a X Y → allWithAction A a (priceCondition A X Y) ≡ true
   unfolding allWithAction priceCondition
@@ -61,10 +61,10 @@ module _ (A : Automaton) where
   all-related : (R : Pairs) (X G : ℕ → ℤ) → allRelated A R X G ≡ true → RelatedCondition A R X G
   unfolding allRelated
   all-related R X G e =
-      record
-        { holds = λ v u l k related.
-          record { le = holds-T (isTrue true related refl ∙ all-below (A .states) _ (all-below (A .states) _ e v l) u k) }
-        }
+      record {
+        holds = λ v u l k related.
+            record { le = holds-T (isTrue true related refl ∙ all-below (A .states) _ (all-below (A .states) _ e v l) u k) };
+      }
 
   related-all : (R : Pairs) (X G : ℕ → ℤ) → RelatedCondition A R X G → allRelated A R X G ≡ true
   unfolding allRelated ifTrue
@@ -86,49 +86,49 @@ module _ (A : Automaton) where
   -- prices without fault refute
   internal-refutes : (R : Pairs) (q t : ℕ) (X G : ℕ → ℤ) → (noFault ≡ internalPricesFault A R q t X G) ↔ RefutesInternal A R q t X G
   unfolding internalPricesFault
-  internal-refutes R q t X G =
-      ( λ e.
+  internal-refutes R q t X G = (
+    λ e.
         let a = keptTrue _ (fault 15) (allWithAction A 0 (priceCondition A X X)) (no-fault 14) e in
         let b = keptTrue _ (fault 15) (allRelated A R X G) (no-fault 14) (a .1) in
         let c = keptTrue _ (fault 16) (below A X G q t) (no-fault 15) (b .1) in
-        record { internal = all-conditions 0 X X (a .0); related = all-related R X G (b .0); last = last-holds X G q t (c .0) }
-      , λ h.
-        isTrue _ (conditions-all 0 X X (h .internal)) (isTrue _ (related-all R X G (h .related)) (isTrue _ (holds-last X G q t (h .last)) refl))
-      )
+        record { internal = all-conditions 0 X X (a .0); related = all-related R X G (b .0); last = last-holds X G q t (c .0) },
+    λ h.
+        isTrue _ (conditions-all 0 X X (h .internal)) (isTrue _ (related-all R X G (h .related)) (isTrue _ (holds-last X G q t (h .last)) refl)),
+  )
 
   external-refutes : (R : Pairs) (q t : ℕ) (X Y G : ℕ → ℤ) → (noFault ≡ externalPricesFault A R q t X Y G) ↔ RefutesExternal A R q t X Y G
   unfolding externalPricesFault
-  external-refutes R q t X Y G =
-      ( λ e.
+  external-refutes R q t X Y G = (
+    λ e.
         let a = keptTrue _ (fault 15) (allWithAction A 0 (priceCondition A X X)) (no-fault 14) e in
         let b = keptTrue _ (fault 15) (allWithAction A 0 (priceCondition A Y Y)) (no-fault 14) (a .1) in
         let c = keptTrue _ (fault 15) (allWithAction A (A .action q) (priceCondition A X Y)) (no-fault 14) (b .1) in
         let d = keptTrue _ (fault 15) (allRelated A R Y G) (no-fault 14) (c .1) in
         let f = keptTrue _ (fault 16) (below A X G q t) (no-fault 15) (d .1) in
-        record
-          { before = all-conditions 0 X X (a .0)
-          ; after = all-conditions 0 Y Y (b .0)
-          ; move = all-conditions (A .action q) X Y (c .0)
-          ; related = all-related R Y G (d .0)
-          ; last = last-holds X G q t (f .0)
-          }
-      , λ h.
+        record {
+          before = all-conditions 0 X X (a .0);
+          after = all-conditions 0 Y Y (b .0);
+          move = all-conditions (A .action q) X Y (c .0);
+          related = all-related R Y G (d .0);
+          last = last-holds X G q t (f .0);
+        },
+    λ h.
         isTrue _ (conditions-all 0 X X (h .before))
         (isTrue _ (conditions-all 0 Y Y (h .after))
         (isTrue _ (conditions-all (A .action q) X Y (h .move))
-        (isTrue _ (related-all R Y G (h .related)) (isTrue _ (holds-last X G q t (h .last)) refl))))
-      )
+        (isTrue _ (related-all R Y G (h .related)) (isTrue _ (holds-last X G q t (h .last)) refl)))),
+  )
 
   pub plain-refutes : (R : Pairs) (q t : ℕ) (p : ℕ → ℤ) → (noFault ≡ plainPricesFault A R q t p) ↔ PlainRefutes A R q t p
   unfolding plainPricesFault
-  plain-refutes R q t p =
-      ( λ e.
-        record
-          { internal = λ i. internal-refutes R q t p (λ v. p (A .states + v)) .0 (e ∙ sym (kind-internal q _ _ i))
-          ; external = λ n. external-refutes R q t p (λ v. p (A .states + v)) (λ v. p (2 * A .states + v)) .0 (e ∙ sym (kind-external q _ _ n))
-          }
-      , λ h. go h (ℕ-discrete (A .action q) 0)
-      )
+  plain-refutes R q t p = (
+    λ e.
+        record {
+          internal = λ i. internal-refutes R q t p (λ v. p (A .states + v)) .0 (e ∙ sym (kind-internal q _ _ i));
+          external = λ n. external-refutes R q t p (λ v. p (A .states + v)) (λ v. p (2 * A .states + v)) .0 (e ∙ sym (kind-external q _ _ n));
+        },
+    λ h. go h (ℕ-discrete (A .action q) 0),
+  )
     where
       go : PlainRefutes A R q t p → Dec (A .action q ≡ 0) → noFault ≡ byKind A q (internalPricesFault A R q t p (λ v. p (A .states + v))) (externalPricesFault A R q t p (λ v. p (A .states + v)) (λ v. p (2 * A .states + v)))
       go h (yes i) = internal-refutes R q t p (λ v. p (A .states + v)) .1 (h .internal i) ∙ kind-internal q _ _ i
@@ -145,37 +145,37 @@ module _ (A : Automaton) where
 
   internal-equations : (q t : ℕ) (f : Flow) → (noFault ≡ internalEquationsFault A q t f) ↔ InternalEquations A q t f
   unfolding internalEquationsFault
-  internal-equations q t f =
-      ( λ e.
+  internal-equations q t f = (
+    λ e.
         let a = keptTrue _ (fault 20) (allHold A (internalMove A f t)) (no-fault 19) e in
         let b = keptTrue _ (fault 21) (allHold A (atTarget A f q)) (no-fault 20) (a .1) in
-        record { move = all-hold (internalMove A f t) (a .0); target = all-hold (atTarget A f q) (b .0) }
-      , λ h. isTrue _ (hold-all (internalMove A f t) (h .move)) (isTrue _ (hold-all (atTarget A f q) (h .target)) refl)
-      )
+        record { move = all-hold (internalMove A f t) (a .0); target = all-hold (atTarget A f q) (b .0) },
+    λ h. isTrue _ (hold-all (internalMove A f t) (h .move)) (isTrue _ (hold-all (atTarget A f q) (h .target)) refl),
+  )
 
   external-equations : (q t : ℕ) (f : Flow) → (noFault ≡ externalEquationsFault A q t f) ↔ ExternalEquations A q t f
   unfolding externalEquationsFault
-  external-equations q t f =
-      ( λ e.
+  external-equations q t f = (
+    λ e.
         let a = keptTrue _ (fault 20) (allHold A (beforeMove A f t)) (no-fault 19) e in
         let b = keptTrue _ (fault 20) (allHold A (afterMove A f)) (no-fault 19) (a .1) in
         let c = keptTrue _ (fault 21) (allHold A (atTarget A f q)) (no-fault 20) (b .1) in
-        record { before = all-hold (beforeMove A f t) (a .0); after = all-hold (afterMove A f) (b .0); target = all-hold (atTarget A f q) (c .0) }
-      , λ h.
+        record { before = all-hold (beforeMove A f t) (a .0); after = all-hold (afterMove A f) (b .0); target = all-hold (atTarget A f q) (c .0) },
+    λ h.
         isTrue _ (hold-all (beforeMove A f t) (h .before))
-        (isTrue _ (hold-all (afterMove A f) (h .after)) (isTrue _ (hold-all (atTarget A f q) (h .target)) refl))
-      )
+        (isTrue _ (hold-all (afterMove A f) (h .after)) (isTrue _ (hold-all (atTarget A f q) (h .target)) refl)),
+  )
 
   pub plain-equations : (q t : ℕ) (f : Flow) → (noFault ≡ plainEquationsFault A q t f) ↔ PlainEquations A q t f
   unfolding plainEquationsFault
-  plain-equations q t f =
-      ( λ e.
-        record
-          { internal = λ i. internal-equations q t f .0 (e ∙ sym (kind-internal q _ _ i))
-          ; external = λ n. external-equations q t f .0 (e ∙ sym (kind-external q _ _ n))
-          }
-      , λ h. go h (ℕ-discrete (A .action q) 0)
-      )
+  plain-equations q t f = (
+    λ e.
+        record {
+          internal = λ i. internal-equations q t f .0 (e ∙ sym (kind-internal q _ _ i));
+          external = λ n. external-equations q t f .0 (e ∙ sym (kind-external q _ _ n));
+        },
+    λ h. go h (ℕ-discrete (A .action q) 0),
+  )
     where
       go : PlainEquations A q t f → Dec (A .action q ≡ 0) → noFault ≡ byKind A q (internalEquationsFault A q t f) (externalEquationsFault A q t f)
       go h (yes i) = internal-equations q t f .1 (h .internal i) ∙ kind-internal q _ _ i
@@ -225,10 +225,10 @@ module _ (A : Automaton) where
     condition-same : (a : ℕ) (X X′ Y Y′ : ℕ → ℤ) → AlikeOnStates X X′ → AlikeOnStates Y Y′ → PriceCondition A a X Y → PriceCondition A a X′ Y′
     unfolding SoundAutomaton
     condition-same a X X′ Y Y′ h k c =
-        record
-          { holds = λ r l isA.
-            subst₂ _≤ℤ_ (targets-same Y Y′ k r) (price-same X X′ h r (A .source r) (sound r l .from)) (c .holds r l isA)
-          }
+        record {
+          holds = λ r l isA.
+              subst₂ _≤ℤ_ (targets-same Y Y′ k r) (price-same X X′ h r (A .source r) (sound r l .from)) (c .holds r l isA);
+        }
 
     related-same : (R : Pairs) (X X′ G G′ : ℕ → ℤ) → AlikeOnStates X X′ → AlikeOnStates G G′ → RelatedCondition A R X G → RelatedCondition A R X′ G′
     unfolding AlikeOnStates
@@ -240,39 +240,39 @@ module _ (A : Automaton) where
     pub only-prices : (R : Pairs) (q t : ℕ) (p p′ : ℕ → ℤ) → t < A .states → ((i : ℕ) → i < plainPriceCount A q → p i ≡ p′ i) → PlainRefutes A R q t p → PlainRefutes A R q t p′
     unfolding plainPriceCount AlikeOnStates
     only-prices R q t p p′ l h c =
-        record
-          { internal = λ i.
-            let n : plainPriceCount A q ≡ 2 * A .states = sym (kind-internal q _ _ i) in
-            let d = c .internal i in
-            let x : AlikeOnStates p p′ = λ v m. h v (omega arith) in
-            let g : AlikeOnStates (λ v. p (A .states + v)) (λ v. p′ (A .states + v)) = λ v m. h (A .states + v) (omega arith) in
-            record
-              { internal = condition-same 0 _ _ _ _ x x (d .internal)
-              ; related = related-same R _ _ _ _ x g (d .related)
-              ; last = last-same q t _ _ _ _ l x g (d .last)
-              }
-          ; external = λ i.
-            let n : plainPriceCount A q ≡ 3 * A .states = sym (kind-external q _ _ i) in
-            let d = c .external i in
-            let x : AlikeOnStates p p′ = λ v m. h v (omega arith) in
-            let y : AlikeOnStates (λ v. p (A .states + v)) (λ v. p′ (A .states + v)) = λ v m. h (A .states + v) (omega arith) in
-            let g : AlikeOnStates (λ v. p (2 * A .states + v)) (λ v. p′ (2 * A .states + v)) = λ v m. h (2 * A .states + v) (omega arith) in
-            record
-              { before = condition-same 0 _ _ _ _ x x (d .before)
-              ; after = condition-same 0 _ _ _ _ y y (d .after)
-              ; move = condition-same (A .action q) _ _ _ _ x y (d .move)
-              ; related = related-same R _ _ _ _ y g (d .related)
-              ; last = last-same q t _ _ _ _ l x g (d .last)
-              }
-          }
+        record {
+          internal = λ i.
+              let n : plainPriceCount A q ≡ 2 * A .states = sym (kind-internal q _ _ i) in
+              let d = c .internal i in
+              let x : AlikeOnStates p p′ = λ v m. h v (omega arith) in
+              let g : AlikeOnStates (λ v. p (A .states + v)) (λ v. p′ (A .states + v)) = λ v m. h (A .states + v) (omega arith) in
+              record {
+                internal = condition-same 0 _ _ _ _ x x (d .internal);
+                related = related-same R _ _ _ _ x g (d .related);
+                last = last-same q t _ _ _ _ l x g (d .last);
+              };
+          external = λ i.
+              let n : plainPriceCount A q ≡ 3 * A .states = sym (kind-external q _ _ i) in
+              let d = c .external i in
+              let x : AlikeOnStates p p′ = λ v m. h v (omega arith) in
+              let y : AlikeOnStates (λ v. p (A .states + v)) (λ v. p′ (A .states + v)) = λ v m. h (A .states + v) (omega arith) in
+              let g : AlikeOnStates (λ v. p (2 * A .states + v)) (λ v. p′ (2 * A .states + v)) = λ v m. h (2 * A .states + v) (omega arith) in
+              record {
+                before = condition-same 0 _ _ _ _ x x (d .before);
+                after = condition-same 0 _ _ _ _ y y (d .after);
+                move = condition-same (A .action q) _ _ _ _ x y (d .move);
+                related = related-same R _ _ _ _ y g (d .related);
+                last = last-same q t _ _ _ _ l x g (d .last);
+              };
+        }
 
 -- document 01's tests decide its propositions
 pub plain-decides : Decides plainRule plainSays
 plain-decides =
-    record
-      { priceCount = λ A q. refl
-      ; refutes = plain-refutes
-      ; onlyPrices = only-prices
-      ; inQuestion = λ A q t layer r. (in-question A q layer r, question-in A q layer r)
-      ; equations = plain-equations
-      }
+    record {
+      priceCount = λ A q. refl;
+      refutes = plain-refutes;
+      onlyPrices = only-prices;
+      inQuestion = λ A q t layer r. (in-question A q layer r, question-in A q layer r);
+      equations = plain-equations;
+    }

@@ -33,9 +33,9 @@ pub record PlainEquations (A : Automaton) (q t : ℕ) (f : Flow) : Type 0 where
 
 abbrev pub plainSays : RuleSays
 plainSays =
-    record
-      { priceCount = plainPriceCount
-      ; refutes = PlainRefutes
-      ; inQuestion = λ A q t layer r. InPlainQuestion A q layer r
-      ; equations = PlainEquations
-      }
+    record {
+      priceCount = plainPriceCount;
+      refutes = PlainRefutes;
+      inQuestion = λ A q t layer r. InPlainQuestion A q layer r;
+      equations = PlainEquations;
+    }

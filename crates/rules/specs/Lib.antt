@@ -26,6 +26,7 @@ pub mod PlainSays
 pub mod PlainDecides
 pub mod LargestBlocks
 pub mod Demand3Holds
+pub mod Numbers
 pub mod Quotient
 pub mod Answers
 pub mod AnswerLaws

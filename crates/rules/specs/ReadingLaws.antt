@@ -245,13 +245,13 @@ transitionFault-small L s n m last entries at =
     (omega arith))
 
 -- a record's fault refuses at its place, or there is none and the next record decides
-pub refuse-cases {κ} : (P : Scan → Type κ) (f place : ℕ) (next : Scan) → P (refused f place) → (0 ≡ f → P next) → P (refuseAt f place next)
+pub refuse-cases {κ} : (P : Scan → Type κ) (f place : ℕ) (next : Scan) → ((f ≡ 0 → ⊥) → P (refused f place)) → (0 ≡ f → P next) → P (refuseAt f place next)
 unfolding refuseAt ifSame
 refuse-cases P f place next p q = go (eqb f 0) refl
   where
     go : (t : Bool) → eqb f 0 ≡ t → P (cond t next (refused f place))
     go true e = q (sym (eqb-true f 0 e))
-    go false e = p
+    go false e = p (eqb-false f 0 e)
 
 -- what a scan tells of its places: a sound model ends in the file, and a refusal of document 01 is at a place of it
 pub record Sound (L : Limits) (s : List ℕ) (n m count end : ℕ) : Type 0 where
@@ -265,6 +265,7 @@ pub record Sound (L : Limits) (s : List ℕ) (n m count end : ℕ) : Type 0 wher
   pub records : (r : ℕ) → r < count → afterTransition s (placeOf s r) ≤ length s
 
 pub record Placed (s : List ℕ) (number place : ℕ) : Type 0 where
+  pub some : 1 ≤ number
   pub known : number ≤ 9
   pub inside : place ≤ length s
 
@@ -300,7 +301,7 @@ transitions-tell L s head labels zero r last entries e before inside =
     }
 transitions-tell L s head labels (suc left) r last entries e before inside =
     refuse-cases (Tells L s) (transitionFault L s (statesOf s) (actionsOf s) last entries (placeOf s r)) (placeOf s r) _
-    (record { known = omega (arith, transitionFault-small L s (statesOf s) (actionsOf s) last entries (placeOf s r)); inside = inside })
+    (λ n. record { some = omega arith; known = omega (arith, transitionFault-small L s (statesOf s) (actionsOf s) last entries (placeOf s r)); inside = inside })
     (λ f.
     let p = transition-passed L s (statesOf s) (actionsOf s) last entries (placeOf s r) f in
     transitions-tell L s head labels left (suc r) (sourceAt s (placeOf s r)) (entries + entryCountAt s (placeOf s r)) (omega arith)
@@ -309,11 +310,11 @@ transitions-tell L s head labels (suc left) r last entries e before inside =
 pub scan-tells : (L : Limits) (s : List ℕ) → Tells L s (scanModel L s)
 unfolding scanModel placeOf Inside
 scan-tells L s =
-    refuse-cases (Tells L s) (headFault L s) 0 _ (record { known = omega (arith, headFault-small L s); inside = omega arith })
+    refuse-cases (Tells L s) (headFault L s) 0 _ (λ n. record { some = omega arith; known = omega (arith, headFault-small L s); inside = omega arith })
     (λ h.
     let head = head-passed L s h in
     refuse-cases (Tells L s) (labelsFault L s (statesOf s)) 6 _
-    (record { known = omega (arith, labelsFault-small L s (statesOf s)); inside = head .whole })
+    (λ n. record { some = omega arith; known = omega (arith, labelsFault-small L s (statesOf s)); inside = head .whole })
     (λ l.
     let labels = labels-passed L s (statesOf s) l in
     transitions-tell L s head labels (countOf s) 0 0 0 (omega arith) (λ k less. absurd (omega arith)) labels))
@@ -325,7 +326,7 @@ whole-tells L s = go (scanModel L s) (scan-tells L s)
   where
     go : (scan : Scan) → Tells L s scan → Tells L s (refuseBytesLeft s scan)
     go (sound n m count end) t =
-        eitherLess (Tells L s) end (length s) (record { known = omega arith; inside = t .inside }) t
+        eitherLess (Tells L s) end (length s) (record { some = omega arith; known = omega arith; inside = t .inside }) t
     go (refused number place) t = t
 
 -- The range of an entry's state may be tested after the last entry: states ascend, so once one is not below n neither is the lowest that

@@ -194,7 +194,7 @@ flowFault rule A C R q t at =
     ifLess (length C) (at + 2) (fault 11)
     (unlessSame (twoAt C at) 0x464C (fault 12)
     (ifLess (length C) (at + 8) (fault 11)
-    (unlessLess 0 (fourAt C (at + 2)) (fault 19)
+    (ifSame (fourAt C (at + 2)) 0 (fault 19)
     (ifLess (length C) (afterK C at) (fault 11)
     (firstOf (kFault rule A C q t (kCountAt C at) (at + 8) 0)
     (ifLess (length C) (afterK C at + 2) (fault 11)

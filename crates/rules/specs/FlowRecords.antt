@@ -8,7 +8,7 @@ use lib.Dec.{eqb}
 use lib.ListN.{length, length-append}
 use native.Mathlib.Omega.{arith}
 use Rattle.bisimulation.specs.Choice.{ifLess, ifSame, ifTrue, unlessLess, unlessSame, unlessTrue, both}
-use Rattle.bisimulation.specs.ChoiceLaws.{less, notLess, same, isTrue, pastLess, keptLess, keptSame, keptTrue}
+use Rattle.bisimulation.specs.ChoiceLaws.{less, notLess, same, notSame, isTrue, pastLess, pastSame, keptLess, keptSame, keptTrue}
 use Rattle.bisimulation.specs.Automaton.{Automaton}
 use Rattle.bisimulation.specs.StepRule.{Flow}
 use Rattle.bisimulation.specs.Pairs.{Pairs}
@@ -199,13 +199,13 @@ module _ (file : FileRule) (says : RuleSays) (decides : Decides file says) (A : 
       let a = pastLess (fault 11) _ (length C) (at + 2) (no-fault 10) e in
       let b = keptSame _ (fault 12) (twoAt C at) 0x464C (no-fault 11) (a .1) in
       let c = pastLess (fault 11) _ (length C) (at + 8) (no-fault 10) (b .1) in
-      let d = keptLess _ (fault 19) 0 (fourAt C (at + 2)) (no-fault 18) (c .1) in
+      let d = pastSame (fault 19) _ (fourAt C (at + 2)) 0 (no-fault 18) (c .1) in
       let f = pastLess (fault 11) _ (length C) (afterK C at) (no-fault 10) (d .1) in
       let g = none-first _ _ (f .1) in
       let h = pastLess (fault 11) _ (length C) (afterK C at + 2) (no-fault 10) (g .1) in
       let i = pastLess (fault 11) _ (length C) (afterFlow C at) (no-fault 10) (h .1) in
       let j = none-first _ _ (i .1) in
-      record { mark = b .0; some = d .0; ks = g .0; whole = i .0; ws = j .0; equations = j .1 }
+      record { mark = b .0; some = omega (arith, d .0); ks = g .0; whole = i .0; ws = j .0; equations = j .1 }
 
   pub flow-good : noFault ≡ flowFault file A C R (x .challenger) (x .defender) at → IsBytes C → GoodFlow says A R x (flowRecordAt C at)
   unfolding flowRecordAt kCountAt wCountAt
@@ -336,7 +336,7 @@ module _ (file : FileRule) (says : RuleSays) (decides : Decides file says) (A : 
         notLess _ (omega (arith, length-flow f))
         (same _ mark-read
         (notLess _ (omega (arith, length-flow f))
-        (less _ (omega (arith, D-read, good .some))
+        (notSame _ (omega (arith, D-read, good .some))
         (notLess _ (omega arith)
         (first-none _ _
         (subst (λ (n : ℕ). noFault ≡ kFault file A C (x .challenger) (x .defender) n (at + 8) 0) (sym k-count)

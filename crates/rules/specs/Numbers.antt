@@ -57,8 +57,8 @@ pub record ListedRule (file : FileRule) : Type 0 where
   pub prices : (A : Automaton) (R : Pairs) (q t : ℕ) (p : ℕ → ℤ) → Listed (file .pricesFault A R q t p)
   pub equations : (A : Automaton) (q t : ℕ) (f : Flow) → Listed (file .equationsFault A q t f)
 
-ten : Listed (fault 11)
-ten = listed 11 (omega arith) (omega arith)
+short : Listed (fault 11)
+short = listed 11 (omega arith) (omega arith)
 
 mark : Listed (fault 12)
 mark = listed 12 (omega arith) (omega arith)
@@ -72,17 +72,17 @@ pair = listed 14 (omega arith) (omega arith)
 module _ (L : Limits) (file : FileRule) (rule : ListedRule file) (A : Automaton) (C : List ℕ) where
   head-listed : Listed (certificateHeadFault L file C)
   unfolding certificateHeadFault
-  head-listed = orLess _ _ ten (orSame _ _ (orLess _ _ ten (orLess _ _ (listed 13 (omega arith) (omega arith)) none-listed)) mark)
+  head-listed = orLess _ _ short (orSame _ _ (orLess _ _ short (orLess _ _ (listed 13 (omega arith) (omega arith)) none-listed)) mark)
 
   refutation-listed : (R : Pairs) (at : ℕ) → Listed (refutationFault file A C R at)
   unfolding refutationFault pairFault
   refutation-listed R at =
-      orLess _ _ ten
+      orLess _ _ short
       (orSame _ _
-      (orLess _ _ ten
+      (orLess _ _ short
       (orFirst _ _
       (orLess _ _ (orLess _ _ (orSame _ _ pair (orTrue _ none-listed pair)) pair) pair)
-      (orLess _ _ ten (rule .prices A R _ _ _))))
+      (orLess _ _ short (rule .prices A R _ _ _))))
       mark)
 
   numbered-listed : (left at seen : ℕ) → Listed (numberedFault C left at seen)
@@ -94,9 +94,9 @@ module _ (L : Limits) (file : FileRule) (rule : ListedRule file) (A : Automaton)
   blocks-listed : (R : Pairs) (at : ℕ) → Listed (blocksFault A C R at)
   unfolding blocksFault pairsFault
   blocks-listed R at =
-      orLess _ _ ten
+      orLess _ _ short
       (orSame _ _
-      (orLess _ _ ten
+      (orLess _ _ short
       (orFirst _ _ (numbered-listed (A .states) (at + 2) 0) (orTrue _ none-listed (listed 18 (omega arith) (omega arith)))))
       mark)
 
@@ -119,16 +119,15 @@ module _ (L : Limits) (file : FileRule) (rule : ListedRule file) (A : Automaton)
   flow-listed : (R : Pairs) (q t at : ℕ) → Listed (flowFault file A C R q t at)
   unfolding flowFault
   flow-listed R q t at =
-      orLess _ _ ten
+      orLess _ _ short
       (orSame _ _
-      (orLess _ _ ten
-      (orLess _ _
-      (orLess _ _ ten
+      (orLess _ _ short
+      (orSame _ _ entry
+      (orLess _ _ short
       (orFirst _ _ (k-listed q t _ (at + 8) 0)
-      (orLess _ _ ten
-      (orLess _ _ ten
-      (orFirst _ _ (w-listed R _ _ 0) (rule .equations A q t _))))))
-      entry))
+      (orLess _ _ short
+      (orLess _ _ short
+      (orFirst _ _ (w-listed R _ _ 0) (rule .equations A q t _))))))))
       mark)
 
 -- the number of a judgement: acceptance, or a refusal of the list
@@ -173,13 +172,13 @@ module _ (L : Limits) (file : FileRule) (rule : ListedRule file) where
 pub plain-listed : ListedRule plainRule
 unfolding plainPricesFault plainEquationsFault byKind internalPricesFault externalPricesFault internalEquationsFault externalEquationsFault
 plain-listed =
-    record
-      { prices = λ A R q t p.
-        orSame _ _ (orTrue _ (orTrue _ (orTrue _ none-listed last) price) price)
-        (orTrue _ (orTrue _ (orTrue _ (orTrue _ (orTrue _ none-listed last) price) price) price) price)
-      ; equations = λ A q t f.
-        orSame _ _ (orTrue _ (orTrue _ none-listed target) move) (orTrue _ (orTrue _ (orTrue _ none-listed target) move) move)
-      }
+    record {
+      prices = λ A R q t p.
+          orSame _ _ (orTrue _ (orTrue _ (orTrue _ none-listed last) price) price)
+          (orTrue _ (orTrue _ (orTrue _ (orTrue _ (orTrue _ none-listed last) price) price) price) price);
+      equations = λ A q t f.
+          orSame _ _ (orTrue _ (orTrue _ none-listed target) move) (orTrue _ (orTrue _ (orTrue _ none-listed target) move) move);
+    }
   where
     price : Listed (fault 15)
     price = listed 15 (omega arith) (omega arith)

@@ -2,7 +2,7 @@
 use Prim.Native.Nat.{ℕ, _+_, _*_, _≤_, _<_, _^_}
 use mathlib.Core.Path.{_≡_}
 use mathlib.Core.Logic.{_≢_, _↔_}
-use mathlib.Core.Bool.{Bool, true}
+use mathlib.Core.Bool.{true}
 use mathlib.Core.List.{List, [], _∷_}
 use lib.ListN.{length, getD}
 use lib.IntN.{ℤ}
@@ -13,7 +13,6 @@ use Rattle.bisimulation.specs.Pairs.{Pairs, equalLabels, removed}
 use Rattle.rules.specs.Limits.{Limits}
 use Rattle.rules.specs.Model.{Model, modelBytes, automatonOf}
 use Rattle.rules.specs.SoundModel.{Each, SoundModel}
-use Rattle.rules.specs.Certificate.{FileRule}
 use Rattle.rules.specs.Judging.{Question, questions}
 use Rattle.rules.specs.Encoding.{Refutation, KEntry, WEntry, FlowRecord, Certificate, certificateBytes, pricesOf, flowOf}
 

@@ -1,24 +1,23 @@
 -- Demand 2: judging answers acceptance exactly when the rules are kept.
-use Prim.Native.Nat.{ℕ, _≤_, _<_}
+use Prim.Native.Nat.{ℕ, _<_}
 use mathlib.Core.Path.{_≡_, refl, sym, _∙_, ap, subst}
 use mathlib.Core.Logic.{_↔_}
 use mathlib.Core.List.{List}
 use lib.ListN.{length, List·getD-eq-default}
 use native.Mathlib.Omega.{arith}
 use native.Mathlib.Decide.{decLt}
-use Rattle.bisimulation.specs.Automaton.{Automaton}
 use Rattle.rules.specs.Limits.{Limits}
 use Rattle.rules.specs.Bytes.{byteAt}
-use Rattle.rules.specs.Model.{Model, modelBytes, automatonOf}
+use Rattle.rules.specs.Model.{Model, automatonOf}
 use Rattle.rules.specs.Reading.{Reading, model, noModel, readWhole}
 use Rattle.rules.specs.SoundModel.{Bytes, SoundModel, FitsWidths}
 use Rattle.rules.specs.SoundModelLaws.{sound-automaton}
 use Rattle.rules.specs.ReadBack.{read-back-whole}
 use Rattle.rules.specs.ReadSound.{read-whole-sound}
 use Rattle.rules.specs.Standing.{IsBytes}
-use Rattle.rules.specs.Certificate.{fault, FileRule}
-use Rattle.rules.specs.Judging.{Judgement, accepted, rejected, judgeCertificate, judgeReading, judge}
-use Rattle.rules.specs.Accepted.{RuleSays, Kept, Accepted}
+use Rattle.rules.specs.Certificate.{FileRule}
+use Rattle.rules.specs.Judging.{accepted, judgeReading, judge}
+use Rattle.rules.specs.Accepted.{RuleSays, Accepted}
 use Rattle.rules.specs.RefutationRecords.{Decides, Narrow}
 use Rattle.rules.specs.CertificateKept.{accepted-kept, kept-accepted}
 

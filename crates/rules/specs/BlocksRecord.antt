@@ -1,22 +1,22 @@
 -- A blocks record without fault is the encoding of blocks that keep document 01's rules, and the other way round.
-use Prim.Native.Nat.{ℕ, zero, suc, _+_, _-_, _≤_, _<_, min}
+use Prim.Native.Nat.{ℕ, zero, suc, _+_, _≤_, _<_}
 use mathlib.Core.Path.{_≡_, refl, sym, _∙_, ap, subst}
 use mathlib.Core.Logic.{_↔_}
 use mathlib.Core.Bool.{Bool, true, false, not, cond}
-use mathlib.Core.List.{List, [], _∷_, _++_}
+use mathlib.Core.List.{List, [], _∷_}
 use lib.Dec.{eqb}
-use lib.ListN.{length, take, drop, getD, length-take, length-drop}
+use lib.ListN.{length, drop, getD, length-take, length-drop}
 use lib.Seq.{getD-take, getD-drop, ext-getD}
 use borrow.Author.Tests.{eqb-true, eqb-false, eq-eqb, ne-eqb}
 use native.Mathlib.Omega.{arith}
 use native.Mathlib.Decide.{ℕ-discrete, decLt}
-use Rattle.bisimulation.specs.Choice.{ifLess, ifSame, ifTrue, unlessTrue, allBelow}
-use Rattle.bisimulation.specs.ChoiceLaws.{less, notLess, same, notSame, isTrue, pastLess, keptSame, keptTrue, all-below, below-all, false-not}
+use Rattle.bisimulation.specs.Choice.{ifSame, allBelow}
+use Rattle.bisimulation.specs.ChoiceLaws.{notLess, same, notSame, isTrue, pastLess, keptSame, keptTrue, all-below, below-all, false-not}
 use Rattle.bisimulation.specs.Automaton.{Automaton}
 use Rattle.bisimulation.specs.Pairs.{Pairs}
 use Rattle.rules.specs.Bytes.{byteAt, twoAt, twoBytes}
 use Rattle.rules.specs.Standing.{Stands, IsBytes, stands-first, mark-stands, after-two, rest-of-two, two-is}
-use Rattle.rules.specs.Certificate.{Fault, fault, noFault, firstOf, blocksAt, numberedFault, sameBlock, agree, pairsFault, blocksFault}
+use Rattle.rules.specs.Certificate.{fault, noFault, blocksAt, numberedFault, sameBlock, agree, pairsFault, blocksFault}
 use Rattle.rules.specs.Encoding.{blocksBytes}
 use Rattle.rules.specs.Accepted.{GoodBlocks}
 use Rattle.rules.specs.RefutationRecords.{no-fault, none-first, first-none}

@@ -1,26 +1,21 @@
 -- Demand 2 of the certificate file: judging accepts it exactly when it is the encoding of a certificate that keeps every rule.
 use Prim.Native.Nat.{ℕ, zero, suc, _+_, _≤_, _<_}
-use mathlib.Core.Path.{_≡_, refl, sym, _∙_, ap, ap₂, subst}
-use mathlib.Core.Logic.{_↔_}
-use mathlib.Core.Bool.{Bool, true, false, cond}
+use mathlib.Core.Path.{_≡_, refl, sym, _∙_, ap, subst}
 use mathlib.Core.List.{List, [], _∷_, _++_}
-use lib.Dec.{eqb}
 use lib.ListN.{length, length-append}
-use borrow.Author.Tests.{eqb-true}
 use native.Mathlib.Omega.{arith}
-use Rattle.bisimulation.specs.Choice.{ifLess, ifSame}
-use Rattle.bisimulation.specs.ChoiceLaws.{less, notLess, same, pastLess, keptSame}
+use Rattle.bisimulation.specs.ChoiceLaws.{notLess, same, pastLess, keptSame}
 use Rattle.bisimulation.specs.Automaton.{Automaton}
 use Rattle.bisimulation.specs.Pairs.{Pairs, equalLabels, removed}
 use Rattle.rules.specs.Limits.{Limits}
 use Rattle.rules.specs.Bytes.{twoAt, twoBytes}
 use Rattle.rules.specs.Standing.{Stands, IsBytes, stands-nothing, stands-all, stands-is, stands-both, stands-first, stands-second, stands-at, mark-stands, after-two, rest-of-two, two-is, length-two}
-use Rattle.rules.specs.Certificate.{Fault, fault, noFault, FileRule, refutationCount, certificateHeadFault, challengerAt, defenderAt, afterRefutation, refutationFault, pairsAfter, blocksAt, blocksFault, flowFault, afterFlow}
+use Rattle.rules.specs.Certificate.{Fault, fault, noFault, FileRule, refutationCount, certificateHeadFault, afterRefutation, pairsAfter, blocksAt, afterFlow}
 use Rattle.rules.specs.Judging.{Judgement, accepted, rejected, rejectAt, Question, questions, judgeFlows, judgeBlocks, judgeRefutations, judgeCertificate}
 use Rattle.rules.specs.Encoding.{Refutation, FlowRecord, Certificate, listBytes, refutationBytes, blocksBytes, flowBytes, certificateBytes}
-use Rattle.rules.specs.Accepted.{RuleSays, Kept, GoodRefutation, GoodRefutations, done, refute, GoodBlocks, GoodFlow, GoodFlows, KeepsRules}
+use Rattle.rules.specs.Accepted.{RuleSays, Kept, GoodRefutations, done, refute, GoodBlocks, GoodFlows, KeepsRules}
 use Rattle.rules.specs.RefutationRecords.{Decides, Narrow, no-fault, refutationAt, refutation-good, refutation-stands, refutation-after, challenger-read, defender-read, after-read, refutation-passes}
-use Rattle.rules.specs.BlocksRecord.{blocks-good, blocks-stand, block-length, blocks-read, blocks-pass}
+use Rattle.rules.specs.BlocksRecord.{blocks-good, blocks-stand, blocks-read, blocks-pass}
 use Rattle.rules.specs.FlowRecords.{flowRecordAt, flow-good, flow-stands, flow-after, flow-end, flow-passes}
 
 -- acceptance is no rejection, so a record before it has no fault

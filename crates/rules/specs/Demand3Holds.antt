@@ -1,32 +1,29 @@
 -- Demand 3 holds, for every step rule whose tests decide what it says and whose theory covers it; so for document 01's own.
-use Prim.Native.Nat.{ℕ, _<_}
-use mathlib.Core.Path.{_≡_, refl, sym, _∙_, ap, subst}
+use Prim.Native.Nat.{ℕ}
+use mathlib.Core.Path.{_≡_, sym, _∙_, subst}
 use mathlib.Core.Logic.{_↔_}
 use mathlib.Core.List.{List}
-use lib.ListN.{length, getD}
+use lib.ListN.{length}
 use native.Mathlib.Omega.{arith}
-use Rattle.bisimulation.specs.Automaton.{Automaton, SameProbabilities}
 use Rattle.bisimulation.specs.Largest.{LargestBisimulation}
 use Rattle.bisimulation.specs.Rule.{Rule}
 use Rattle.bisimulation.specs.Spelling.{oneAnswer}
 use Rattle.bisimulation.specs.Plain.{plain}
 use Rattle.rules.specs.Limits.{Limits, limits}
 use Rattle.rules.specs.Model.{Model, automatonOf, HoldOneAutomaton}
-use Rattle.rules.specs.Reading.{Reading, model, readWhole}
 use Rattle.rules.specs.SoundModel.{Bytes, SoundModel}
 use Rattle.rules.specs.SoundModelLaws.{limits-fit, sound-automaton}
 use Rattle.rules.specs.ReadSound.{read-whole-exactly}
 use Rattle.rules.specs.Certificate.{FileRule}
 use Rattle.rules.specs.PlainRule.{plainRule}
 use Rattle.rules.specs.Judging.{AcceptedFor, NameSameBlocks}
-use Rattle.rules.specs.Encoding.{Certificate}
-use Rattle.rules.specs.Accepted.{RuleSays, GoodBlocks, KeepsRules, Accepted}
+use Rattle.rules.specs.Accepted.{RuleSays, Accepted}
 use Rattle.rules.specs.RefutationRecords.{Decides}
 use Rattle.rules.specs.AcceptedExactly.{FitsFields, accepted-exactly}
 use Rattle.rules.specs.PlainSays.{plainSays}
 use Rattle.rules.specs.PlainDecides.{plain-decides}
 use Rattle.rules.specs.LargestBlocks.{Meets, kept-largest, plain-meets, Numbered, one-numbering}
-use Rattle.rules.specs.Demand3.{InOneBlock, HoldsModel, LargestBlocks, Demand3, PlainDemand3}
+use Rattle.rules.specs.Demand3.{InOneBlock, HoldsModel, Demand3, PlainDemand3}
 
 module _ (L : Limits) (file : FileRule) (says : RuleSays) (decides : Decides file says) (fits : FitsFields L file) (rule : Rule) (theory : Meets rule says) where
   -- an accepted certificate's blocks are numbered and whole, and the largest relation

@@ -1,23 +1,21 @@
 -- A flow record without fault is the encoding of a flow that keeps document 01's rules, and the other way round.
-use Prim.Native.Nat.{ℕ, zero, suc, _+_, _*_, _^_, _≤_, _<_}
+use Prim.Native.Nat.{ℕ, zero, suc, _+_, _*_, _≤_, _<_}
 use mathlib.Core.Path.{_≡_, refl, sym, _∙_, ap, ap₂, subst, subst₂, fun-ext}
-use mathlib.Core.Logic.{_↔_}
-use mathlib.Core.Bool.{Bool, true}
+use mathlib.Core.Bool.{true}
 use mathlib.Core.List.{List, [], _∷_, _++_}
 use lib.Dec.{eqb}
 use lib.ListN.{length, length-append}
 use native.Mathlib.Omega.{arith}
-use Rattle.bisimulation.specs.Choice.{ifLess, ifSame, ifTrue, unlessLess, unlessSame, unlessTrue, both}
+use Rattle.bisimulation.specs.Choice.{ifTrue, both}
 use Rattle.bisimulation.specs.ChoiceLaws.{less, notLess, same, notSame, isTrue, pastLess, pastSame, keptLess, keptSame, keptTrue}
 use Rattle.bisimulation.specs.Automaton.{Automaton}
-use Rattle.bisimulation.specs.StepRule.{Flow}
 use Rattle.bisimulation.specs.Pairs.{Pairs}
 use Rattle.rules.specs.Bytes.{byteAt, twoAt, threeAt, fourAt, twoBytes}
-use Rattle.rules.specs.Standing.{Stands, IsBytes, stands-nothing, stands-both, stands-first, stands-second, stands-cons, stands-byte, stands-rest, stands-at, mark-stands, after-two, after-four, rest-of-two, rest-of-four, two-is, two-stands, two-small, length-two, length-four, four-is, four-stands, four-small}
-use Rattle.rules.specs.Certificate.{Fault, fault, noFault, firstOf, FileRule, kCountAt, afterK, wCountAt, afterFlow, kOf, wOf, flowAt, kFault, wFault, flowFault}
+use Rattle.rules.specs.Standing.{Stands, IsBytes, stands-both, stands-first, stands-second, stands-cons, stands-byte, stands-rest, stands-at, mark-stands, after-two, after-four, rest-of-two, rest-of-four, two-is, two-stands, two-small, length-two, length-four, four-is, four-stands, four-small}
+use Rattle.rules.specs.Certificate.{fault, noFault, FileRule, kCountAt, afterK, wCountAt, afterFlow, kOf, wOf, flowAt, kFault, wFault, flowFault}
 use Rattle.rules.specs.Judging.{Question}
 use Rattle.rules.specs.Encoding.{KEntry, WEntry, FlowRecord, fourBytes, listBytes, kBytes, wBytes, flowBytes, kIn, wIn, flowOf}
-use Rattle.rules.specs.Accepted.{RuleSays, Ascends, GoodK, GoodW, GoodFlow, kKey, wKey}
+use Rattle.rules.specs.Accepted.{RuleSays, GoodK, GoodW, GoodFlow, kKey, wKey}
 use Rattle.rules.specs.EntryLists.{entriesFrom, length-entriesFrom, length-listBytes, entries-stand, entries-read, entries-good, entries-pass}
 use Rattle.rules.specs.RefutationRecords.{Decides, Narrow, no-fault, none-first, first-none}
 

@@ -13,22 +13,20 @@ use native.Mathlib.Omega.{arith}
 use native.Mathlib.Decide.{ℕ-discrete, decLt}
 use Rattle.bisimulation.specs.Choice.{ifSame, ifTrue, both}
 use Rattle.bisimulation.specs.ChoiceLaws.{same, notSame, isTrue, false-not}
-use Rattle.bisimulation.specs.Automaton.{Automaton, SoundAutomaton, SameProbabilities}
-use Rattle.bisimulation.specs.StepRule.{StepRule}
-use Rattle.bisimulation.specs.Pairs.{Pairs, equalLabels, removed}
+use Rattle.bisimulation.specs.Automaton.{Automaton, SoundAutomaton}
+use Rattle.bisimulation.specs.Pairs.{Pairs, equalLabels}
 use Rattle.bisimulation.specs.Largest.{LargestBisimulation}
 use Rattle.bisimulation.specs.Rule.{Rule}
 use Rattle.bisimulation.specs.PairsLeft.{PairsLeft, start, refuted}
-use Rattle.bisimulation.specs.Blocks.{SharedWhenLeft, QuestionsMet}
+use Rattle.bisimulation.specs.Blocks.{SharedWhenLeft}
 use Rattle.bisimulation.specs.BlocksLargest.{blocksLargest}
-use Rattle.bisimulation.specs.Spelling.{oneAnswer}
 use Rattle.bisimulation.specs.Plain.{plain}
 use Rattle.rules.specs.Limits.{Limits}
 use Rattle.rules.specs.Certificate.{sameBlock}
 use Rattle.rules.specs.Judging.{Question, questionsOfPair, questionsOfState, questionsFrom, questions}
 use Rattle.rules.specs.Encoding.{Refutation, KEntry, WEntry, FlowRecord, Certificate, pricesOf, kIn, wIn, flowOf}
 use Rattle.rules.specs.SoundModel.{Each}
-use Rattle.rules.specs.Accepted.{RuleSays, GoodRefutation, GoodRefutations, GoodBlocks, GoodK, GoodW, GoodFlow, GoodFlows, KeepsRules}
+use Rattle.rules.specs.Accepted.{RuleSays, GoodRefutations, GoodK, GoodW, GoodFlow, GoodFlows, KeepsRules}
 use Rattle.rules.specs.PlainSays.{InPlainQuestion, plainSays}
 use Rattle.rules.specs.Demand3.{InOneBlock}
 

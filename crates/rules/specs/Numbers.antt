@@ -1,5 +1,5 @@
 -- Judging answers a number that document 01 has for it, whatever bytes arrive.
-use Prim.Native.Nat.{ℕ, zero, suc, _+_, _*_, _≤_, _<_}
+use Prim.Native.Nat.{ℕ, zero, suc, _+_, _≤_}
 use mathlib.Core.Path.{_≡_, refl}
 use mathlib.Core.Logic.{_⊎_, inl, inr, ⊎-elim}
 use mathlib.Core.Bool.{Bool, true, false, cond}
@@ -16,8 +16,7 @@ use Rattle.bisimulation.specs.StepRule.{Flow}
 use Rattle.bisimulation.specs.Pairs.{Pairs}
 use Rattle.rules.specs.Limits.{Limits}
 use Rattle.rules.specs.Bytes.{byteAt, twoAt, threeAt}
-use Rattle.rules.specs.Model.{automatonOf}
-use Rattle.rules.specs.Reading.{Scan, sound, refused, scanWhole, Reading, model, noModel, readingOf, readWhole}
+use Rattle.rules.specs.Reading.{Scan, sound, refused, scanWhole, readingOf, readWhole}
 use Rattle.rules.specs.ReadingLaws.{Tells, whole-tells}
 use Rattle.rules.specs.Certificate.{Fault, fault, noFault, firstOf, FileRule, certificateHeadFault, pairFault, refutationFault, numberedFault, pairsFault, blocksFault, kFault, wFault, flowFault}
 use Rattle.rules.specs.PlainRule.{byKind, internalPricesFault, externalPricesFault, plainPricesFault, internalEquationsFault, externalEquationsFault, plainEquationsFault, plainRule}

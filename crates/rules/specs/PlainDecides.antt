@@ -1,15 +1,15 @@
 -- The tests of document 01's step rule find no fault exactly where its propositions hold.
-use Prim.Native.Nat.{ℕ, zero, suc, _+_, _*_, _≤_, _<_}
+use Prim.Native.Nat.{ℕ, zero, suc, _+_, _*_, _<_}
 use mathlib.Core.Path.{_≡_, refl, sym, _∙_, ap, ap₂, subst, subst₂}
 use mathlib.Core.Logic.{_≢_, _↔_}
-use mathlib.Core.Bool.{Bool, true, false, cond}
+use mathlib.Core.Bool.{Bool, true, false}
 use lib.Dec.{T, eqb}
 use lib.IntN.{ℤ, pos, _*ℤ_, _+ℤ_}
-use lib.Signed.{leZ, ltZ, _≤ℤ_, _<ℤ_}
-use borrow.Author.Tests.{eqb-true, eqb-false, eq-eqb, ne-eqb}
+use lib.Signed.{leZ, _≤ℤ_, _<ℤ_}
+use borrow.Author.Tests.{eqb-true, eq-eqb}
 use native.Mathlib.Omega.{arith}
 use native.Mathlib.Decide.{ℕ-discrete}
-use Rattle.bisimulation.specs.Choice.{ifSame, ifTrue, unlessTrue, allBelow}
+use Rattle.bisimulation.specs.Choice.{ifSame, ifTrue}
 use Rattle.bisimulation.specs.ChoiceLaws.{same, notSame, isTrue, keptTrue, all-below, below-all, false-not}
 use Rattle.bisimulation.specs.Automaton.{Automaton, SoundAutomaton}
 use Rattle.bisimulation.specs.Sum.{sumℤ}
@@ -17,7 +17,7 @@ use Rattle.bisimulation.specs.StepRule.{Flow, Sides, Holds, beforeMove, afterMo
 use Rattle.bisimulation.specs.Pairs.{Pairs}
 use Rattle.bisimulation.specs.Prices.{priceAt, priceOfTargets}
 use Rattle.bisimulation.specs.Refutation.{PriceCondition, RelatedCondition, LastCondition, RefutesInternal, RefutesExternal, PlainRefutes}
-use Rattle.rules.specs.Certificate.{Fault, fault, noFault}
+use Rattle.rules.specs.Certificate.{fault, noFault}
 use Rattle.rules.specs.PlainRule.{byKind, plainPriceCount, priceCondition, allWithAction, allRelated, below, internalPricesFault, externalPricesFault, plainPricesFault, plainInQuestion, allHold, internalEquationsFault, externalEquationsFault, plainEquationsFault, plainRule}
 use Rattle.rules.specs.RefutationRecords.{Decides, no-fault}
 use Rattle.rules.specs.PlainSays.{InPlainQuestion, InternalEquations, ExternalEquations, PlainEquations, plainSays}

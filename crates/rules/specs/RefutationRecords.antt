@@ -10,16 +10,17 @@ use lib.IntN.{ℤ, pos}
 use lib.Signed.{mag}
 use borrow.Author.Tests.{eqb-true, eqb-false}
 use native.Mathlib.Omega.{arith}
-use Rattle.bisimulation.specs.Choice.{ifLess, ifSame, ifTrue, unlessLess, unlessSame, unlessTrue}
-use Rattle.bisimulation.specs.ChoiceLaws.{via, less, notLess, same, notSame, isTrue, pastLess, keptLess, keptSame, pastSame, keptTrue}
+use Rattle.bisimulation.specs.Choice.{ifSame}
+use Rattle.bisimulation.specs.ChoiceLaws.{less, notLess, same, notSame, isTrue, pastLess, keptLess, keptSame, pastSame, keptTrue}
 use Rattle.bisimulation.specs.Automaton.{Automaton, SoundAutomaton}
 use Rattle.bisimulation.specs.StepRule.{Flow}
 use Rattle.bisimulation.specs.Pairs.{Pairs}
-use Rattle.rules.specs.Bytes.{byteAt, twoAt, signedAt, twoBytes}
-use Rattle.rules.specs.Standing.{Stands, IsBytes, stands-nothing, stands-both, stands-first, stands-second, stands-cons, stands-byte, stands-rest, stands-at, mark-stands, after-two, rest-of-two, two-is, two-stands, two-small, length-two, length-four, signed-is, signed-stands, signed-small}
+use Rattle.rules.specs.Bytes.{twoAt, signedAt, twoBytes}
+use Rattle.rules.specs.Standing.{Stands, IsBytes, stands-first, stands-cons, stands-byte, stands-rest, stands-at, mark-stands, after-two, rest-of-two, two-is, two-stands, length-two, length-four, signed-is, signed-stands, signed-small}
 use Rattle.rules.specs.Certificate.{Fault, fault, noFault, firstOf, FileRule, challengerAt, defenderAt, pricesAt, afterRefutation, pairFault, refutationFault}
-use Rattle.rules.specs.Encoding.{Refutation, fourBytes, complement, listBytes, priceBytes, pricesBytes, refutationBytes, pricesOf}
+use Rattle.rules.specs.Encoding.{Refutation, complement, priceBytes, pricesBytes, refutationBytes, pricesOf}
 use Rattle.rules.specs.Accepted.{RuleSays, GoodRefutation}
+use Rattle.rules.specs.EntryLists.{entriesFrom, length-entriesFrom, length-listBytes, entries-stand, entries-read}
 use Rattle.rules.specs.SoundModel.{Each}
 
 -- what a rule decides of a file is what it says: a test that finds no fault is the proposition
@@ -53,54 +54,38 @@ unfolding firstOf
 first-none f next e h = same f (sym (ap (λ (g : Fault). g .number) e)) h
 
 -- the prices that stand from a place on
-unfoldable pub pricesFrom : List ℕ → ℕ → ℕ → List ℤ
-pricesFrom C zero at = []
-pricesFrom C (suc n) at = signedAt C at ∷ pricesFrom C n (at + 4)
+abbrev pub pricesFrom : List ℕ → ℕ → ℕ → List ℤ
+pricesFrom C n at = entriesFrom 4 (signedAt C) n at
 
-pub length-pricesFrom : (C : List ℕ) (n at : ℕ) → length (pricesFrom C n at) ≡ n
-unfolding pricesFrom
-length-pricesFrom C zero at = refl
-length-pricesFrom C (suc n) at = ap suc (length-pricesFrom C n (at + 4))
+length-price : (z : ℤ) → length (priceBytes z) ≡ 4
+unfolding priceBytes
+length-price z = length-four (complement z)
 
-pub length-pricesBytes : (zs : List ℤ) → length (pricesBytes zs) ≡ 4 * length zs
-unfolding listBytes priceBytes
-length-pricesBytes [] = refl
-length-pricesBytes (z ∷ zs) =
-    length-append (fourBytes (complement z)) (pricesBytes zs)
-    ∙ omega (arith, length-four (complement z), length-pricesBytes zs)
+price-stands : (C : List ℕ) → IsBytes C → (at : ℕ) → at + 4 ≤ length C → Stands C at (priceBytes (signedAt C at))
+unfolding priceBytes
+price-stands C b at h = signed-stands C at b h
 
-pub pricesFrom-stand : (C : List ℕ) (n at : ℕ) → IsBytes C → at + 4 * n ≤ length C → Stands C at (pricesBytes (pricesFrom C n at))
-unfolding pricesFrom listBytes priceBytes
-pricesFrom-stand C zero at b h = stands-nothing C at (omega arith)
-pricesFrom-stand C (suc n) at b h =
-    stands-both C at (fourBytes (complement (signedAt C at))) (pricesBytes (pricesFrom C n (at + 4))) (signed-stands C at b (omega arith))
-    (stands-at (pricesFrom-stand C n (at + 4) b (omega arith)) (ap (λ (k : ℕ). at + k) (sym (length-four (complement (signedAt C at))))))
+price-read : (C : List ℕ) (at : ℕ) (z : ℤ) → mag z < 2 ^ 31 → Stands C at (priceBytes z) → signedAt C at ≡ z
+unfolding priceBytes
+price-read C at z = signed-is C at z
 
-pub pricesFrom-fit : (C : List ℕ) (n at : ℕ) → IsBytes C → Each (λ z. mag z < 2 ^ 31) (pricesFrom C n at)
-unfolding pricesFrom Each
+pricesFrom-fit : (C : List ℕ) (n at : ℕ) → IsBytes C → Each (λ z. mag z < 2 ^ 31) (pricesFrom C n at)
+unfolding entriesFrom Each
 pricesFrom-fit C zero at b = tt
 pricesFrom-fit C (suc n) at b = (signed-small C at b, pricesFrom-fit C n (at + 4) b)
 
 -- a price by its number
-pub pricesFrom-get : (C : List ℕ) (n at i : ℕ) → i < n → getD (pricesFrom C n at) i (pos 0) ≡ signedAt C (at + 4 * i)
-unfolding pricesFrom
+pricesFrom-get : (C : List ℕ) (n at i : ℕ) → i < n → getD (pricesFrom C n at) i (pos 0) ≡ signedAt C (at + 4 * i)
+unfolding entriesFrom
 pricesFrom-get C zero at i h = absurd (omega arith)
 pricesFrom-get C (suc n) at zero h = let e : at ≡ at + 4 * 0 = omega arith in ap (signedAt C) e
 pricesFrom-get C (suc n) at (suc i) h =
     let e : at + 4 + 4 * i ≡ at + 4 * suc i = omega arith in pricesFrom-get C n (at + 4) i (omega arith) ∙ ap (signedAt C) e
 
-pub prices-read : (C : List ℕ) (zs : List ℤ) (at : ℕ) → Each (λ z. mag z < 2 ^ 31) zs → Stands C at (pricesBytes zs) → (i : ℕ) → i < length zs → signedAt C (at + 4 * i) ≡ getD zs i (pos 0)
-unfolding listBytes priceBytes Each
-prices-read C [] at g h i less = absurd (omega arith)
-prices-read C (x ∷ xs) at g h zero less =
-    let e : at + 4 * 0 ≡ at = omega arith in
-    ap (signedAt C) e ∙ signed-is C at x (g .0) (stands-first C at (fourBytes (complement x)) (pricesBytes xs) h)
-prices-read C (x ∷ xs) at g h (suc i) less =
-    let e : at + 4 * suc i ≡ at + 4 + 4 * i = omega arith in
-    ap (signedAt C) e
-    ∙ prices-read C xs (at + 4) (g .1)
-    (stands-at (stands-second C at (fourBytes (complement x)) (pricesBytes xs) h) (ap (λ (k : ℕ). at + k) (length-four (complement x))))
-    i (omega arith)
+prices-read : (C : List ℕ) (zs : List ℤ) (at : ℕ) → Each (λ z. mag z < 2 ^ 31) zs → Stands C at (pricesBytes zs) → (i : ℕ) → i < length zs → signedAt C (at + 4 * i) ≡ getD zs i (pos 0)
+prices-read C zs at g h i less =
+    sym (pricesFrom-get C (length zs) at i less)
+    ∙ ap (λ (l : List ℤ). getD l i (pos 0)) (entries-read ℤ 4 priceBytes length-price C (signedAt C) (λ z. mag z < 2 ^ 31) (price-read C) zs at g h)
 
 -- the refutation that stands at a place
 unfoldable pub refutationAt : FileRule → Automaton → List ℕ → ℕ → Refutation
@@ -118,7 +103,7 @@ length-refutation x =
       arith,
       length-append (twoBytes (x .challenger)) (x .defender ∷ pricesBytes (x .prices)),
       length-two (x .challenger),
-      length-pricesBytes (x .prices),
+      length-listBytes ℤ 4 priceBytes length-price (x .prices),
     )
 
 module _ (file : FileRule) (says : RuleSays) (decides : Decides file says) (A : Automaton) (narrow : Narrow A) (C : List ℕ) (R : Pairs) (at : ℕ) where
@@ -164,7 +149,7 @@ module _ (file : FileRule) (says : RuleSays) (decides : Decides file says) (A : 
         state = p .state;
         different = p .different;
         related = p .related;
-        whole = length-pricesFrom C _ _ ∙ decides .priceCount A (challengerAt C at);
+        whole = length-entriesFrom 4 (signedAt C) _ _ ∙ decides .priceCount A (challengerAt C at);
         fits = pricesFrom-fit C _ _ b;
         refutes =
             decides .onlyPrices A (narrow .sound) R (challengerAt C at) (defenderAt C at) (pricesAt C at) _ (p .state)
@@ -181,13 +166,13 @@ module _ (file : FileRule) (says : RuleSays) (decides : Decides file says) (A : 
       (after-two C (at + 2) (twoAt C (at + 2)) _ (two-stands C (at + 2) b (omega arith))
       (stands-at
       (stands-cons C (at + 4) _ _ (omega arith) refl
-      (stands-at (pricesFrom-stand C _ (at + 5) b (omega arith)) (omega arith)))
+      (stands-at (entries-stand ℤ 4 priceBytes length-price C (signedAt C) (price-stands C b) _ (at + 5) (omega arith)) (omega arith)))
       (omega arith)))
 
   pub refutation-after : noFault ≡ refutationFault file A C R at → afterRefutation file A C at ≡ at + length (refutationBytes (refutationAt file A C at))
   unfolding refutationAt afterRefutation
   refutation-after e =
-      omega (arith, length-refutation (refutationAt file A C at), length-pricesFrom C (file .priceCount A (challengerAt C at)) (at + 5))
+      omega (arith, length-refutation (refutationAt file A C at), length-entriesFrom 4 (signedAt C) (file .priceCount A (challengerAt C at)) (at + 5))
 
   -- where the encoding of a good refutation stands, there is no fault
   module _ (x : Refutation) (good : GoodRefutation says A R x) (stands : Stands C at (refutationBytes x)) where

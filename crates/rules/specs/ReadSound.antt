@@ -11,35 +11,11 @@ use Rattle.rules.specs.Limits.{Limits}
 use Rattle.rules.specs.Bytes.{byteAt, twoAt, twoBytes}
 use Rattle.rules.specs.BytesLaws.{byte-then, two-small, two-then}
 use Rattle.rules.specs.Model.{Entry, Transition, Model, entriesBytes, transitionBytes, transitionsBytes, headBytes, labelsBytes, modelBytes}
-use Rattle.rules.specs.Reading.{statesOf, actionsOf, countOf, rangeFault, headFault, labelFault, labelsFault, sourceAt, actionAt, denominatorAt, entryCountAt, afterTransition, entriesFault, transitionFault, Scan, sound, refused, refuseAt, scanTransitions, scanModel, refuseBytesLeft, scanWhole, entriesAt, transitionAt, transitionsAt, modelAt, model, readingOf, readModel, readWhole}
-use Rattle.rules.specs.ReadingLaws.{transition-passed, head-passed, labels-passed}
+use Rattle.rules.specs.Reading.{statesOf, actionsOf, countOf, labelFault, sourceAt, actionAt, denominatorAt, entryCountAt, afterTransition, entriesFault, transitionFault, Scan, sound, refused, refuseAt, scanTransitions, scanModel, refuseBytesLeft, scanWhole, entriesAt, transitionAt, transitionsAt, modelAt, model, readingOf, readModel, readWhole}
+use Rattle.rules.specs.ReadingLaws.{zero-not, transition-passed, head-passed, labels-passed}
 use Rattle.rules.specs.SoundModel.{Each, sumOver, Bytes, TransitionRules, SoundModel, FitsWidths}
 use Rattle.rules.specs.SoundModelLaws.{From, StatesFrom, SourcesFrom, from-lower, along-from}
 use Rattle.rules.specs.ReadBack.{read-back, read-back-whole}
-
-zero-not : (k : ℕ) → 0 ≡ suc k → ⊥
-zero-not k e = omega arith
-
--- what records without fault tell besides ReadingLaws: the marks, m and the labels
-transition-mark : (L : Limits) (s : List ℕ) (n m last entries at : ℕ) → 0 ≡ transitionFault L s n m last entries at → twoAt s at ≡ 0x5452
-unfolding transitionFault
-transition-mark L s n m last entries at e =
-    keptSame _ 2 (twoAt s at) 0x5452 (zero-not 1) (pastLess 1 _ (length s) (at + 2) (zero-not 0) e .1) .0
-
-head-mark : (L : Limits) (s : List ℕ) → 0 ≡ headFault L s → (twoAt s 0 ≡ 0x5041) × (0 < actionsOf s)
-unfolding headFault rangeFault
-head-mark L s e =
-    let a = keptSame _ 2 (twoAt s 0) 0x5041 (zero-not 1) (pastLess 1 _ (length s) 2 (zero-not 0) e .1) in
-    let b = pastLess 1 _ (length s) 6 (zero-not 0) (a .1) in
-    let c = keptLess _ 3 0 (statesOf s) (zero-not 2) (b .1) in
-    let d = pastLess 3 _ (L .states) (statesOf s) (zero-not 2) (c .1) in
-    (a .0, keptLess _ 3 0 (actionsOf s) (zero-not 2) (d .1) .0)
-
-labels-mark : (L : Limits) (s : List ℕ) (n : ℕ) → 0 ≡ labelsFault L s n → (twoAt s 6 ≡ 0x4C42) × (0 ≡ labelFault L s n 8)
-unfolding labelsFault
-labels-mark L s n e =
-    let a = keptSame _ 2 (twoAt s 6) 0x4C42 (zero-not 1) (pastLess 1 _ (length s) 8 (zero-not 0) e .1) in
-    (a .0, pastLess 1 _ (length s) (8 + n) (zero-not 0) (a .1) .1)
 
 -- the labels at a place
 labels-sound : (L : Limits) (s : List ℕ) (n at : ℕ) → at + n ≤ length s → 0 ≡ labelFault L s n at → Each (λ (b : ℕ). b ≤ L .label) (take n (drop at s))
@@ -92,7 +68,7 @@ transition-sound L s bytes n m last entries at e =
     let p = transition-passed L s n m last entries at e in
     let fixed : at + 7 ≤ length s = p .fixed in
     let es = entries-sound s bytes n (denominatorAt s at) (entryCountAt s at) (at + 7) 0 0 (afterTransition s at) refl (p .whole) (sym (p .shares)) in
-    let mark = transition-mark L s n m last entries at e in
+    let mark = p .mark in
     let count = sym (es .count) in
     record {
       rules =
@@ -173,9 +149,8 @@ model-sound L s bytes n m count end e =
     let a = refuse-past n m count end _ 0 _ e in
     let b = refuse-past n m count end _ 6 _ (a .1) in
     let head = head-passed L s (a .0) in
-    let mark = head-mark L s (a .0) in
-    let inside : 8 + statesOf s ≤ length s = labels-passed L s (statesOf s) (b .0) in
-    let labels = labels-mark L s (statesOf s) (b .0) in
+    let labels = labels-passed L s (statesOf s) (b .0) in
+    let inside = labels .whole in
     let ts = transitions-sound L s bytes (statesOf s) (actionsOf s) (countOf s) (countOf s) 0 0 (8 + statesOf s) n m count end (omega arith) inside (b .1) in
     let size : length (take (statesOf s) (drop 8 s)) ≡ statesOf s = length-take-le (statesOf s) (drop 8 s) (omega (arith, length-drop 8 s)) in
     let M = modelAt s in
@@ -188,10 +163,10 @@ model-sound L s bytes n m count end e =
           record {
             someState = omega (arith, head .some);
             states = omega (arith, head .states);
-            someAction = mark .1;
+            someAction = head .someAction;
             actions = head .actions;
             count = omega (arith, ts .count, head .transitions);
-            labels = labels-sound L s (statesOf s) 8 inside (labels .1);
+            labels = labels-sound L s (statesOf s) 8 inside (labels .small);
             transitions = subst (λ (k : ℕ). Each (TransitionRules k (actionsOf s)) (M .transitions)) (sym size) (ts .rules);
             sources = along-from _ _ _ 0 (ts .sources);
             entries = omega (arith, ts .few);
@@ -204,7 +179,7 @@ model-sound L s bytes n m count end e =
           (two-then s bytes 4 6 refl (omega arith)
           (two-then s bytes 6 8 refl (omega arith)
           records)))) ∙
-          (λ i. twoBytes (mark .0 i) ++ (sym size i ∷ M .actions ∷ (twoBytes (sym (ts .count) i) ++ (twoBytes (labels .0 i) ++ ((M .labels ++ transitionsBytes (M .transitions)) ++ drop end s)))));
+          (λ i. twoBytes (head .mark i) ++ (sym size i ∷ M .actions ∷ (twoBytes (sym (ts .count) i) ++ (twoBytes (labels .mark i) ++ ((M .labels ++ transitionsBytes (M .transitions)) ++ drop end s)))));
     }
 
 -- the scan behind a reading that gives a model

@@ -78,6 +78,7 @@ placeOf-next s r = rw add-one
 
 -- what a transition record without fault tells
 pub record PassedTransition (L : Limits) (s : List ℕ) (n m last entries at : ℕ) : Type 0 where
+  pub mark : twoAt s at ≡ 0x5452
   pub fixed : at + 7 ≤ length s
   pub ascends : last ≤ sourceAt s at
   pub source : sourceAt s at < n
@@ -116,7 +117,7 @@ firstFault-none f next = go (eqb f 0) refl
     go true q e = (sym (eqb-true f 0 q), e)
     go false q e = absurd (eqb-false f 0 q (sym e))
 
-zero-not : (k : ℕ) → 0 ≡ suc k → ⊥
+pub zero-not : (k : ℕ) → 0 ≡ suc k → ⊥
 zero-not k e = omega arith
 
 pub transition-passed : (L : Limits) (s : List ℕ) (n m last entries at : ℕ) → 0 ≡ transitionFault L s n m last entries at → PassedTransition L s n m last entries at
@@ -135,6 +136,7 @@ transition-passed L s n m last entries at e =
     let l = pastLess 8 _ (L .entries) (entries + entryCountAt s at) (zero-not 7) (k .1) in
     let o = pastLess 1 _ (length s) (afterTransition s at) (zero-not 0) (d .1) in
     record {
+      mark = b .0;
       fixed = c .0;
       ascends = f .0;
       source = g .0;
@@ -149,9 +151,11 @@ transition-passed L s n m last entries at e =
 
 -- what a head without fault tells
 pub record PassedHead (L : Limits) (s : List ℕ) : Type 0 where
+  pub mark : twoAt s 0 ≡ 0x5041
   pub whole : 6 ≤ length s
   pub some : 0 < statesOf s
   pub states : statesOf s ≤ L .states
+  pub someAction : 0 < actionsOf s
   pub actions : actionsOf s ≤ L .actions
   pub transitions : countOf s ≤ L .transitions
 
@@ -166,15 +170,21 @@ head-passed L s e =
     let g = keptLess _ 3 0 (actionsOf s) (zero-not 2) (f .1) in
     let h = pastLess 3 _ (L .actions) (actionsOf s) (zero-not 2) (g .1) in
     let i = pastLess 3 _ (L .transitions) (countOf s) (zero-not 2) (h .1) in
-    record { whole = c .0; some = d .0; states = f .0; actions = h .0; transitions = i .0 }
+    record { mark = b .0; whole = c .0; some = d .0; states = f .0; someAction = g .0; actions = h .0; transitions = i .0 }
 
--- labels without fault are whole
-pub labels-passed : (L : Limits) (s : List ℕ) (n : ℕ) → 0 ≡ labelsFault L s n → 8 + n ≤ length s
+-- what labels without fault tell
+pub record PassedLabels (L : Limits) (s : List ℕ) (n : ℕ) : Type 0 where
+  pub mark : twoAt s 6 ≡ 0x4C42
+  pub whole : 8 + n ≤ length s
+  pub small : 0 ≡ labelFault L s n 8
+
+pub labels-passed : (L : Limits) (s : List ℕ) (n : ℕ) → 0 ≡ labelsFault L s n → PassedLabels L s n
 unfolding labelsFault
 labels-passed L s n e =
     let a = pastLess 1 _ (length s) 8 (zero-not 0) e in
     let b = keptSame _ 2 (twoAt s 6) 0x4C42 (zero-not 1) (a .1) in
-    pastLess 1 _ (length s) (8 + n) (zero-not 0) (b .1) .0
+    let c = pastLess 1 _ (length s) (8 + n) (zero-not 0) (b .1) in
+    record { mark = b .0; whole = c .0; small = c .1 }
 
 -- every fault of a model record is a number of document 01's model table
 small-first : (f next : ℕ) → f ≤ 8 → next ≤ 8 → firstFault f next ≤ 8
@@ -316,7 +326,7 @@ scan-tells L s =
     refuse-cases (Tells L s) (labelsFault L s (statesOf s)) 6 _
     (λ n. record { some = omega arith; known = omega (arith, labelsFault-small L s (statesOf s)); inside = head .whole })
     (λ l.
-    let labels = labels-passed L s (statesOf s) l in
+    let labels = labels-passed L s (statesOf s) l .whole in
     transitions-tell L s head labels (countOf s) 0 0 0 (omega arith) (λ k less. absurd (omega arith)) labels))
 
 -- bytes left are refused, and else nothing changes

@@ -41,7 +41,7 @@ scan-transitions-requires : tie.Need-scan-transitions-requires
 scan-transitions-requires c κs =
     let h = head-passed limits _ (sym (c .before .before .before .before .if1 .left) ∙ c .before .before .before .before .before .head-fault .ensures) in (
       c .before .before .before .head-at .ensures .states,
-      labels-passed limits _ _ (sym (c .before .if2 .left) ∙ c .before .before .labels-fault .ensures),
+      labels-passed limits _ _ (sym (c .before .if2 .left) ∙ c .before .before .labels-fault .ensures) .whole,
       omega arith,
       c .before .before .before .before .before .before .before .pre,
     )

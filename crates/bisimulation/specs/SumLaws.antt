@@ -1,12 +1,13 @@
 -- The laws of finite sums.
 use Prim.Native.Nat.{ℕ, zero, suc, _+_, _*_, _≤_, _<_}
-use mathlib.Core.Path.{_≡_, refl, sym, ap}
+use mathlib.Core.Path.{_≡_, refl, sym, ap, ap₂}
 use native.Mathlib.Decide.{ℕ-discrete}
 use native.Mathlib.Nat.{le-refl}
+use lib.IntN.{ℤ, _+ℤ_}
 use native.Mathlib.Omega.{arith}
 use Rattle.bisimulation.specs.Choice.{ifSame}
 use Rattle.bisimulation.specs.ChoiceLaws.{same, notSame, eitherSame}
-use Rattle.bisimulation.specs.Sum.{sum}
+use Rattle.bisimulation.specs.Sum.{sum, sumℤ}
 
 -- terms that are equal, at most as large, or 0
 pub sumCong : (n : ℕ) (f g : ℕ → ℕ) → ((i : ℕ) → i < n → f i ≡ g i) → sum n f ≡ sum n g
@@ -59,3 +60,9 @@ sumSame (suc n) t f l = go (sumSame n t f) (ℕ-discrete n t)
 -- no term is above the sum
 pub termLe : (n : ℕ) (f : ℕ → ℕ) (i : ℕ) → i < n → f i ≤ sum n f
 termLe n f i l = omega (arith, sumSame n i f l, sumMono n (λ j. ifSame j i (f j) 0) f (λ j k. eitherSame (λ x. x ≤ f j) j i (le-refl (f j)) (omega arith)))
+
+-- equal terms, equal sums of numbers with a sign
+pub sumℤCong : (n : ℕ) (f g : ℕ → ℤ) → ((i : ℕ) → i < n → f i ≡ g i) → sumℤ n f ≡ sumℤ n g
+unfolding sumℤ
+sumℤCong zero f g h = refl
+sumℤCong (suc n) f g h = ap₂ _+ℤ_ (sumℤCong n f g (λ i l. h i (omega arith))) (h n (omega arith))

@@ -30,4 +30,6 @@ pub mod Numbers
 pub mod Quotient
 pub mod Answers
 pub mod AnswerLaws
+pub mod ModelAutomaton
+pub mod EntryPrices
 pub mod Cases

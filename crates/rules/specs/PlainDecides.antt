@@ -1,10 +1,10 @@
 -- The tests of document 01's step rule find no fault exactly where its propositions hold.
-use Prim.Native.Nat.{ℕ, zero, suc, _+_, _*_, _<_}
-use mathlib.Core.Path.{_≡_, refl, sym, _∙_, ap, ap₂, subst, subst₂}
+use Prim.Native.Nat.{ℕ, _+_, _*_, _<_}
+use mathlib.Core.Path.{_≡_, refl, sym, _∙_, ap, subst, subst₂}
 use mathlib.Core.Logic.{_≢_, _↔_}
 use mathlib.Core.Bool.{Bool, true, false}
 use lib.Dec.{T, eqb}
-use lib.IntN.{ℤ, pos, _*ℤ_, _+ℤ_}
+use lib.IntN.{ℤ, pos, _*ℤ_}
 use lib.Signed.{leZ, _≤ℤ_, _<ℤ_}
 use borrow.Author.Tests.{eqb-true, eq-eqb}
 use native.Mathlib.Omega.{arith}
@@ -12,7 +12,7 @@ use native.Mathlib.Decide.{ℕ-discrete}
 use Rattle.bisimulation.specs.Choice.{ifSame, ifTrue}
 use Rattle.bisimulation.specs.ChoiceLaws.{same, notSame, isTrue, keptTrue, all-below, below-all, false-not}
 use Rattle.bisimulation.specs.Automaton.{Automaton, SoundAutomaton}
-use Rattle.bisimulation.specs.Sum.{sumℤ}
+use Rattle.bisimulation.specs.SumLaws.{sumℤCong}
 use Rattle.bisimulation.specs.StepRule.{Flow, Sides, Holds, beforeMove, afterMove, internalMove, atTarget}
 use Rattle.bisimulation.specs.Pairs.{Pairs}
 use Rattle.bisimulation.specs.Prices.{priceAt, priceOfTargets}
@@ -205,17 +205,12 @@ module _ (A : Automaton) where
       sym (notSame _ (λ z. omega arith) (notSame _ (λ z. omega arith) (same _ a (sym (eq-eqb _ _ b))) ∙ kind-external q false _ n))
 
   -- the conditions look at prices of states alone
-  sumℤ-same : (n : ℕ) (f g : ℕ → ℤ) → ((i : ℕ) → i < n → f i ≡ g i) → sumℤ n f ≡ sumℤ n g
-  unfolding sumℤ
-  sumℤ-same zero f g h = refl
-  sumℤ-same (suc n) f g h = ap₂ _+ℤ_ (sumℤ-same n f g (λ i l. h i (omega arith))) (h n (omega arith))
-
   AlikeOnStates : (X Y : ℕ → ℤ) → Type 0
   AlikeOnStates X Y = (v : ℕ) → v < A .states → X v ≡ Y v
 
   targets-same : (X Y : ℕ → ℤ) → AlikeOnStates X Y → (r : ℕ) → priceOfTargets A X r ≡ priceOfTargets A Y r
   unfolding priceOfTargets AlikeOnStates
-  targets-same X Y h r = sumℤ-same (A .states) _ _ (λ v l. ap (λ (z : ℤ). pos (A .weight r v) *ℤ z) (h v l))
+  targets-same X Y h r = sumℤCong (A .states) _ _ (λ v l. ap (λ (z : ℤ). pos (A .weight r v) *ℤ z) (h v l))
 
   price-same : (X Y : ℕ → ℤ) → AlikeOnStates X Y → (r x : ℕ) → x < A .states → priceAt A X r x ≡ priceAt A Y r x
   unfolding priceAt AlikeOnStates

@@ -63,7 +63,7 @@ abbrev pub SourcesFrom : ℕ → List Transition → Type 0
 SourcesFrom = From (λ (t : Transition). t .source) (λ (t : Transition). t .source)
 
 -- a state below the lowest has no weight
-no-weight : (es : List Entry) (lowest v : ℕ) → StatesFrom lowest es → v < lowest → weightOf es v ≡ 0
+pub no-weight : (es : List Entry) (lowest v : ℕ) → StatesFrom lowest es → v < lowest → weightOf es v ≡ 0
 unfolding From weightOf
 no-weight [] lowest v h less = refl
 no-weight (e ∷ es) lowest v h less =

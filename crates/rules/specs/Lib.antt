@@ -32,4 +32,5 @@ pub mod Answers
 pub mod AnswerLaws
 pub mod ModelAutomaton
 pub mod EntryPrices
+pub mod FetchedRun
 pub mod Cases

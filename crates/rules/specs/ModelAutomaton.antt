@@ -19,7 +19,7 @@ transition-from s (suc left) first (suc r) h =
     let e : suc first + r ≡ first + suc r = omega arith in
     transition-from s left (suc first) r (omega arith) ∙ ap (λ (k : ℕ). transitionAt s (placeOf s k)) e
 
-length-transitionsAt : (s : List ℕ) (left at : ℕ) → length (transitionsAt s left at) ≡ left
+pub length-transitionsAt : (s : List ℕ) (left at : ℕ) → length (transitionsAt s left at) ≡ left
 unfolding transitionsAt
 length-transitionsAt s zero at = refl
 length-transitionsAt s (suc left) at = ap suc (length-transitionsAt s left (afterTransition s at))
@@ -39,24 +39,24 @@ module _ (s : List ℕ) where
   automaton-label v h = getD-take (statesOf s) (drop 8 s) v 0 h ∙ getD-drop 8 s v 0
 
   module _ (r : ℕ) (below : r < countOf s) where
-    here : getD (modelAt s .transitions) r noTransition ≡ transitionAt s (placeOf s r)
+    pub transition-is : getD (modelAt s .transitions) r noTransition ≡ transitionAt s (placeOf s r)
     unfolding modelAt placeOf
-    here = let e : 0 + r ≡ r = omega arith in transition-from s (countOf s) 0 r below ∙ ap (λ (k : ℕ). transitionAt s (placeOf s k)) e
+    transition-is = let e : 0 + r ≡ r = omega arith in transition-from s (countOf s) 0 r below ∙ ap (λ (k : ℕ). transitionAt s (placeOf s k)) e
 
     -- the fields of a transition
     pub automaton-source : automatonOf (modelAt s) .source r ≡ sourceAt s (placeOf s r)
     unfolding automatonOf transitionAt
-    automaton-source = ap (λ (t : Transition). t .source) here
+    automaton-source = ap (λ (t : Transition). t .source) transition-is
 
     pub automaton-action : automatonOf (modelAt s) .action r ≡ actionAt s (placeOf s r)
     unfolding automatonOf transitionAt
-    automaton-action = ap (λ (t : Transition). t .action) here
+    automaton-action = ap (λ (t : Transition). t .action) transition-is
 
     pub automaton-denominator : automatonOf (modelAt s) .denominator r ≡ denominatorAt s (placeOf s r)
     unfolding automatonOf transitionAt
-    automaton-denominator = ap (λ (t : Transition). t .denominator) here
+    automaton-denominator = ap (λ (t : Transition). t .denominator) transition-is
 
     -- its weights, by its entries
     pub automaton-weight : (v : ℕ) → automatonOf (modelAt s) .weight r v ≡ weightOf (entriesAt s (entryCountAt s (placeOf s r)) (placeOf s r + 7)) v
     unfolding automatonOf transitionAt
-    automaton-weight v = ap (λ (t : Transition). weightOf (t .entries) v) here
+    automaton-weight v = ap (λ (t : Transition). weightOf (t .entries) v) transition-is

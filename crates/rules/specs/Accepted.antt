@@ -13,7 +13,7 @@ use Rattle.bisimulation.specs.Pairs.{Pairs, equalLabels, removed}
 use Rattle.rules.specs.Limits.{Limits}
 use Rattle.rules.specs.Model.{Model, modelBytes, automatonOf}
 use Rattle.rules.specs.SoundModel.{Each, SoundModel}
-use Rattle.rules.specs.Judging.{Question, questions}
+use Rattle.rules.specs.Judging.{Question}
 use Rattle.rules.specs.Encoding.{Refutation, KEntry, WEntry, FlowRecord, Certificate, certificateBytes, pricesOf, flowOf}
 
 -- what a step rule says of a certificate, as propositions
@@ -39,6 +39,7 @@ pub record GoodRefutation (says : RuleSays) (A : Automaton) (R : Pairs) (x : Ref
   pub different : x .defender ≢ A .source (x .challenger)
   pub related : R (A .source (x .challenger)) (x .defender) ≡ true
   pub whole : length (x .prices) ≡ says .priceCount A (x .challenger)
+  -- each price fits 4 bytes: mag z is z, or -z less 1 where z is negative
   pub fits : Each (λ z. mag z < 2 ^ 31) (x .prices)
   pub refutes : says .refutes A R (x .challenger) (x .defender) (pricesOf x)
 
@@ -88,6 +89,29 @@ pub record GoodFlow (says : RuleSays) (A : Automaton) (R : Pairs) (x : Question)
   pub wOrder : Ascends wKey 0 (f .ws)
   pub equations : says .equations A (x .challenger) (x .defender) (flowOf f)
 
+-- an element stands somewhere in a list
+pub data Among {X : Type 0} (x : X) : List X → Type 0 where
+  here : {xs : List X} → Among x (x ∷ xs)
+  there : {y : X} {xs : List X} → Among x xs → Among x (y ∷ xs)
+
+-- 'each ordered pair (s,t) of different states in one block, .. and for each transition of s': the transition asks t
+pub record Asks (A : Automaton) (blocks : List ℕ) (x : Question) : Type 0 where
+  pub transition : x .challenger < A .transitions
+  pub first : A .source (x .challenger) < A .states
+  pub second : x .defender < A .states
+  pub different : A .source (x .challenger) ≢ x .defender
+  pub together : getD blocks (A .source (x .challenger)) 0 ≡ getD blocks (x .defender) 0
+
+-- 'ascending by s, then t, and .. in file order': (s, t, transition) as one number, since t is a state and the transition one of all
+unfoldable pub questionKey : Automaton → Question → ℕ
+questionKey A x = (A .source (x .challenger) * A .states + x .defender) * A .transitions + x .challenger
+
+-- the questions that the flow records meet: those and no others, each once, in that order
+pub record IsQuestions (A : Automaton) (blocks : List ℕ) (xs : List Question) : Type 0 where
+  pub only : (x : Question) → Among x xs → Asks A blocks x
+  pub all : (x : Question) → Asks A blocks x → Among x xs
+  pub order : Ascends (questionKey A) 0 xs
+
 -- 'Place alone says which question a record meets': one flow for each question, in their order
 pub data GoodFlows (says : RuleSays) (A : Automaton) (R : Pairs) : List Question → List FlowRecord → Type 0 where
   done : GoodFlows says A R [] []
@@ -99,7 +123,9 @@ pub record KeepsRules (L : Limits) (says : RuleSays) (A : Automaton) (K : Certif
   pub few : length (K .refutations) ≤ L .refutations
   pub refutations : GoodRefutations says A (equalLabels A) (K .refutations) left
   pub blocks : GoodBlocks A left (K .blocks)
-  pub flows : GoodFlows says A left (questions A (K .blocks)) (K .flows)
+  pub asked : List Question
+  pub isAsked : IsQuestions A (K .blocks) asked
+  pub flows : GoodFlows says A left asked (K .flows)
 
 -- the certificate bytes are the encoding of a certificate that keeps every rule for an automaton and names these blocks
 pub record Kept (L : Limits) (says : RuleSays) (mark : ℕ) (A : Automaton) (C blocks : List ℕ) : Type 0 where

@@ -14,6 +14,7 @@ use Rattle.rules.specs.Certificate.{Fault, fault, noFault, FileRule, ref
 use Rattle.rules.specs.Judging.{Judgement, accepted, rejected, rejectAt, Question, questions, judgeFlows, judgeBlocks, judgeRefutations, judgeCertificate}
 use Rattle.rules.specs.Encoding.{Refutation, FlowRecord, Certificate, listBytes, refutationBytes, blocksBytes, flowBytes, certificateBytes}
 use Rattle.rules.specs.Accepted.{RuleSays, Kept, GoodRefutations, done, refute, GoodBlocks, GoodFlows, KeepsRules}
+use Rattle.rules.specs.QuestionsLaws.{questions-asked, questions-only}
 use Rattle.rules.specs.RefutationRecords.{Decides, Narrow, no-fault, refutationAt, refutation-good, refutation-stands, refutation-after, challenger-read, defender-read, after-read, refutation-passes}
 use Rattle.rules.specs.BlocksRecord.{blocks-good, blocks-stand, blocks-read, blocks-pass}
 use Rattle.rules.specs.FlowRecords.{flowRecordAt, flow-good, flow-stands, flow-after, flow-end, flow-passes}
@@ -217,6 +218,8 @@ module _ (L : Limits) (file : FileRule) (says : RuleSays) (decides : Decides fil
               few = omega (arith, head .few, r .count);
               refutations = r .good;
               blocks = f .good;
+              asked = questions A blocks;
+              isAsked = questions-asked A blocks;
               flows = f .flows;
             };
         named = refl;
@@ -237,7 +240,7 @@ module _ (L : Limits) (file : FileRule) (says : RuleSays) (decides : Decides fil
       (subst (λ (n : ℕ). accepted (K .blocks) ≡ judgeRefutations L file A C n (equalLabels A) 4) (sym count)
       (refutations-accepted (K .blocks) (equalLabels A) (keeps .left) (K .refutations) 4 (keeps .refutations)
       (stands-first C 4 (listBytes refutationBytes (K .refutations)) _ body)
-      (blocks-accepted (keeps .left) (4 + length (listBytes refutationBytes (K .refutations))) (K .blocks) (K .flows) (keeps .blocks) (keeps .flows)
+      (blocks-accepted (keeps .left) (4 + length (listBytes refutationBytes (K .refutations))) (K .blocks) (K .flows) (keeps .blocks) (subst (λ (xs : List Question). GoodFlows says A (keeps .left) xs (K .flows)) (questions-only A (K .blocks) (keeps .asked) (keeps .isAsked)) (keeps .flows))
       (stands-second C 4 (listBytes refutationBytes (K .refutations)) _ body)
       (omega (
         arith,

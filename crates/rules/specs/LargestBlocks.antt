@@ -1,18 +1,18 @@
 -- Demand 3 of the files: the accepted blocks are the largest relation, and two certificates for one automaton name the same blocks.
-use Prim.Native.Nat.{ℕ, zero, suc, _+_, _≤_, _<_}
-use mathlib.Core.Path.{_≡_, refl, sym, _∙_, ap, subst, subst₂}
+use Prim.Native.Nat.{ℕ, zero, suc, _≤_, _<_}
+use mathlib.Core.Path.{_≡_, refl, sym, _∙_, ap, subst₂}
 use mathlib.Core.Logic.{_≢_, _↔_}
 use mathlib.Core.Bool.{Bool, true, false, cond}
-use mathlib.Core.List.{List, [], _∷_, _++_}
+use mathlib.Core.List.{List, [], _∷_}
 use lib.Dec.{eqb}
 use lib.ListN.{length, getD}
 use lib.IntN.{ℤ}
 use lib.Seq.{ext-getD}
-use borrow.Author.Tests.{eqb-true, eq-eqb}
+use borrow.Author.Tests.{eqb-true}
 use native.Mathlib.Omega.{arith}
-use native.Mathlib.Decide.{ℕ-discrete, decLt}
-use Rattle.bisimulation.specs.Choice.{ifSame, ifTrue, both}
-use Rattle.bisimulation.specs.ChoiceLaws.{same, notSame, isTrue, false-not}
+use native.Mathlib.Decide.{decLt}
+use Rattle.bisimulation.specs.Choice.{ifTrue, both}
+use Rattle.bisimulation.specs.ChoiceLaws.{same, false-not}
 use Rattle.bisimulation.specs.Automaton.{Automaton, SoundAutomaton}
 use Rattle.bisimulation.specs.Pairs.{Pairs, equalLabels}
 use Rattle.bisimulation.specs.Largest.{LargestBisimulation}
@@ -22,70 +22,15 @@ use Rattle.bisimulation.specs.Blocks.{SharedWhenLeft}
 use Rattle.bisimulation.specs.BlocksLargest.{blocksLargest}
 use Rattle.bisimulation.specs.Plain.{plain}
 use Rattle.rules.specs.Limits.{Limits}
-use Rattle.rules.specs.Certificate.{sameBlock}
-use Rattle.rules.specs.Judging.{Question, questionsOfPair, questionsOfState, questionsFrom, questions}
+use Rattle.rules.specs.Judging.{Question}
 use Rattle.rules.specs.Encoding.{Refutation, KEntry, WEntry, FlowRecord, Certificate, pricesOf, kIn, wIn, flowOf}
 use Rattle.rules.specs.SoundModel.{Each}
-use Rattle.rules.specs.Accepted.{RuleSays, GoodRefutations, GoodK, GoodW, GoodFlow, GoodFlows, KeepsRules}
+use Rattle.rules.specs.Accepted.{RuleSays, Among, here, there, GoodRefutations, GoodK, GoodW, GoodFlow, GoodFlows, KeepsRules}
 use Rattle.rules.specs.PlainSays.{InPlainQuestion, plainSays}
 use Rattle.rules.specs.Demand3.{InOneBlock}
 
--- an element stands somewhere in a list
-data Among {X : Type 0} (x : X) : List X → Type 0 where
-  here : {xs : List X} → Among x (x ∷ xs)
-  there : {y : X} {xs : List X} → Among x xs → Among x (y ∷ xs)
-
-among-left : {X : Type 0} {x : X} (xs ys : List X) → Among x xs → Among x (xs ++ ys)
-among-left xs ys (Among.here {xs = rest}) = Among.here
-among-left xs ys (Among.there {y = y} {xs = rest} a) = Among.there (among-left rest ys a)
-
-among-right : {X : Type 0} {x : X} (xs ys : List X) → Among x ys → Among x (xs ++ ys)
-among-right [] ys a = a
-among-right (y ∷ xs) ys a = Among.there (among-right xs ys a)
-
--- each of so many questions, found in the list of all
 abbrev ask : (q t : ℕ) → Question
 ask q t = record { challenger = q; defender = t }
-
-module _ (A : Automaton) (blocks : List ℕ) where
-  in-pair : (s t left r q : ℕ) → r ≤ q → q < r + left → A .source q ≡ s → Among (ask q t) (questionsOfPair A s t left r)
-  unfolding questionsOfPair
-  in-pair s t zero r q low high e = absurd (omega arith)
-  in-pair s t (suc left) r q low high e = go (λ l. in-pair s t left (r + 1) q l (omega arith) e) (ℕ-discrete r q)
-    where
-      go : (r + 1 ≤ q → Among (ask q t) (questionsOfPair A s t left (r + 1))) → Dec (r ≡ q) → Among (ask q t) (ifSame (A .source r) s (ask r t ∷ []) [] ++ questionsOfPair A s t left (r + 1))
-      go rest (no n) = among-right (ifSame (A .source r) s (ask r t ∷ []) []) (questionsOfPair A s t left (r + 1)) (rest (omega arith))
-      go rest (yes p) =
-          among-left (ifSame (A .source r) s (ask r t ∷ []) []) (questionsOfPair A s t left (r + 1))
-          (subst (Among (ask q t)) (same [] (ap (A .source) p ∙ e) refl) (subst (λ (k : ℕ). Among (ask k t) (ask r t ∷ [])) p Among.here))
-
-  in-state : (s left t u q : ℕ) → t ≤ u → u < t + left → s ≢ u → getD blocks s 0 ≡ getD blocks u 0 → q < A .transitions → A .source q ≡ s → Among (ask q u) (questionsOfState A blocks s left t)
-  unfolding questionsOfState sameBlock
-  in-state s zero t u q low high n b l e = absurd (omega arith)
-  in-state s (suc left) t u q low high n b l e = go (λ m. in-state s left (t + 1) u q m (omega arith) n b l e) (ℕ-discrete t u)
-    where
-      go : (t + 1 ≤ u → Among (ask q u) (questionsOfState A blocks s left (t + 1))) → Dec (t ≡ u) → Among (ask q u) (ifSame s t [] (ifTrue (sameBlock blocks s t) (questionsOfPair A s t (A .transitions) 0) []) ++ questionsOfState A blocks s left (t + 1))
-      go rest (no m) = among-right (ifSame s t [] (ifTrue (sameBlock blocks s t) (questionsOfPair A s t (A .transitions) 0) [])) (questionsOfState A blocks s left (t + 1)) (rest (omega arith))
-      go rest (yes p) =
-          among-left (ifSame s t [] (ifTrue (sameBlock blocks s t) (questionsOfPair A s t (A .transitions) 0) [])) (questionsOfState A blocks s left (t + 1))
-          (subst (λ (k : ℕ). Among (ask q u) (ifSame s k [] (ifTrue (sameBlock blocks s k) (questionsOfPair A s k (A .transitions) 0) []))) (sym p)
-          (subst (Among (ask q u)) (notSame [] n (isTrue [] (eq-eqb _ _ b) refl)) (in-pair s u (A .transitions) 0 q (omega arith) (omega arith) e)))
-
-  in-questions : (left s v u q : ℕ) → s ≤ v → v < s + left → u < A .states → v ≢ u → getD blocks v 0 ≡ getD blocks u 0 → q < A .transitions → A .source q ≡ v → Among (ask q u) (questionsFrom A blocks left s)
-  unfolding questionsFrom
-  in-questions zero s v u q low high k n b l e = absurd (omega arith)
-  in-questions (suc left) s v u q low high k n b l e = go (λ m. in-questions left (s + 1) v u q m (omega arith) k n b l e) (ℕ-discrete s v)
-    where
-      go : (s + 1 ≤ v → Among (ask q u) (questionsFrom A blocks left (s + 1))) → Dec (s ≡ v) → Among (ask q u) (questionsOfState A blocks s (A .states) 0 ++ questionsFrom A blocks left (s + 1))
-      go rest (no m) = among-right (questionsOfState A blocks s (A .states) 0) (questionsFrom A blocks left (s + 1)) (rest (omega arith))
-      go rest (yes p) =
-          among-left (questionsOfState A blocks s (A .states) 0) (questionsFrom A blocks left (s + 1))
-          (subst (λ (x : ℕ). Among (ask q u) (questionsOfState A blocks x (A .states) 0)) (sym p) (in-state v (A .states) 0 u q (omega arith) (omega arith) n b l e))
-
-  -- 'for each ordered pair (s,t) of different states in one block .. and for each transition of s'
-  asked : (v u q : ℕ) → v < A .states → u < A .states → v ≢ u → getD blocks v 0 ≡ getD blocks u 0 → q < A .transitions → A .source q ≡ v → Among (ask q u) (questions A blocks)
-  unfolding questions
-  asked v u q h k n b l e = in-questions (A .states) 0 v u q (omega arith) (omega arith) k n b l e
 
 -- the flow of a question
 record Answered (says : RuleSays) (A : Automaton) (R : Pairs) (x : Question) : Type 0 where
@@ -130,7 +75,15 @@ module _ (rule : Rule) (says : RuleSays) (theory : Meets rule says) (A : Automat
       question : (s t : ℕ) → InOneBlock (K .blocks) s t → s ≢ t → (q : ℕ) → q < A .transitions → A .source q ≡ s → rule .met A (InOneBlock (K .blocks)) q t
       question s t z n q l e =
           let o = shared .onStates s t z in
-          let a = answered (ask q t) (k .flows) (asked A (K .blocks) s t q (o .0) (o .1) n (z .same) l e) in
+          let a = answered (ask q t) (k .flows)
+          (k .isAsked .all (ask q t)
+          (record {
+            transition = l;
+            first = omega (arith, o .0);
+            second = o .1;
+            different = λ d. n (sym e ∙ d);
+            together = ap (λ (x : ℕ). getD (K .blocks) x 0) e ∙ z .same;
+          })) in
           theory .meets A (k .left) (InOneBlock (K .blocks)) (ask q t) (a .f) (a .good) (shared .shared)
 
 -- an entry whose k or w is not 0 is in the record, and so is good

@@ -8,7 +8,7 @@ use Rattle.bisimulation.specs.StepRule.{StepRule}
 use Rattle.bisimulation.specs.Pairs.{Pairs}
 
 -- 'Two states share a block exactly when they are still related', with 'sharing a block' as any relation on states
-pub record SharedWhenLeft (A : Automaton) (R : Pairs) (Same : ℕ → ℕ → Type 0) : Type 0 where
+pub record SharedExactlyWhenLeft (A : Automaton) (R : Pairs) (Same : ℕ → ℕ → Type 0) : Type 0 where
   pub onStates : (s t : ℕ) → Same s t → (s < A .states) × (t < A .states)
   pub related : (s t : ℕ) → Same s t → R s t ≡ true
   pub shared : (s t : ℕ) → s < A .states → t < A .states → R s t ≡ true → Same s t

@@ -8,9 +8,9 @@ use Rattle.bisimulation.specs.Largest.{Bisimulation, LargestBisimulation
 use Rattle.bisimulation.specs.Rule.{Rule}
 use Rattle.bisimulation.specs.PairsLeft.{PairsLeft}
 use Rattle.bisimulation.specs.PairsLeftLaws.{leftReflexive, leftSymmetric, leftKeepsLabels, bisimulationLeft}
-use Rattle.bisimulation.specs.Blocks.{SharedWhenLeft, QuestionsMet}
+use Rattle.bisimulation.specs.Blocks.{SharedExactlyWhenLeft, QuestionsMet}
 
-module _ {rule : Rule} {A : Automaton} (sound : SoundAutomaton A) {R : Pairs} (left : PairsLeft rule A R) {Same : ℕ → ℕ → Type 0} (block : SharedWhenLeft A R Same) where
+module _ {rule : Rule} {A : Automaton} (sound : SoundAutomaton A) {R : Pairs} (left : PairsLeft rule A R) {Same : ℕ → ℕ → Type 0} (block : SharedExactlyWhenLeft A R Same) where
   -- sharing a block is symmetric, keeps labels and meets the step rule
   pub blocksBisimulation : QuestionsMet (rule .met) A Same → Bisimulation (rule .met) A Same
   blocksBisimulation flows =

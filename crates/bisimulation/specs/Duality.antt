@@ -6,9 +6,9 @@ use native.Mathlib.Omega.{arith}
 use Rattle.bisimulation.specs.Choice.{ifSame}
 use Rattle.bisimulation.specs.Automaton.{Automaton, SoundAutomaton}
 use Rattle.bisimulation.specs.StepRule.{arriving, leaving, overTargets, overSources, beforeMove, afterMove, internalMove, MetExternal, MetInternal, Met}
-use Rattle.bisimulation.specs.Worth.{worth, FairFor}
-use Rattle.bisimulation.specs.WorthLaws.{worthSame, worthEquation}
-use Rattle.bisimulation.specs.Layers.{layerFair, coupled, targetClash}
+use Rattle.bisimulation.specs.Value.{value, FeasibleFor}
+use Rattle.bisimulation.specs.ValueLaws.{valueSame, valueEquation}
+use Rattle.bisimulation.specs.Layers.{layerFeasible, coupled, targetContradiction}
 use Rattle.bisimulation.specs.Rule.{WeakDuality}
 use Rattle.bisimulation.specs.Raised.{RaisedBy, magnitudes}
 use Rattle.bisimulation.specs.RaisedLaws.{magnitudesEnough, priceRaised, relatedRaised, lastRaised}
@@ -16,34 +16,34 @@ use Rattle.bisimulation.specs.Refutation.{PlainRefutes}
 
 -- with prices that are natural numbers
 module _ (A : Automaton) (sound : SoundAutomaton A) (W : ℕ → ℕ → Type 0) (q t : ℕ) (inStates : t < A .states) where
-  internalClash : (X G : ℕ → ℕ) → FairFor A 0 X X → ((v u : ℕ) → v < A .states → u < A .states → W v u → G u ≤ X v) → A .denominator q * X t < worth (A .states) (A .weight q) G → MetInternal A W q t → ⊥
+  internalContradiction : (X G : ℕ → ℕ) → FeasibleFor A 0 X X → ((v u : ℕ) → v < A .states → u < A .states → W v u → G u ≤ X v) → A .denominator q * X t < value (A .states) (A .weight q) G → MetInternal A W q t → ⊥
   unfolding internalMove
-  internalClash X G fair related last m = targetClash A (m .flow) q (X t) 0 G (m .atLeastOne) (m .target) paid (omega arith)
+  internalContradiction X G feasible related last m = targetContradiction A (m .flow) q (X t) 0 G (m .atLeastOne) (m .target) total (omega arith)
     where
-      paid : worth (A .states) (overSources A (m .flow .w)) G + m .flow .D * 0 ≤ m .flow .D * X t
-      paid =
+      total : value (A .states) (overSources A (m .flow .w)) G + m .flow .D * 0 ≤ m .flow .D * X t
+      total =
           omega (
             arith,
-            worthSame (A .states) t (m .flow .D) X inStates,
-            worthEquation (A .states) (λ v. ifSame v t (m .flow .D) 0) (arriving A (m .flow .k 0)) (leaving A (m .flow .k 0)) (overTargets A (m .flow .w)) X (λ v l. m .move v l .equal),
-            layerFair A sound (m .flow .k 0) X X (λ r l u. fair r l (m .layer0 r l u)),
+            valueSame (A .states) t (m .flow .D) X inStates,
+            valueEquation (A .states) (λ v. ifSame v t (m .flow .D) 0) (arriving A (m .flow .k 0)) (leaving A (m .flow .k 0)) (overTargets A (m .flow .w)) X (λ v l. m .move v l .equal),
+            layerFeasible A sound (m .flow .k 0) X X (λ r l u. feasible r l (m .layer0 r l u)),
             coupled A (m .flow .w) X G (λ v u l j z. related v u l j (m .related v u l j z)),
           )
 
-  externalClash : (X Y G : ℕ → ℕ) → FairFor A 0 X X → FairFor A 0 Y Y → FairFor A (A .action q) X Y → ((v u : ℕ) → v < A .states → u < A .states → W v u → G u ≤ Y v) → A .denominator q * X t < worth (A .states) (A .weight q) G → MetExternal A W q t → ⊥
+  externalContradiction : (X Y G : ℕ → ℕ) → FeasibleFor A 0 X X → FeasibleFor A 0 Y Y → FeasibleFor A (A .action q) X Y → ((v u : ℕ) → v < A .states → u < A .states → W v u → G u ≤ Y v) → A .denominator q * X t < value (A .states) (A .weight q) G → MetExternal A W q t → ⊥
   unfolding beforeMove afterMove
-  externalClash X Y G before after move related last m = targetClash A (m .flow) q (X t) 0 G (m .atLeastOne) (m .target) paid (omega arith)
+  externalContradiction X Y G before after move related last m = targetContradiction A (m .flow) q (X t) 0 G (m .atLeastOne) (m .target) total (omega arith)
     where
-      paid : worth (A .states) (overSources A (m .flow .w)) G + m .flow .D * 0 ≤ m .flow .D * X t
-      paid =
+      total : value (A .states) (overSources A (m .flow .w)) G + m .flow .D * 0 ≤ m .flow .D * X t
+      total =
           omega (
             arith,
-            worthSame (A .states) t (m .flow .D) X inStates,
-            worthEquation (A .states) (λ v. ifSame v t (m .flow .D) 0) (arriving A (m .flow .k 0)) (leaving A (m .flow .k 0)) (leaving A (m .flow .k 1)) X (λ v l. m .before v l .equal),
-            worthEquation (A .states) (arriving A (m .flow .k 1)) (arriving A (m .flow .k 2)) (leaving A (m .flow .k 2)) (overTargets A (m .flow .w)) Y (λ v l. m .after v l .equal),
-            layerFair A sound (m .flow .k 0) X X (λ r l u. before r l (m .layer0 r l u)),
-            layerFair A sound (m .flow .k 1) X Y (λ r l u. move r l (m .layer1 r l u)),
-            layerFair A sound (m .flow .k 2) Y Y (λ r l u. after r l (m .layer2 r l u)),
+            valueSame (A .states) t (m .flow .D) X inStates,
+            valueEquation (A .states) (λ v. ifSame v t (m .flow .D) 0) (arriving A (m .flow .k 0)) (leaving A (m .flow .k 0)) (leaving A (m .flow .k 1)) X (λ v l. m .before v l .equal),
+            valueEquation (A .states) (arriving A (m .flow .k 1)) (arriving A (m .flow .k 2)) (leaving A (m .flow .k 2)) (overTargets A (m .flow .w)) Y (λ v l. m .after v l .equal),
+            layerFeasible A sound (m .flow .k 0) X X (λ r l u. before r l (m .layer0 r l u)),
+            layerFeasible A sound (m .flow .k 1) X Y (λ r l u. move r l (m .layer1 r l u)),
+            layerFeasible A sound (m .flow .k 2) Y Y (λ r l u. after r l (m .layer2 r l u)),
             coupled A (m .flow .w) Y G (λ v u l j z. related v u l j (m .related v u l j z)),
           )
 
@@ -67,7 +67,7 @@ plainDuality A sound R q t p i j refutes W inside m = go (ℕ-discrete (A .actio
     go : Dec (A .action q ≡ 0) → ⊥
     go (yes e) =
         let h = refutes .internal e in
-        internalClash A sound W q t j _ _ (priceRaised A c x x sound (h .internal)) (λ v u l k o. relatedRaised A c x y (h .related) v u l k (inside v u o)) (lastRaised A c x y (sound q i) j (h .last)) (m .internal e)
+        internalContradiction A sound W q t j _ _ (priceRaised A c x x sound (h .internal)) (λ v u l k o. relatedRaised A c x y (h .related) v u l k (inside v u o)) (lastRaised A c x y (sound q i) j (h .last)) (m .internal e)
     go (no n) =
         let h = refutes .external n in
-        externalClash A sound W q t j _ _ _ (priceRaised A c x x sound (h .before)) (priceRaised A c y y sound (h .after)) (priceRaised A c x y sound (h .move)) (λ v u l k o. relatedRaised A c y z (h .related) v u l k (inside v u o)) (lastRaised A c x z (sound q i) j (h .last)) (m .external n)
+        externalContradiction A sound W q t j _ _ _ (priceRaised A c x x sound (h .before)) (priceRaised A c y y sound (h .after)) (priceRaised A c x y sound (h .move)) (λ v u l k o. relatedRaised A c y z (h .related) v u l k (inside v u o)) (lastRaised A c x z (sound q i) j (h .last)) (m .external n)

@@ -9,8 +9,8 @@ use Rattle.bisimulation.specs.Sum.{sum}
 use Rattle.bisimulation.specs.SumLaws.{sumCong, sumMono, sumZero, sumAdd, sumTimesRight}
 use Rattle.bisimulation.specs.Automaton.{Automaton, SoundAutomaton}
 use Rattle.bisimulation.specs.StepRule.{Flow, Holds, arriving, leaving, overTargets, overSources, atTarget}
-use Rattle.bisimulation.specs.Worth.{worth, Fair}
-use Rattle.bisimulation.specs.WorthLaws.{worthCong, worthTimes, worthSum, worthSameTurned}
+use Rattle.bisimulation.specs.Value.{value, Feasible}
+use Rattle.bisimulation.specs.ValueLaws.{valueCong, valueTimes, valueSum, valueSameTurned}
 
 -- a factor that matters only where it is not 0
 usedLe : (k a b : ℕ) → (0 < k → a ≤ b) → k * a ≤ k * b
@@ -22,58 +22,58 @@ usedLe k a b h = go (eq-zero-or-pos k)
 
 module _ (A : Automaton) where
   -- what leaves, and what arrives, transition by transition
-  pub leavingWorth : SoundAutomaton A → (k X : ℕ → ℕ) → worth (A .states) (leaving A k) X ≡ sum (A .transitions) (λ r. k r * (A .denominator r * X (A .source r)))
+  pub leavingValue : SoundAutomaton A → (k X : ℕ → ℕ) → value (A .states) (leaving A k) X ≡ sum (A .transitions) (λ r. k r * (A .denominator r * X (A .source r)))
   unfolding leaving SoundAutomaton
-  leavingWorth sound k X =
-      worthSum (A .states) (A .transitions) (λ r v. ifSame (A .source r) v (k r * A .denominator r) 0) X
-      ∙ sumCong (A .transitions) _ _ (λ r l. omega (arith, worthSameTurned (A .states) (A .source r) (k r * A .denominator r) X (sound r l .from)))
+  leavingValue sound k X =
+      valueSum (A .states) (A .transitions) (λ r v. ifSame (A .source r) v (k r * A .denominator r) 0) X
+      ∙ sumCong (A .transitions) _ _ (λ r l. omega (arith, valueSameTurned (A .states) (A .source r) (k r * A .denominator r) X (sound r l .from)))
 
-  pub arrivingWorth : (k Y : ℕ → ℕ) → worth (A .states) (arriving A k) Y ≡ sum (A .transitions) (λ r. k r * worth (A .states) (A .weight r) Y)
+  pub arrivingValue : (k Y : ℕ → ℕ) → value (A .states) (arriving A k) Y ≡ sum (A .transitions) (λ r. k r * value (A .states) (A .weight r) Y)
   unfolding arriving
-  arrivingWorth k Y =
-      worthSum (A .states) (A .transitions) (λ r v. k r * A .weight r v) Y
-      ∙ sumCong (A .transitions) _ _ (λ r l. worthTimes (A .states) (k r) (A .weight r) Y)
+  arrivingValue k Y =
+      valueSum (A .states) (A .transitions) (λ r v. k r * A .weight r v) Y
+      ∙ sumCong (A .transitions) _ _ (λ r l. valueTimes (A .states) (k r) (A .weight r) Y)
 
-  -- one layer: where each used transition is fair up to what is added to its two sides, so are what arrives and what leaves
-  pub layerAdded : SoundAutomaton A → (k X Y a b : ℕ → ℕ) → ((r : ℕ) → r < A .transitions → 0 < k r → worth (A .states) (A .weight r) Y + a r ≤ A .denominator r * X (A .source r) + b r) → worth (A .states) (arriving A k) Y + sum (A .transitions) (λ r. k r * a r) ≤ worth (A .states) (leaving A k) X + sum (A .transitions) (λ r. k r * b r)
-  layerAdded sound k X Y a b fair =
+  -- one layer: where each used transition is feasible up to what is added to its two sides, so are what arrives and what leaves
+  pub layerAdded : SoundAutomaton A → (k X Y a b : ℕ → ℕ) → ((r : ℕ) → r < A .transitions → 0 < k r → value (A .states) (A .weight r) Y + a r ≤ A .denominator r * X (A .source r) + b r) → value (A .states) (arriving A k) Y + sum (A .transitions) (λ r. k r * a r) ≤ value (A .states) (leaving A k) X + sum (A .transitions) (λ r. k r * b r)
+  layerAdded sound k X Y a b feasible =
       omega (
         arith,
-        arrivingWorth k Y,
-        leavingWorth sound k X,
-        sumAdd (A .transitions) (λ r. k r * worth (A .states) (A .weight r) Y) (λ r. k r * a r),
+        arrivingValue k Y,
+        leavingValue sound k X,
+        sumAdd (A .transitions) (λ r. k r * value (A .states) (A .weight r) Y) (λ r. k r * a r),
         sumAdd (A .transitions) (λ r. k r * (A .denominator r * X (A .source r))) (λ r. k r * b r),
-        sumMono (A .transitions) (λ r. k r * worth (A .states) (A .weight r) Y + k r * a r) (λ r. k r * (A .denominator r * X (A .source r)) + k r * b r)
-            (λ r l. omega (arith, usedLe (k r) _ _ (fair r l))),
+        sumMono (A .transitions) (λ r. k r * value (A .states) (A .weight r) Y + k r * a r) (λ r. k r * (A .denominator r * X (A .source r)) + k r * b r)
+            (λ r l. omega (arith, usedLe (k r) _ _ (feasible r l))),
       )
 
-  -- where each used transition is fair, what arrives is worth at most what leaves
-  pub layerFair : SoundAutomaton A → (k X Y : ℕ → ℕ) → ((r : ℕ) → r < A .transitions → 0 < k r → Fair A X Y r) → worth (A .states) (arriving A k) Y ≤ worth (A .states) (leaving A k) X
-  unfolding Fair
-  layerFair sound k X Y fair = omega (arith, layerAdded sound k X Y (λ r. 0) (λ r. 0) (λ r l u. omega (arith, fair r l u)), sumZero (A .transitions) (λ r. k r * 0) (λ r l. omega arith))
+  -- where each used transition is feasible, the value of what arrives is at most the value of what leaves
+  pub layerFeasible : SoundAutomaton A → (k X Y : ℕ → ℕ) → ((r : ℕ) → r < A .transitions → 0 < k r → Feasible A X Y r) → value (A .states) (arriving A k) Y ≤ value (A .states) (leaving A k) X
+  unfolding Feasible
+  layerFeasible sound k X Y feasible = omega (arith, layerAdded sound k X Y (λ r. 0) (λ r. 0) (λ r l u. omega (arith, feasible r l u)), sumZero (A .transitions) (λ r. k r * 0) (λ r l. omega arith))
 
-  -- w coupled with the prices: where G(u) is at most Y(v) for each used w(v,u), what w brings is worth at most what it takes
-  pub coupled : (w : ℕ → ℕ → ℕ) (Y G : ℕ → ℕ) → ((v u : ℕ) → v < A .states → u < A .states → 0 < w v u → G u ≤ Y v) → worth (A .states) (overSources A w) G ≤ worth (A .states) (overTargets A w) Y
-  unfolding overSources overTargets worth
+  -- w coupled with the prices: where G(u) is at most Y(v) for each used w(v,u), the value of what w brings is at most the value of what it takes
+  pub coupled : (w : ℕ → ℕ → ℕ) (Y G : ℕ → ℕ) → ((v u : ℕ) → v < A .states → u < A .states → 0 < w v u → G u ≤ Y v) → value (A .states) (overSources A w) G ≤ value (A .states) (overTargets A w) Y
+  unfolding overSources overTargets value
   coupled w Y G h =
       omega (
         arith,
-        worthSum (A .states) (A .states) w G,
-        sumMono (A .states) (λ v. worth (A .states) (w v) G) (λ v. overTargets A w v * Y v) (λ v l. row v l),
+        valueSum (A .states) (A .states) w G,
+        sumMono (A .states) (λ v. value (A .states) (w v) G) (λ v. overTargets A w v * Y v) (λ v l. row v l),
       )
     where
-      row : (v : ℕ) → v < A .states → worth (A .states) (w v) G ≤ overTargets A w v * Y v
+      row : (v : ℕ) → v < A .states → value (A .states) (w v) G ≤ overTargets A w v * Y v
       row v l = omega (arith, sumMono (A .states) (λ u. w v u * G u) (λ u. w v u * Y v) (λ u k. usedLe (w v u) (G u) (Y v) (h v u l k)), sumTimesRight (A .states) (Y v) (w v))
 
-  -- the equations at the targets against 'd0 times A(t) is below the sum of p0(u)G(u)': what w brings is not paid for by D times A(t). A
+  -- the equations at the targets against 'd0 times A(t) is below the sum of p0(u)G(u)': what w brings is not total for by D times A(t). A
   -- rule with costs adds a
-  pub targetClash : (f : Flow) (q x a : ℕ) (G : ℕ → ℕ) → 1 ≤ f .D → ((u : ℕ) → u < A .states → Holds (atTarget A f q u)) → worth (A .states) (overSources A (f .w)) G + f .D * a ≤ f .D * x → A .denominator q * x < worth (A .states) (A .weight q) G + A .denominator q * a → ⊥
+  pub targetContradiction : (f : Flow) (q x a : ℕ) (G : ℕ → ℕ) → 1 ≤ f .D → ((u : ℕ) → u < A .states → Holds (atTarget A f q u)) → value (A .states) (overSources A (f .w)) G + f .D * a ≤ f .D * x → A .denominator q * x < value (A .states) (A .weight q) G + A .denominator q * a → ⊥
   unfolding atTarget
-  targetClash f q x a G one eq paid last =
-      omega (arith, targets, mul-le-mul-left (A .denominator q) paid, mul-le-mul-left (f .D) last)
+  targetContradiction f q x a G one eq total last =
+      omega (arith, targets, mul-le-mul-left (A .denominator q) total, mul-le-mul-left (f .D) last)
     where
-      targets : A .denominator q * worth (A .states) (overSources A (f .w)) G ≡ f .D * worth (A .states) (A .weight q) G
+      targets : A .denominator q * value (A .states) (overSources A (f .w)) G ≡ f .D * value (A .states) (A .weight q) G
       targets =
-          sym (worthTimes (A .states) (A .denominator q) (overSources A (f .w)) G)
-          ∙ worthCong (A .states) _ (λ u. f .D * A .weight q u) G (λ u l. omega (arith, eq u l .equal))
-          ∙ worthTimes (A .states) (f .D) (A .weight q) G
+          sym (valueTimes (A .states) (A .denominator q) (overSources A (f .w)) G)
+          ∙ valueCong (A .states) _ (λ u. f .D * A .weight q u) G (λ u l. omega (arith, eq u l .equal))
+          ∙ valueTimes (A .states) (f .D) (A .weight q) G

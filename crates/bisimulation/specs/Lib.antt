@@ -18,8 +18,8 @@ pub mod PairsLeftLaws
 pub mod Blocks
 pub mod BlocksLargest
 pub mod Spelling
-pub mod Worth
-pub mod WorthLaws
+pub mod Value
+pub mod ValueLaws
 pub mod Layers
 pub mod Raised
 pub mod RaisedLaws

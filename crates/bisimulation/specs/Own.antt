@@ -6,8 +6,8 @@ use native.Mathlib.Omega.{arith}
 use Rattle.bisimulation.specs.Choice.{ifSame}
 use Rattle.bisimulation.specs.ChoiceLaws.{turned, timesSame, eitherSame, keptSame}
 use Rattle.bisimulation.specs.SumLaws.{sumCong, sumZero, sumSame}
-use Rattle.bisimulation.specs.Worth.{worth}
-use Rattle.bisimulation.specs.WorthLaws.{worthSame}
+use Rattle.bisimulation.specs.Value.{value}
+use Rattle.bisimulation.specs.ValueLaws.{valueSame}
 use Rattle.bisimulation.specs.Rule.{MeetsOwn}
 use Rattle.bisimulation.specs.Automaton.{Automaton, SoundAutomaton}
 use Rattle.bisimulation.specs.StepRule.{Flow, Holds, arriving, leaving, overTargets, overSources, beforeMove, afterMove, internalMove, atTarget, MetExternal, MetInternal, Met}
@@ -53,12 +53,12 @@ module _ (A : Automaton) where
 
   module _ (q : ℕ) (l : q < A .transitions) where
     pub arrivingOnce : (v : ℕ) → arriving A (once q) v ≡ A .weight q v
-    unfolding arriving once worth
-    arrivingOnce v = worthSame (A .transitions) q 1 (λ r. A .weight r v) l ∙ one-mul _
+    unfolding arriving once value
+    arrivingOnce v = valueSame (A .transitions) q 1 (λ r. A .weight r v) l ∙ one-mul _
 
     pub leavingOnce : (v : ℕ) → leaving A (once q) v ≡ ifSame (A .source q) v (A .denominator q) 0
-    unfolding leaving once worth
-    leavingOnce v = sumCong (A .transitions) _ _ (λ r k. outside r) ∙ worthSame (A .transitions) q 1 (λ r. ifSame (A .source r) v (A .denominator r) 0) l ∙ one-mul _
+    unfolding leaving once value
+    leavingOnce v = sumCong (A .transitions) _ _ (λ r k. outside r) ∙ valueSame (A .transitions) q 1 (λ r. ifSame (A .source r) v (A .denominator r) 0) l ∙ one-mul _
       where
         outside : (r : ℕ) → ifSame (A .source r) v (once q r * A .denominator r) 0 ≡ once q r * ifSame (A .source r) v (A .denominator r) 0
         outside r =

@@ -1,13 +1,20 @@
 -- The laws of the pairs left, for any step rule.
-use Prim.Native.Nat.{ℕ}
+use Prim.Native.Nat.{ℕ, _<_}
 use mathlib.Core.Path.{_≡_, refl, sym, subst, _∙_}
 use mathlib.Core.Bool.{true}
 use Rattle.bisimulation.specs.Automaton.{Automaton, SoundAutomaton}
 use Rattle.bisimulation.specs.Pairs.{Pairs, removed}
 use Rattle.bisimulation.specs.PairsLaws.{equalLabelsOf, labelsEqual, otherPairTurned, removedKeeps, removedLeft}
+use lib.IntN.{ℤ}
+use Rattle.bisimulation.specs.StepRule.{MeetsStepRule}
 use Rattle.bisimulation.specs.Largest.{Bisimulation}
 use Rattle.bisimulation.specs.Rule.{Rule}
 use Rattle.bisimulation.specs.PairsLeft.{PairsLeft, start, refuted}
+
+-- weak duality: a relation inside the related pairs that meets the step rule does not link the challenger's source with t
+pub refutedUnlinked : (rule : Rule) (A : Automaton) → SoundAutomaton A → (R : Pairs) (q t : ℕ) (p : ℕ → ℤ) → q < A .transitions → t < A .states → rule .refutes A R q t p → (W : ℕ → ℕ → Type 0) → ((v u : ℕ) → W v u → R v u ≡ true) → MeetsStepRule (rule .met) A W → W (A .source q) t → ⊥
+refutedUnlinked rule A sound R q t p i j refutes W inside meets linked =
+    rule .duality A sound R q t p i j refutes W inside (meets .met (A .source q) t linked q i refl)
 
 module _ {rule : Rule} {A : Automaton} where
   -- a state stays related with itself
@@ -34,7 +41,7 @@ module _ {rule : Rule} {A : Automaton} where
       where
         go : ((v u : ℕ) → W v u → R v u ≡ true) → removed (A .source q) x R s t ≡ true
         go ih =
-            let unlinked : W (A .source q) x → ⊥ = λ z. rule .duality A sound R q x p i j f W ih (b .meets .met (A .source q) x z q i refl) in
+            let unlinked : W (A .source q) x → ⊥ = refutedUnlinked rule A sound R q x p i j f W ih (b .meets) in
             removedKeeps (A .source q) x R s t
             (record {
               straight = λ g h. unlinked (subst (λ (y : ℕ). W y x) g (subst (λ (y : ℕ). W s y) h w));

@@ -6,6 +6,7 @@ use Rattle.bisimulation.specs.Duality.{plainDuality}
 use Rattle.bisimulation.specs.Own.{plainOwn}
 use Rattle.bisimulation.specs.Respelled.{plainRespelled}
 
+-- document 01's step rule
 abbrev pub plain : Rule
 plain =
     record {

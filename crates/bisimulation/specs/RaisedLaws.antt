@@ -14,7 +14,7 @@ use Rattle.bisimulation.specs.Automaton.{Automaton, SoundTransition, Sou
 use Rattle.bisimulation.specs.Prices.{priceAt, priceOfTargets}
 use Rattle.bisimulation.specs.Pairs.{Pairs}
 use Rattle.bisimulation.specs.Refutation.{PriceCondition, RelatedCondition, LastCondition}
-use Rattle.bisimulation.specs.Worth.{worth, Fair, FairFor}
+use Rattle.bisimulation.specs.Value.{value, Feasible, FeasibleFor}
 use Rattle.bisimulation.specs.Raised.{Raised, above, below, raise, RaisedBy, magnitudes}
 
 pub raisedLe : {c k l : ℕ} {y z : ℤ} → Raised c k y → Raised c l z → y ≤ℤ z → k ≤ l
@@ -70,10 +70,10 @@ module _ (A : Automaton) (c : ℕ) where
     unfolding priceAt
     priceAtRaised q v l = raisedTimes (A .denominator q) (raiseRaised c (X v) (x .enough v l))
 
-    pub priceOfTargetsRaised : (q : ℕ) → SoundTransition A q → Raised (A .denominator q * c) (worth (A .states) (A .weight q) (λ v. raise c (X v))) (priceOfTargets A X q)
-    unfolding priceOfTargets worth
+    pub priceOfTargetsRaised : (q : ℕ) → SoundTransition A q → Raised (A .denominator q * c) (value (A .states) (A .weight q) (λ v. raise c (X v))) (priceOfTargets A X q)
+    unfolding priceOfTargets value
     priceOfTargetsRaised q sound =
-        subst (λ (d : ℕ). Raised d (worth (A .states) (A .weight q) (λ v. raise c (X v))) (priceOfTargets A X q)) total
+        subst (λ (d : ℕ). Raised d (value (A .states) (A .weight q) (λ v. raise c (X v))) (priceOfTargets A X q)) total
         (raisedSum (A .states) (λ v. A .weight q v * c) _ _ (λ v l. raisedTimes (A .weight q v) (raiseRaised c (X v) (x .enough v l))))
       where
         total : sum (A .states) (λ v. A .weight q v * c) ≡ A .denominator q * c
@@ -81,16 +81,16 @@ module _ (A : Automaton) (c : ℕ) where
 
   module _ {X Y : ℕ → ℤ} (x : RaisedBy (A .states) c X) (y : RaisedBy (A .states) c Y) where
     -- each kind of condition, for raised prices
-    pub fairRaised : (r : ℕ) → SoundTransition A r → priceOfTargets A Y r ≤ℤ priceAt A X r (A .source r) → Fair A (λ v. raise c (X v)) (λ v. raise c (Y v)) r
-    unfolding Fair
-    fairRaised r sound h = raisedLe (priceOfTargetsRaised Y y r sound) (priceAtRaised X x r (A .source r) (sound .from)) h
+    pub feasibleRaised : (r : ℕ) → SoundTransition A r → priceOfTargets A Y r ≤ℤ priceAt A X r (A .source r) → Feasible A (λ v. raise c (X v)) (λ v. raise c (Y v)) r
+    unfolding Feasible
+    feasibleRaised r sound h = raisedLe (priceOfTargetsRaised Y y r sound) (priceAtRaised X x r (A .source r) (sound .from)) h
 
-    pub priceRaised : SoundAutomaton A → {a : ℕ} → PriceCondition A a X Y → FairFor A a (λ v. raise c (X v)) (λ v. raise c (Y v))
+    pub priceRaised : SoundAutomaton A → {a : ℕ} → PriceCondition A a X Y → FeasibleFor A a (λ v. raise c (X v)) (λ v. raise c (Y v))
     unfolding SoundAutomaton
-    priceRaised sound h r l e = fairRaised r (sound r l) (h .holds r l e)
+    priceRaised sound h r l e = feasibleRaised r (sound r l) (h .holds r l e)
 
     pub relatedRaised : {R : Pairs} → RelatedCondition A R X Y → (v u : ℕ) → v < A .states → u < A .states → R v u ≡ true → raise c (Y u) ≤ raise c (X v)
     relatedRaised h v u l k e = raisedLe (raiseRaised c (Y u) (y .enough u k)) (raiseRaised c (X v) (x .enough v l)) (h .holds v u l k e)
 
-    pub lastRaised : {q t : ℕ} → SoundTransition A q → t < A .states → LastCondition A q t X Y → A .denominator q * raise c (X t) < worth (A .states) (A .weight q) (λ v. raise c (Y v))
+    pub lastRaised : {q t : ℕ} → SoundTransition A q → t < A .states → LastCondition A q t X Y → A .denominator q * raise c (X t) < value (A .states) (A .weight q) (λ v. raise c (Y v))
     lastRaised {q} {t} sound l h = raisedLt (priceAtRaised X x q t l) (priceOfTargetsRaised Y y q sound) (h .holds)

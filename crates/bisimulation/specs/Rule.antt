@@ -31,6 +31,7 @@ MetRespelled met =
     (A B : Automaton) → SoundAutomaton A → SoundAutomaton B → SameProbabilities A B
     → (W : ℕ → ℕ → Type 0) (q t : ℕ) → q < A .transitions → met A W q t → met B W q t
 
+-- a step rule with its price conditions, and what is proved of them
 pub record Rule : Type 1 where
   pub met : StepRule
   pub refutes : PriceRule

@@ -81,6 +81,7 @@ wKey e = e .v * 256 + e .u
 pub record GoodFlow (says : RuleSays) (A : Automaton) (R : Pairs) (x : Question) (f : FlowRecord) : Type 0 where
   pub some : 1 ≤ f .D
   pub fits : f .D < 2 ^ 32
+  -- the count has 2 bytes
   pub kFew : length (f .ks) < 65536
   pub ks : Each (GoodK says A (x .challenger) (x .defender)) (f .ks)
   pub kOrder : Ascends kKey 0 (f .ks)
@@ -134,8 +135,8 @@ pub record Kept (L : Limits) (says : RuleSays) (mark : ℕ) (A : Automaton) (C b
   pub keeps : KeepsRules L says A certificate
   pub named : certificate .blocks ≡ blocks
 
--- demand 2: 'A certificate is accepted if, and only if, it keeps every rule of document 01 on a sound model'. The model bytes are those of a
--- sound model, and the certificate bytes those of a certificate that keeps every rule for its automaton
+-- the product's second demand: a certificate is accepted if, and only if, it keeps every rule of document 01 on a sound model. The model
+-- bytes are those of a sound model, and the certificate bytes those of a certificate that keeps every rule for its automaton
 pub record Accepted (L : Limits) (says : RuleSays) (mark : ℕ) (bytes C blocks : List ℕ) : Type 0 where
   pub M : Model
   pub sound : SoundModel L M

@@ -6,11 +6,12 @@ use mathlib.Core.List.{List}
 use lib.ListN.{length, List·getD-eq-default}
 use native.Mathlib.Omega.{arith}
 use native.Mathlib.Decide.{decLt}
+use Rattle.rules.specs.AnyRule.{Decides, Narrow, FitsFields}
 use Rattle.rules.specs.Limits.{Limits}
 use Rattle.rules.specs.Bytes.{byteAt}
 use Rattle.rules.specs.Model.{Model, automatonOf}
 use Rattle.rules.specs.Reading.{Reading, model, noModel, readWhole}
-use Rattle.rules.specs.SoundModel.{Bytes, SoundModel, FitsWidths}
+use Rattle.rules.specs.SoundModel.{Bytes, SoundModel}
 use Rattle.rules.specs.SoundModelLaws.{sound-automaton}
 use Rattle.rules.specs.ReadBack.{read-back-whole}
 use Rattle.rules.specs.ReadSound.{read-whole-sound}
@@ -18,7 +19,6 @@ use Rattle.rules.specs.Standing.{IsBytes}
 use Rattle.rules.specs.Certificate.{FileRule}
 use Rattle.rules.specs.Judging.{accepted, judgeReading, judge}
 use Rattle.rules.specs.Accepted.{RuleSays, Accepted}
-use Rattle.rules.specs.RefutationRecords.{Decides, Narrow}
 use Rattle.rules.specs.CertificateKept.{accepted-kept, kept-accepted}
 
 -- bytes, at every place
@@ -29,12 +29,6 @@ is-bytes s h = record { small = λ i. go i (decLt i (length s)) }
     go : (i : ℕ) → Dec (i < length s) → byteAt s i < 256
     go i (yes l) = h i l
     go i (no l) = subst (λ (k : ℕ). k < 256) (sym (List·getD-eq-default s 0 (omega arith))) (omega arith)
-
--- the limits fit the fields of both files
-pub record FitsFields (L : Limits) (file : FileRule) : Type 0 where
-  pub widths : FitsWidths L
-  pub refutations : L .refutations < 65536
-  pub mark : file .mark < 65536
 
 -- the automaton of a sound model fits the fields of a certificate
 pub narrow-model : (L : Limits) (file : FileRule) (M : Model) → FitsFields L file → SoundModel L M → Narrow (automatonOf M)

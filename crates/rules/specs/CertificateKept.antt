@@ -7,6 +7,7 @@ use native.Mathlib.Omega.{arith}
 use Rattle.bisimulation.specs.ChoiceLaws.{notLess, same, pastLess, keptSame}
 use Rattle.bisimulation.specs.Automaton.{Automaton}
 use Rattle.bisimulation.specs.Pairs.{Pairs, equalLabels, removed}
+use Rattle.rules.specs.AnyRule.{Decides, Narrow}
 use Rattle.rules.specs.Limits.{Limits}
 use Rattle.rules.specs.Bytes.{twoAt, twoBytes}
 use Rattle.rules.specs.Standing.{Stands, IsBytes, stands-nothing, stands-all, stands-is, stands-both, stands-first, stands-second, stands-at, mark-stands, after-two, rest-of-two, two-is, length-two}
@@ -15,7 +16,7 @@ use Rattle.rules.specs.Judging.{Judgement, accepted, rejected, rejectAt,
 use Rattle.rules.specs.Encoding.{Refutation, FlowRecord, Certificate, listBytes, refutationBytes, blocksBytes, flowBytes, certificateBytes}
 use Rattle.rules.specs.Accepted.{RuleSays, Kept, GoodRefutations, done, refute, GoodBlocks, GoodFlows, KeepsRules}
 use Rattle.rules.specs.QuestionsLaws.{questions-asked, questions-only}
-use Rattle.rules.specs.RefutationRecords.{Decides, Narrow, no-fault, refutationAt, refutation-good, refutation-stands, refutation-after, challenger-read, defender-read, after-read, refutation-passes}
+use Rattle.rules.specs.RefutationRecords.{no-fault, refutationAt, refutation-good, refutation-stands, refutation-after, challenger-read, defender-read, after-read, refutation-passes}
 use Rattle.rules.specs.BlocksRecord.{blocks-good, blocks-stand, blocks-read, blocks-pass}
 use Rattle.rules.specs.FlowRecords.{flowRecordAt, flow-good, flow-stands, flow-after, flow-end, flow-passes}
 

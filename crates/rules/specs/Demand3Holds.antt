@@ -9,6 +9,7 @@ use Rattle.bisimulation.specs.Largest.{LargestBisimulation}
 use Rattle.bisimulation.specs.Rule.{Rule}
 use Rattle.bisimulation.specs.Spelling.{oneAnswer}
 use Rattle.bisimulation.specs.Plain.{plain}
+use Rattle.rules.specs.AnyRule.{Decides, FitsFields, Covers}
 use Rattle.rules.specs.Limits.{Limits, limits}
 use Rattle.rules.specs.Model.{Model, automatonOf, HoldOneAutomaton}
 use Rattle.rules.specs.SoundModel.{Bytes, SoundModel}
@@ -18,26 +19,25 @@ use Rattle.rules.specs.Certificate.{FileRule}
 use Rattle.rules.specs.PlainRule.{plainRule}
 use Rattle.rules.specs.Judging.{AcceptedFor, NameSameBlocks}
 use Rattle.rules.specs.Accepted.{RuleSays, Accepted}
-use Rattle.rules.specs.RefutationRecords.{Decides}
-use Rattle.rules.specs.AcceptedExactly.{FitsFields, accepted-exactly}
+use Rattle.rules.specs.AcceptedExactly.{accepted-exactly}
 use Rattle.rules.specs.PlainSays.{plainSays}
 use Rattle.rules.specs.PlainDecides.{plain-decides}
-use Rattle.rules.specs.LargestBlocks.{Meets, kept-largest, plain-meets, Numbered, one-numbering}
+use Rattle.rules.specs.LargestBlocks.{kept-largest, plain-meets, Numbered, one-numbering}
 use Rattle.rules.specs.Demand3.{InOneBlock, HoldsModel, Demand3, PlainDemand3}
 
-module _ (L : Limits) (file : FileRule) (says : RuleSays) (decides : Decides file says) (fits : FitsFields L file) (rule : Rule) (theory : Meets rule says) where
+module _ (L : Limits) (file : FileRule) (says : RuleSays) (decides : Decides file says) (fits : FitsFields L file) (rule : Rule) (theory : Covers rule says) where
   -- an accepted certificate's blocks are numbered and whole, and the largest relation
-  record Told (M : Model) (blocks : List ℕ) : Type 1 where
+  record AcceptedFacts (M : Model) (blocks : List ℕ) : Type 1 where
     pub sound : SoundModel L M
     pub whole : length blocks ≡ length (M .labels)
     pub numbered : Numbered (length (M .labels)) blocks
     pub largest : LargestBisimulation (rule .met) (automatonOf M) (InOneBlock blocks)
 
-  told : (bytes C blocks : List ℕ) (a : Accepted L says (file .mark) bytes C blocks) → Told (a .M) blocks
+  facts : (bytes C blocks : List ℕ) (a : Accepted L says (file .mark) bytes C blocks) → AcceptedFacts (a .M) blocks
   unfolding automatonOf
-  told bytes C blocks a =
+  facts bytes C blocks a =
       let k = a .kept .keeps in
-      subst (Told (a .M)) (a .kept .named)
+      subst (AcceptedFacts (a .M)) (a .kept .named)
       (record {
         sound = a .sound;
         whole = k .blocks .whole;
@@ -55,13 +55,13 @@ module _ (L : Limits) (file : FileRule) (says : RuleSays) (decides : Decides fil
   one-model : (bytes : List ℕ) (M N : Model) → HoldsModel L bytes M → HoldsModel L bytes N → M ≡ N
   one-model bytes M N h k = let e = sym (h .reads) ∙ k .reads in cc
 
-  told-of : (bytes C blocks : List ℕ) → Bytes bytes → Bytes C → AcceptedFor L file bytes C blocks → (M : Model) → HoldsModel L bytes M → Told M blocks
-  told-of bytes C blocks b c a M h =
+  facts-of : (bytes C blocks : List ℕ) → Bytes bytes → Bytes C → AcceptedFor L file bytes C blocks → (M : Model) → HoldsModel L bytes M → AcceptedFacts M blocks
+  facts-of bytes C blocks b c a M h =
       let acc = from-judging bytes C blocks b c a in
-      subst (λ (N : Model). Told N blocks) (one-model bytes (acc .M) M (holds bytes C blocks b acc) h) (told bytes C blocks acc)
+      subst (λ (N : Model). AcceptedFacts N blocks) (one-model bytes (acc .M) M (holds bytes C blocks b acc) h) (facts bytes C blocks acc)
 
   -- two lists of blocks that are the largest relation of one automaton are one
-  same-blocks : (M N : Model) (b c : List ℕ) → Told M b → Told N c → HoldOneAutomaton M N → b ≡ c
+  same-blocks : (M N : Model) (b c : List ℕ) → AcceptedFacts M b → AcceptedFacts N c → HoldOneAutomaton M N → b ≡ c
   unfolding HoldOneAutomaton automatonOf
   same-blocks M N b c x y one =
       let n : length (M .labels) ≡ length (N .labels) = one .states in
@@ -79,9 +79,9 @@ module _ (L : Limits) (file : FileRule) (says : RuleSays) (decides : Decides fil
       record {
         largest = λ bytes C blocks b c a.
             let acc = from-judging bytes C blocks b c a in
-            record { M = acc .M; holds = holds bytes C blocks b acc; largest = told bytes C blocks acc .largest };
+            record { M = acc .M; holds = holds bytes C blocks b acc; largest = facts bytes C blocks acc .largest };
         oneAnswer = λ bytes₁ C₁ blocks₁ bytes₂ C₂ blocks₂ b₁ c₁ b₂ c₂ a₁ a₂ M₁ M₂ h₁ h₂ one.
-            same-blocks M₁ M₂ blocks₁ blocks₂ (told-of bytes₁ C₁ blocks₁ b₁ c₁ a₁ M₁ h₁) (told-of bytes₂ C₂ blocks₂ b₂ c₂ a₂ M₂ h₂) one;
+            same-blocks M₁ M₂ blocks₁ blocks₂ (facts-of bytes₁ C₁ blocks₁ b₁ c₁ a₁ M₁ h₁) (facts-of bytes₂ C₂ blocks₂ b₂ c₂ a₂ M₂ h₂) one;
       }
 
 -- document 01's limits fit the fields

@@ -10,6 +10,7 @@ use Rattle.bisimulation.specs.Choice.{ifTrue, both}
 use Rattle.bisimulation.specs.ChoiceLaws.{less, notLess, same, notSame, isTrue, pastLess, pastSame, keptLess, keptSame, keptTrue}
 use Rattle.bisimulation.specs.Automaton.{Automaton}
 use Rattle.bisimulation.specs.Pairs.{Pairs}
+use Rattle.rules.specs.AnyRule.{Decides, Narrow}
 use Rattle.rules.specs.Bytes.{byteAt, twoAt, threeAt, fourAt, twoBytes}
 use Rattle.rules.specs.Standing.{Stands, IsBytes, stands-both, stands-first, stands-second, stands-cons, stands-byte, stands-rest, stands-at, mark-stands, after-two, after-four, rest-of-two, rest-of-four, two-is, two-stands, two-small, length-two, length-four, four-is, four-stands, four-small}
 use Rattle.rules.specs.Certificate.{fault, noFault, FileRule, kCountAt, afterK, wCountAt, afterFlow, kOf, wOf, flowAt, kFault, wFault, flowFault}
@@ -17,7 +18,7 @@ use Rattle.rules.specs.Judging.{Question}
 use Rattle.rules.specs.Encoding.{KEntry, WEntry, FlowRecord, fourBytes, listBytes, kBytes, wBytes, flowBytes, kIn, wIn, flowOf}
 use Rattle.rules.specs.Accepted.{RuleSays, GoodK, GoodW, GoodFlow, kKey, wKey}
 use Rattle.rules.specs.EntryLists.{entriesFrom, length-entriesFrom, length-listBytes, entries-stand, entries-read, entries-good, entries-pass}
-use Rattle.rules.specs.RefutationRecords.{Decides, Narrow, no-fault, none-first, first-none}
+use Rattle.rules.specs.RefutationRecords.{no-fault, none-first, first-none}
 
 -- the entries and the record that stand at a place
 unfoldable pub kAt : List ℕ → ℕ → KEntry

@@ -6,7 +6,6 @@ use mathlib.Core.Bool.{Bool, true, false, cond}
 use mathlib.Core.List.{List, [], _∷_}
 use lib.Dec.{eqb}
 use lib.ListN.{length, getD}
-use lib.IntN.{ℤ}
 use lib.Seq.{ext-getD}
 use borrow.Author.Tests.{eqb-true}
 use native.Mathlib.Omega.{arith}
@@ -18,9 +17,10 @@ use Rattle.bisimulation.specs.Pairs.{Pairs, equalLabels}
 use Rattle.bisimulation.specs.Largest.{LargestBisimulation}
 use Rattle.bisimulation.specs.Rule.{Rule}
 use Rattle.bisimulation.specs.PairsLeft.{PairsLeft, start, refuted}
-use Rattle.bisimulation.specs.Blocks.{SharedWhenLeft}
+use Rattle.bisimulation.specs.Blocks.{SharedExactlyWhenLeft}
 use Rattle.bisimulation.specs.BlocksLargest.{blocksLargest}
 use Rattle.bisimulation.specs.Plain.{plain}
+use Rattle.rules.specs.AnyRule.{Covers}
 use Rattle.rules.specs.Limits.{Limits}
 use Rattle.rules.specs.Judging.{Question}
 use Rattle.rules.specs.Encoding.{Refutation, KEntry, WEntry, FlowRecord, Certificate, pricesOf, kIn, wIn, flowOf}
@@ -41,12 +41,7 @@ answered : {says : RuleSays} {A : Automaton} {R : Pairs} {xs : List Question} {f
 answered x (GoodFlows.flow {f = f} g gs) Among.here = record { f = f; good = g }
 answered x (GoodFlows.flow g gs) (Among.there a) = answered x gs a
 
--- what a rule says of a certificate belongs to its theory: refutations refute, and a good flow meets its question
-pub record Meets (rule : Rule) (says : RuleSays) : Type 1 where
-  pub refutes : (A : Automaton) (R : Pairs) (q t : ℕ) (p : ℕ → ℤ) → says .refutes A R q t p → rule .refutes A R q t p
-  pub meets : (A : Automaton) (R : Pairs) (W : ℕ → ℕ → Type 0) (x : Question) (f : FlowRecord) → GoodFlow says A R x f → ((v u : ℕ) → v < A .states → u < A .states → R v u ≡ true → W v u) → rule .met A W (x .challenger) (x .defender)
-
-module _ (rule : Rule) (says : RuleSays) (theory : Meets rule says) (A : Automaton) (sound : SoundAutomaton A) where
+module _ (rule : Rule) (says : RuleSays) (theory : Covers rule says) (A : Automaton) (sound : SoundAutomaton A) where
   left-after : (R pairs : Pairs) (xs : List Refutation) → GoodRefutations says A R xs pairs → PairsLeft rule A R → PairsLeft rule A pairs
   left-after R pairs xs GoodRefutations.done l = l
   left-after R pairs xs (GoodRefutations.refute {x = x} {xs = rest} g gs) l =
@@ -59,7 +54,7 @@ module _ (rule : Rule) (says : RuleSays) (theory : Meets rule says) (A : Automat
       blocksLargest sound (left-after (equalLabels A) (k .left) (K .refutations) (k .refutations) start) shared
       (record { met = λ s t z n q l e. question s t z n q l e })
     where
-      shared : SharedWhenLeft A (k .left) (InOneBlock (K .blocks))
+      shared : SharedExactlyWhenLeft A (k .left) (InOneBlock (K .blocks))
       shared =
           record {
             onStates = λ s t z. (omega (arith, z .first, k .blocks .whole), omega (arith, z .second, k .blocks .whole));
@@ -130,7 +125,7 @@ in-after (InPlainQuestion.before a b) = b
 in-after (InPlainQuestion.move n a b) = absurd (omega arith)
 in-after (InPlainQuestion.after n a b) = b
 
-pub plain-meets : Meets plain plainSays
+pub plain-meets : Covers plain plainSays
 unfolding flowOf
 plain-meets =
     record {

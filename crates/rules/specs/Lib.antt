@@ -15,6 +15,7 @@ pub mod PlainRule
 pub mod Judging
 pub mod Encoding
 pub mod Accepted
+pub mod AnyRule
 pub mod QuestionsLaws
 pub mod EntryLists
 pub mod RefutationRecords

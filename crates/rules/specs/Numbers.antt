@@ -14,7 +14,7 @@ use Rattle.bisimulation.specs.ChoiceLaws.{eitherLess, eitherSame}
 use Rattle.bisimulation.specs.Automaton.{Automaton}
 use Rattle.bisimulation.specs.StepRule.{Flow}
 use Rattle.bisimulation.specs.Pairs.{Pairs}
-use Rattle.rules.specs.Limits.{Limits}
+use Rattle.rules.specs.Limits.{Limits, limits}
 use Rattle.rules.specs.Bytes.{byteAt, twoAt, threeAt}
 use Rattle.rules.specs.Reading.{Scan, sound, refused, scanWhole, readingOf, readWhole}
 use Rattle.rules.specs.ReadingLaws.{Tells, whole-tells}
@@ -190,3 +190,7 @@ plain-listed =
 
     target : Listed (fault 21)
     target = listed 21 (omega arith) (omega arith)
+
+-- document 01's judging answers a number that it has
+pub plain-number : (M C : List ℕ) → JudgementNumber (judge limits plainRule M C)
+plain-number = judge-number limits plainRule plain-listed

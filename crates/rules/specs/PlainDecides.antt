@@ -17,9 +17,10 @@ use Rattle.bisimulation.specs.StepRule.{Flow, Sides, Holds, beforeMove, afterMo
 use Rattle.bisimulation.specs.Pairs.{Pairs}
 use Rattle.bisimulation.specs.Prices.{priceAt, priceOfTargets}
 use Rattle.bisimulation.specs.Refutation.{PriceCondition, RelatedCondition, LastCondition, RefutesInternal, RefutesExternal, PlainRefutes}
+use Rattle.rules.specs.AnyRule.{Decides}
 use Rattle.rules.specs.Certificate.{fault, noFault}
 use Rattle.rules.specs.PlainRule.{byKind, plainPriceCount, priceCondition, allWithAction, allRelated, below, internalPricesFault, externalPricesFault, plainPricesFault, plainInQuestion, allHold, internalEquationsFault, externalEquationsFault, plainEquationsFault, plainRule}
-use Rattle.rules.specs.RefutationRecords.{Decides, no-fault}
+use Rattle.rules.specs.RefutationRecords.{no-fault}
 use Rattle.rules.specs.PlainSays.{InPlainQuestion, InternalEquations, ExternalEquations, PlainEquations, plainSays}
 
 -- a test and what it says

@@ -1,7 +1,7 @@
 -- A refutation record without fault is the encoding of a refutation that keeps document 01's rules, and the other way round.
 use Prim.Native.Nat.{ℕ, zero, suc, _+_, _*_, _^_, _≤_, _<_}
 use mathlib.Core.Path.{_≡_, refl, sym, _∙_, ap, ap₂, subst, subst₂}
-use mathlib.Core.Logic.{_≢_, _↔_}
+use mathlib.Core.Logic.{_≢_}
 use mathlib.Core.Bool.{Bool, true, false, cond}
 use mathlib.Core.List.{List, [], _∷_, _++_}
 use lib.Dec.{eqb}
@@ -12,9 +12,9 @@ use borrow.Author.Tests.{eqb-true, eqb-false}
 use native.Mathlib.Omega.{arith}
 use Rattle.bisimulation.specs.Choice.{ifSame}
 use Rattle.bisimulation.specs.ChoiceLaws.{less, notLess, same, notSame, isTrue, pastLess, keptLess, keptSame, pastSame, keptTrue}
-use Rattle.bisimulation.specs.Automaton.{Automaton, SoundAutomaton}
-use Rattle.bisimulation.specs.StepRule.{Flow}
+use Rattle.bisimulation.specs.Automaton.{Automaton}
 use Rattle.bisimulation.specs.Pairs.{Pairs}
+use Rattle.rules.specs.AnyRule.{Decides, Narrow}
 use Rattle.rules.specs.Bytes.{twoAt, signedAt, twoBytes}
 use Rattle.rules.specs.Standing.{Stands, IsBytes, stands-first, stands-cons, stands-byte, stands-rest, stands-at, mark-stands, after-two, rest-of-two, two-is, two-stands, length-two, length-four, signed-is, signed-stands, signed-small}
 use Rattle.rules.specs.Certificate.{Fault, fault, noFault, firstOf, FileRule, challengerAt, defenderAt, pricesAt, afterRefutation, pairFault, refutationFault}
@@ -22,20 +22,6 @@ use Rattle.rules.specs.Encoding.{Refutation, complement, priceBytes, pri
 use Rattle.rules.specs.Accepted.{RuleSays, GoodRefutation}
 use Rattle.rules.specs.EntryLists.{entriesFrom, length-entriesFrom, length-listBytes, entries-stand, entries-read}
 use Rattle.rules.specs.SoundModel.{Each}
-
--- what a rule decides of a file is what it says: a test that finds no fault is the proposition
-pub record Decides (file : FileRule) (says : RuleSays) : Type 0 where
-  pub priceCount : (A : Automaton) (q : ℕ) → file .priceCount A q ≡ says .priceCount A q
-  pub refutes : (A : Automaton) (R : Pairs) (q t : ℕ) (p : ℕ → ℤ) → (noFault ≡ file .pricesFault A R q t p) ↔ says .refutes A R q t p
-  pub onlyPrices : (A : Automaton) → SoundAutomaton A → (R : Pairs) (q t : ℕ) (p p′ : ℕ → ℤ) → t < A .states → ((i : ℕ) → i < says .priceCount A q → p i ≡ p′ i) → says .refutes A R q t p → says .refutes A R q t p′
-  pub inQuestion : (A : Automaton) (q t layer r : ℕ) → (file .inQuestion A q t layer r ≡ true) ↔ says .inQuestion A q t layer r
-  pub equations : (A : Automaton) (q t : ℕ) (f : Flow) → (noFault ≡ file .equationsFault A q t f) ↔ says .equations A q t f
-
--- the automaton is sound, and its numbers fit the fields of a certificate
-pub record Narrow (A : Automaton) : Type 0 where
-  pub sound : SoundAutomaton A
-  pub states : A .states ≤ 256
-  pub transitions : A .transitions ≤ 65536
 
 -- a refusal is a fault
 pub no-fault : (k : ℕ) → noFault ≡ fault (suc k) → ⊥

@@ -1,0 +1,61 @@
+-- `start` meets its contract. The invariant: the first v rows hold the pairs.
+use Prim.Native.Nat.{_≤_, _-_}
+use mathlib.Core.Path.{_≡_}
+use native.Mathlib.Omega.{arith}
+use Rattle.pairs.specs.Rows.{HoldsRows, sameLabels}
+use Rattle.pairs.specs.RowsLaws.{rows-none, rows-more}
+use Rattle.pairs.proofs.start.Statement.{statement}
+use Rattle.pairs.proofs.start.Tie as tie
+
+abbrev Inv-loop : tie.InvT-loop
+Inv-loop labels n rows₀ v₀ rows v = (v ≤ n) × HoldsRows v n (sameLabels labels) rows
+
+abbrev μ-loop : tie.MeasureT-loop
+μ-loop labels n rows₀ v₀ rows v = n - v
+
+loop-holds : tie.Need-loop-holds Inv-loop μ-loop
+loop-holds c = (omega arith, rows-none _ _ _ (omega arith))
+
+shared-slice-read-row-of : tie.Need-shared-slice-read-row-of Inv-loop μ-loop
+shared-slice-read-row-of c = omega arith
+
+row-of-requires : tie.Need-row-of-requires Inv-loop μ-loop
+row-of-requires c κs = omega arith
+
+mul-rows : tie.Need-mul-rows Inv-loop μ-loop
+mul-rows c = omega arith
+
+element-write-rows : tie.Need-element-write-rows Inv-loop μ-loop
+element-write-rows c = omega arith
+
+add-v : tie.Need-add-v Inv-loop μ-loop
+add-v c = omega arith
+
+loop-less : tie.Need-loop-less Inv-loop μ-loop
+loop-less c = omega arith
+
+loop-again : tie.Need-loop-again Inv-loop μ-loop
+loop-again c =
+    let l = c .before .before .before .loop in
+    (omega arith, rows-more _ _ _ _ _ (l .inv .1) (omega arith) (c .row-of .ensures))
+
+returns : tie.Need-returns Inv-loop μ-loop
+returns c =
+    let e : c .before .loop .v ≡ c .before .before .before .args .n = omega arith in
+    rw e at (c .before .loop .inv .1)
+
+pub start-spec : {M : Type 1} → statement M
+start-spec =
+    tie.close
+    (tie.spec
+    Inv-loop
+    μ-loop
+    loop-holds
+    shared-slice-read-row-of
+    row-of-requires
+    mul-rows
+    element-write-rows
+    add-v
+    loop-less
+    loop-again
+    returns)

@@ -1,0 +1,24 @@
+-- The bits of a number, by recursion on the position.
+use Prim.Native.Nat.{ℕ, zero, suc, _+_, _*_, _/_, _%_}
+use mathlib.Core.Bool.{Bool}
+use lib.Dec.{eqb}
+
+-- how many bits the machine's word has
+abbrev pub wordBits : ℕ
+wordBits = 64
+
+-- the bit at a position is 1
+unfoldable pub bitOf : ℕ → ℕ → Bool
+bitOf x zero = eqb (x % 2) 1
+bitOf x (suc t) = bitOf (x / 2) t
+
+-- the number with the bit at a position made d
+unfoldable pub putBit : ℕ → ℕ → ℕ → ℕ
+putBit d x zero = x / 2 * 2 + d
+putBit d x (suc t) = putBit d (x / 2) t * 2 + x % 2
+
+abbrev pub setBit : ℕ → ℕ → ℕ
+setBit = putBit 1
+
+abbrev pub clearBit : ℕ → ℕ → ℕ
+clearBit = putBit 0

@@ -1,0 +1,85 @@
+-- The laws of the bits, and what the machine's shift and mask make of them.
+use Prim.Native.Nat.{ℕ, zero, suc, _+_, _-_, _*_, _/_, _%_, _^_, _<_, min, max}
+use mathlib.Core.Path.{_≡_, refl, ap, ap₂, _∙_}
+use mathlib.Core.Bool.{false}
+use native.Mathlib.Omega.{arith}
+use native.Mathlib.Nat.{pow-suc, mod-eq-of-lt}
+use lib.Dec.{eqb}
+use lib.Bits.{bitAnd, bitOr, and-step, or-step, and-mask, or-zero-r}
+use lib.Pow.{pow-lt, pow-pos, shr-shr, shl-exact}
+use Rattle.pairs.specs.Bits.{bitOf, putBit, setBit, clearBit}
+
+-- no bit of 0 is 1
+pub bitOf-none : (t : ℕ) → bitOf 0 t ≡ false
+unfolding bitOf
+bitOf-none zero = refl
+bitOf-none (suc t) = bitOf-none t
+
+-- a number is its lowest bit and the others
+half : (x d : ℕ) → d < 2 → (x * 2 + d) / 2 ≡ x
+half x d h = omega arith
+
+lowest : (x d : ℕ) → d < 2 → (x * 2 + d) % 2 ≡ d
+lowest x d h = omega arith
+
+-- the bit that was put, and every other
+pub bitOf-put : (d x t : ℕ) → d < 2 → bitOf (putBit d x t) t ≡ eqb d 1
+unfolding bitOf putBit
+bitOf-put d x zero h = ap (λ (z : ℕ). eqb z 1) (lowest (x / 2) d h)
+bitOf-put d x (suc t) h = ap (λ (z : ℕ). bitOf z t) (half (putBit d (x / 2) t) (x % 2) (omega arith)) ∙ bitOf-put d (x / 2) t h
+
+pub bitOf-other : (d x t u : ℕ) → d < 2 → (u ≡ t → ⊥) → bitOf (putBit d x t) u ≡ bitOf x u
+unfolding bitOf putBit
+bitOf-other d x zero zero h o = absurd (o refl)
+bitOf-other d x zero (suc u) h o = ap (λ (z : ℕ). bitOf z u) (half (x / 2) d h)
+bitOf-other d x (suc t) zero h o = ap (λ (z : ℕ). eqb z 1) (lowest (putBit d (x / 2) t) (x % 2) (omega arith))
+bitOf-other d x (suc t) (suc u) h o = ap (λ (z : ℕ). bitOf z u) (half (putBit d (x / 2) t) (x % 2) (omega arith)) ∙ bitOf-other d (x / 2) t u h (λ e. o (ap suc e))
+
+-- the machine's `x >> t & 1 == 1`
+pub bitOf-shift : (x t : ℕ) → eqb (bitAnd (x / 2 ^ t) 1) 1 ≡ bitOf x t
+unfolding bitOf
+bitOf-shift x zero =
+    let e : x / 1 ≡ x = omega arith in
+    ap (λ (z : ℕ). eqb (bitAnd z 1) 1) e ∙ ap (λ (z : ℕ). eqb z 1) (and-mask x 1)
+bitOf-shift x (suc t) =
+    let e : x / 2 ^ suc t ≡ x / 2 / 2 ^ t = omega (arith, shr-shr x 1 t, ap (λ (z : ℕ). x / 2 ^ z) (one-more t)) in
+    ap (λ (z : ℕ). eqb (bitAnd z 1) 1) e ∙ bitOf-shift (x / 2) t
+  where
+    one-more : (t : ℕ) → 1 + t ≡ suc t
+    one-more t = omega arith
+
+-- the machine's `1 << t`, in words of w bits
+one-shifted : (w t : ℕ) → t < w → (1 * 2 ^ t) % 2 ^ w ≡ 2 ^ t
+one-shifted w t h = shl-exact 1 t w (omega arith) (omega arith) ∙ omega arith
+
+or-power : (x t : ℕ) → bitOr x (2 ^ t) ≡ setBit x t
+unfolding putBit
+or-power x zero = or-step x 1 ∙ omega (arith, or-zero-r (x / 2))
+or-power x (suc t) =
+    let e : 2 ^ suc t / 2 ≡ 2 ^ t = omega (arith, pow-suc 2 t) in
+    let f : 2 ^ suc t % 2 ≡ 0 = omega (arith, pow-suc 2 t) in
+    or-step x (2 ^ suc t) ∙ ap₂ (λ (a b : ℕ). bitOr (x / 2) a * 2 + max (x % 2) b) e f ∙ omega (arith, or-power (x / 2) t)
+
+-- the machine's `x | 1 << t`
+pub setBit-or : (w x t : ℕ) → t < w → bitOr x ((1 * 2 ^ t) % 2 ^ w) ≡ setBit x t
+setBit-or w x t h = ap (bitOr x) (one-shifted w t h) ∙ or-power x t
+
+and-powers : (w x t : ℕ) → x < 2 ^ w → t < w → bitAnd x ((2 ^ w - 1) - 2 ^ t) ≡ clearBit x t
+unfolding putBit
+and-powers zero x t h l = absurd (omega arith)
+and-powers (suc w) x zero h l =
+    let p : 0 < 2 ^ w = pow-pos w in
+    let e : (2 ^ suc w - 1 - 1) / 2 ≡ 2 ^ w - 1 = omega (arith, pow-suc 2 w) in
+    let f : (2 ^ suc w - 1 - 1) % 2 ≡ 0 = omega (arith, pow-suc 2 w) in
+    let i : x / 2 < 2 ^ w = omega (arith, pow-suc 2 w) in
+    and-step x (2 ^ suc w - 1 - 1) ∙ ap₂ (λ (a b : ℕ). bitAnd (x / 2) a * 2 + min (x % 2) b) e f ∙ omega (arith, and-mask (x / 2) w, mod-eq-of-lt i)
+and-powers (suc w) x (suc t) h l =
+    let p : 2 ^ t < 2 ^ w = pow-lt (omega arith) in
+    let e : (2 ^ suc w - 1 - 2 ^ suc t) / 2 ≡ 2 ^ w - 1 - 2 ^ t = omega (arith, pow-suc 2 w, pow-suc 2 t) in
+    let f : (2 ^ suc w - 1 - 2 ^ suc t) % 2 ≡ 1 = omega (arith, pow-suc 2 w, pow-suc 2 t) in
+    let i : x / 2 < 2 ^ w = omega (arith, pow-suc 2 w) in
+    and-step x (2 ^ suc w - 1 - 2 ^ suc t) ∙ ap₂ (λ (a b : ℕ). bitAnd (x / 2) a * 2 + min (x % 2) b) e f ∙ omega (arith, and-powers w (x / 2) t i (omega arith))
+
+-- the machine's `x & !(1 << t)`
+pub clearBit-and : (w x t : ℕ) → x < 2 ^ w → t < w → bitAnd x ((2 ^ w - 1) - (1 * 2 ^ t) % 2 ^ w) ≡ clearBit x t
+clearBit-and w x t h l = ap (λ (z : ℕ). bitAnd x ((2 ^ w - 1) - z)) (one-shifted w t l) ∙ and-powers w x t h l

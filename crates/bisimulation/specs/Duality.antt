@@ -18,10 +18,10 @@ use Rattle.bisimulation.specs.Refutation.{PlainRefutes}
 module _ (A : Automaton) (sound : SoundAutomaton A) (W : ℕ → ℕ → Type 0) (q t : ℕ) (inStates : t < A .states) where
   internalContradiction : (X G : ℕ → ℕ) → FeasibleFor A 0 X X → ((v u : ℕ) → v < A .states → u < A .states → W v u → G u ≤ X v) → A .denominator q * X t < value (A .states) (A .weight q) G → MetInternal A W q t → ⊥
   unfolding internalMove
-  internalContradiction X G feasible related last m = targetContradiction A (m .flow) q (X t) 0 G (m .atLeastOne) (m .target) total (omega arith)
+  internalContradiction X G feasible related last m = targetContradiction A (m .flow) q (X t) 0 G (m .atLeastOne) (m .target) atMost (omega arith)
     where
-      total : value (A .states) (overSources A (m .flow .w)) G + m .flow .D * 0 ≤ m .flow .D * X t
-      total =
+      atMost : value (A .states) (overSources A (m .flow .w)) G + m .flow .D * 0 ≤ m .flow .D * X t
+      atMost =
           omega (
             arith,
             valueSame (A .states) t (m .flow .D) X inStates,
@@ -32,10 +32,10 @@ module _ (A : Automaton) (sound : SoundAutomaton A) (W : ℕ → ℕ → Type 0)
 
   externalContradiction : (X Y G : ℕ → ℕ) → FeasibleFor A 0 X X → FeasibleFor A 0 Y Y → FeasibleFor A (A .action q) X Y → ((v u : ℕ) → v < A .states → u < A .states → W v u → G u ≤ Y v) → A .denominator q * X t < value (A .states) (A .weight q) G → MetExternal A W q t → ⊥
   unfolding beforeMove afterMove
-  externalContradiction X Y G before after move related last m = targetContradiction A (m .flow) q (X t) 0 G (m .atLeastOne) (m .target) total (omega arith)
+  externalContradiction X Y G before after move related last m = targetContradiction A (m .flow) q (X t) 0 G (m .atLeastOne) (m .target) atMost (omega arith)
     where
-      total : value (A .states) (overSources A (m .flow .w)) G + m .flow .D * 0 ≤ m .flow .D * X t
-      total =
+      atMost : value (A .states) (overSources A (m .flow .w)) G + m .flow .D * 0 ≤ m .flow .D * X t
+      atMost =
           omega (
             arith,
             valueSame (A .states) t (m .flow .D) X inStates,

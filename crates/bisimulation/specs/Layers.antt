@@ -65,12 +65,12 @@ module _ (A : Automaton) where
       row : (v : ℕ) → v < A .states → value (A .states) (w v) G ≤ overTargets A w v * Y v
       row v l = omega (arith, sumMono (A .states) (λ u. w v u * G u) (λ u. w v u * Y v) (λ u k. usedLe (w v u) (G u) (Y v) (h v u l k)), sumTimesRight (A .states) (Y v) (w v))
 
-  -- the equations at the targets against 'd0 times A(t) is below the sum of p0(u)G(u)': what w brings is not total for by D times A(t). A
-  -- rule with costs adds a
+  -- the equations at the targets against 'd0 times A(t) is below the sum of p0(u)G(u)': the value of what w brings cannot be
+  -- at most D times A(t). A rule with costs adds a
   pub targetContradiction : (f : Flow) (q x a : ℕ) (G : ℕ → ℕ) → 1 ≤ f .D → ((u : ℕ) → u < A .states → Holds (atTarget A f q u)) → value (A .states) (overSources A (f .w)) G + f .D * a ≤ f .D * x → A .denominator q * x < value (A .states) (A .weight q) G + A .denominator q * a → ⊥
   unfolding atTarget
-  targetContradiction f q x a G one eq total last =
-      omega (arith, targets, mul-le-mul-left (A .denominator q) total, mul-le-mul-left (f .D) last)
+  targetContradiction f q x a G one eq atMost last =
+      omega (arith, targets, mul-le-mul-left (A .denominator q) atMost, mul-le-mul-left (f .D) last)
     where
       targets : A .denominator q * value (A .states) (overSources A (f .w)) G ≡ f .D * value (A .states) (A .weight q) G
       targets =

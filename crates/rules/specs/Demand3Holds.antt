@@ -22,7 +22,7 @@ use Rattle.rules.specs.Accepted.{RuleSays, Accepted}
 use Rattle.rules.specs.AcceptedExactly.{accepted-exactly}
 use Rattle.rules.specs.PlainSays.{plainSays}
 use Rattle.rules.specs.PlainDecides.{plain-decides}
-use Rattle.rules.specs.LargestBlocks.{kept-largest, plain-meets, Numbered, one-numbering}
+use Rattle.rules.specs.LargestBlocks.{kept-largest, plain-covers, Numbered, one-numbering}
 use Rattle.rules.specs.Demand3.{InOneBlock, HoldsModel, Demand3, PlainDemand3}
 
 module _ (L : Limits) (file : FileRule) (says : RuleSays) (decides : Decides file says) (fits : FitsFields L file) (rule : Rule) (theory : Covers rule says) where
@@ -96,4 +96,4 @@ plain-accepted bytes C blocks b c =
 
 -- demand 3 for document 01
 pub plain-demand3 : PlainDemand3
-plain-demand3 = demand3 limits plainRule plainSays plain-decides plain-fits plain plain-meets
+plain-demand3 = demand3 limits plainRule plainSays plain-decides plain-fits plain plain-covers

@@ -125,9 +125,9 @@ in-after (InPlainQuestion.before a b) = b
 in-after (InPlainQuestion.move n a b) = absurd (omega arith)
 in-after (InPlainQuestion.after n a b) = b
 
-pub plain-meets : Covers plain plainSays
+pub plain-covers : Covers plain plainSays
 unfolding flowOf
-plain-meets =
+plain-covers =
     record {
       refutes = λ A R q t p h. h;
       meets = λ A R W x f g inside.

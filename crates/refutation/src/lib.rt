@@ -1,0 +1,106 @@
+// The prices of a refutation, and their sums over the entries of a transition.
+ghost use Prim.Native.Nat.{_+_, _*_, _≤_, _<_};
+ghost use lib.ListN.{length};
+ghost use mathlib.Core.Path.{_≡_};
+ghost use Rattle.rules.specs.Limits.{limits};
+ghost use Rattle.rules.specs.Bytes.{signedAt};
+ghost use Rattle.rules.specs.Reading.{entriesAt};
+ghost use Rattle.refutation.specs.Prices.{HoldsPrices, EntryTaken, Addable, WithTerm, Summable, IsSum};
+use field::Cursor;
+
+pub const STATES: usize = 64;
+
+pub type Prices = [i64; STATES];
+
+pub struct Sums {
+    pub first: i64,
+    pub second: i64,
+}
+
+struct Entry {
+    state: usize,
+    weight: usize,
+    next: Cursor,
+}
+
+// The prices that follow each other from a place on, into a table.
+pub fn prices_at(s: &[u8], at: usize, n: usize, out: &mut Prices)
+    requires { ⌜ (n ≤ limits .states) × (at + 4 * n ≤ length (now s)) × (length (now out) ≡ limits .states) ⌝ }
+    ensures { λ r. ⌜ HoldsPrices n (λ i. signedAt (now (s .entry)) (at + 4 * i)) (now (out .exit)) ⌝ }
+{
+    let mut i = 0;
+    let mut place = Cursor::new(at);
+    while i < n {
+        let field = place.price(s);
+        let value = field.value;
+        out[i] = value;
+        place = field.next;
+        i += 1;
+    }
+}
+
+fn entry_at(s: &[u8], place: Cursor) -> Entry
+    requires { ⌜ place .at + 2 < length (now s) ⌝ }
+    ensures { λ r. ⌜ EntryTaken (now (s .entry)) (place .at) r ⌝ }
+{
+    let state = place.byte(s);
+    let weight = state.next.pair(s);
+    let next = weight.next;
+    Entry {
+        state: state.value,
+        weight: weight.value,
+        next,
+    }
+}
+
+// A sum with one more term, weight times price.
+fn with_term(sum: i64, weight: usize, price: i64) -> i64
+    requires { ⌜ Addable sum weight price ⌝ }
+    ensures { λ r. ⌜ WithTerm sum weight price r ⌝ }
+{
+    sum + weight as i64 * price
+}
+
+// The sum of weight times price over the entries from a place on.
+pub fn sum_of(s: &[u8], at: usize, count: usize, prices: &Prices) -> i64
+    requires { ⌜ Summable (now s) count at (now prices) ⌝ }
+    ensures { λ r. ⌜ IsSum (entriesAt (now (s .entry)) count at) (now (prices .entry)) r ⌝ }
+{
+    let mut unread = count;
+    let mut place = Cursor::new(at);
+    let mut sum = 0;
+    while 0 < unread {
+        let entry = entry_at(s, place);
+        let v = entry.state;
+        let price = prices[v];
+        sum = with_term(sum, entry.weight, price);
+        place = entry.next;
+        unread -= 1;
+    }
+    sum
+}
+
+// The sums for two tables of prices, in one pass over the entries.
+pub fn sums_of(s: &[u8], at: usize, count: usize, first: &Prices, second: &Prices) -> Sums
+    requires { ⌜ Summable (now s) count at (now first) × Summable (now s) count at (now second) ⌝ }
+    ensures { λ r. ⌜ IsSum (entriesAt (now (s .entry)) count at) (now (first .entry)) (r .first) × IsSum (entriesAt (now (s .entry)) count at) (now (second .entry)) (r .second) ⌝ }
+{
+    let mut left = count;
+    let mut place = Cursor::new(at);
+    let mut one = 0;
+    let mut other = 0;
+    while 0 < left {
+        let entry = entry_at(s, place);
+        let v = entry.state;
+        let price = first[v];
+        let other_price = second[v];
+        one = with_term(one, entry.weight, price);
+        other = with_term(other, entry.weight, other_price);
+        place = entry.next;
+        left -= 1;
+    }
+    Sums {
+        first: one,
+        second: other,
+    }
+}

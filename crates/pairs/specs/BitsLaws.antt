@@ -1,12 +1,13 @@
 -- The laws of the bits, and what the machine's shift and mask make of them.
 use Prim.Native.Nat.{ℕ, zero, suc, _+_, _-_, _*_, _/_, _%_, _^_, _<_, min, max}
-use mathlib.Core.Path.{_≡_, refl, ap, ap₂, _∙_}
-use mathlib.Core.Bool.{false}
+use mathlib.Core.Path.{_≡_, refl, sym, ap, ap₂, _∙_}
+use mathlib.Core.Bool.{Bool, true, false}
 use native.Mathlib.Omega.{arith}
 use native.Mathlib.Nat.{pow-suc, mod-eq-of-lt}
 use lib.Dec.{eqb}
 use lib.Bits.{bitAnd, bitOr, and-step, or-step, and-mask, or-zero-r}
 use lib.Pow.{pow-lt, pow-pos, shr-shr, shl-exact}
+use borrow.Author.Tests.{eqb-true, eqb-false}
 use Rattle.pairs.specs.Bits.{bitOf, putBit, setBit, clearBit}
 
 -- no bit of 0 is 1
@@ -34,6 +35,25 @@ bitOf-other d x zero zero h o = absurd (o refl)
 bitOf-other d x zero (suc u) h o = ap (λ (z : ℕ). bitOf z u) (half (x / 2) d h)
 bitOf-other d x (suc t) zero h o = ap (λ (z : ℕ). eqb z 1) (lowest (putBit d (x / 2) t) (x % 2) (omega arith))
 bitOf-other d x (suc t) (suc u) h o = ap (λ (z : ℕ). bitOf z u) (half (putBit d (x / 2) t) (x % 2) (omega arith)) ∙ bitOf-other d (x / 2) t u h (λ e. o (ap suc e))
+
+-- numbers of w bits that agree are equal
+lowest-same : (x y : ℕ) → eqb (x % 2) 1 ≡ eqb (y % 2) 1 → x % 2 ≡ y % 2
+lowest-same x y e = go (eqb (y % 2) 1) refl
+  where
+    go : (t : Bool) → eqb (y % 2) 1 ≡ t → x % 2 ≡ y % 2
+    go true p = eqb-true (x % 2) 1 (e ∙ p) ∙ sym (eqb-true (y % 2) 1 p)
+    go false p =
+        let a : x % 2 ≡ 1 → ⊥ = eqb-false (x % 2) 1 (e ∙ p) in
+        let b : y % 2 ≡ 1 → ⊥ = eqb-false (y % 2) 1 p in
+        omega arith
+
+pub bits-same : (w x y : ℕ) → x < 2 ^ w → y < 2 ^ w → ((t : ℕ) → t < w → bitOf x t ≡ bitOf y t) → x ≡ y
+unfolding bitOf
+bits-same zero x y h l e = omega arith
+bits-same (suc w) x y h l e =
+    let high : x / 2 ≡ y / 2 = bits-same w (x / 2) (y / 2) (omega (arith, pow-suc 2 w)) (omega (arith, pow-suc 2 w)) (λ t below. e (suc t) (omega arith)) in
+    let low : x % 2 ≡ y % 2 = lowest-same x y (e zero (omega arith)) in
+    omega arith
 
 -- the machine's `x >> t & 1 == 1`
 pub bitOf-shift : (x t : ℕ) → eqb (bitAnd (x / 2 ^ t) 1) 1 ≡ bitOf x t

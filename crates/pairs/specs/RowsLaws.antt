@@ -1,26 +1,30 @@
 -- The laws of the rows.
-use Prim.Native.Nat.{ℕ, _+_, _<_}
-use mathlib.Core.Path.{_≡_, refl, sym, ap, ap₂, _∙_}
-use mathlib.Core.Bool.{Bool, true, false, cond}
+use Prim.Native.Nat.{ℕ, _+_, _^_, _<_}
+use mathlib.Core.Path.{_≡_, refl, sym, ap, ap₂, _∙_, subst}
+use mathlib.Core.Bool.{Bool, true, false, cond, not}
 use mathlib.Core.List.{List}
 use native.Mathlib.Omega.{arith}
+use native.Mathlib.Decide.{ℕ-discrete, decLt}
 use lib.Dec.{eqb}
-use lib.ListN.{length, getD, set, length-set}
+use lib.ListN.{length, getD, set, replicate, length-set, length-replicate, getD-replicate}
 use lib.Seq.{getD-set-same, getD-set-other}
 use borrow.Author.Count.{below-more}
 use borrow.Author.Tests.{eqb-true, eqb-false, eq-eqb, ne-eqb}
 use Rattle.bisimulation.specs.Choice.{both}
+use Rattle.bisimulation.specs.ChoiceLaws.{false-not, all-below, below-all}
 use Rattle.bisimulation.specs.Automaton.{Automaton}
 use Rattle.bisimulation.specs.Pairs.{Pairs, equalLabels, isPair, removed}
+use Rattle.rules.specs.Certificate.{agree, sameBlock}
 use Rattle.rules.specs.Limits.{limits}
-use Rattle.pairs.specs.Bits.{bitOf, setBit, clearBit}
-use Rattle.pairs.specs.BitsLaws.{bitOf-none, bitOf-put, bitOf-other}
-use Rattle.pairs.specs.Rows.{rowBit, HoldsRows, HoldsPairs, clearedRows, removedRows, sameLabels, IsRow}
+use Rattle.pairs.specs.Bits.{wordBits, bitOf, setBit, clearBit}
+use Rattle.pairs.specs.BitsLaws.{bitOf-none, bitOf-put, bitOf-other, bits-same}
+use Rattle.pairs.specs.Rows.{rowBit, HoldsRows, HoldsPairs, clearedRows, removedRows, sameLabels, IsRow, SmallBytes, AreClasses, Agrees, sharedAsRelated}
 
 -- the rows after the start
 pub holds-start : (A : Automaton) (labels : List ℕ) {n : ℕ} {rows : List ℕ} → HoldsPairs n (sameLabels labels) rows → ((v : ℕ) → v < n → getD labels v 0 ≡ A .label v) → HoldsPairs n (equalLabels A) rows
 unfolding sameLabels equalLabels
-holds-start A labels h e = record { whole = h .whole; bits = λ v u less below. h .bits v u less below ∙ ap₂ eqb (e v less) (e u below) }
+holds-start A labels h e =
+    record { whole = h .whole; bits = λ v u less below. h .bits v u less below ∙ ap₂ eqb (e v less) (e u below); rest = h .rest }
 
 -- one bit is cleared, and no other
 cleared : (s t : ℕ) (rows : List ℕ) (v u : ℕ) → s < length rows → rowBit (clearedRows s t rows) v u ≡ cond (isPair s t v u) false (rowBit rows v u)
@@ -48,43 +52,118 @@ cleared-length s t rows = length-set rows s (clearBit (getD rows s 0) t)
 pub holds-removed : {n : ℕ} {R : Pairs} {before after : List ℕ} → HoldsPairs n R before → (s t : ℕ) → after ≡ removedRows s t before → s < limits .states → t < limits .states → HoldsPairs n (removed s t R) after
 unfolding removedRows removed
 holds-removed {before = before} h s t e less below =
-    let first = cleared-length t s before in
     rw e (record {
-      whole = cleared-length s t (clearedRows t s before) ∙ first ∙ h .whole;
-      bits = λ v u vn un.
-          cleared s t (clearedRows t s before) v u (omega (arith, h .whole))
-          ∙ ap (cond (isPair s t v u) false) (cleared t s before v u (omega (arith, h .whole)) ∙ ap (cond (isPair t s v u) false) (h .bits v u vn un));
+      whole = cleared-length s t (clearedRows t s before) ∙ cleared-length t s before ∙ h .whole;
+      bits = λ v u vn un. twice v u (h .bits v u vn un);
+      rest = λ v u vn un. twice v u (h .rest v u vn un) ∙ none (isPair s t v u) (isPair t s v u);
     })
+  where
+    twice : (v u : ℕ) {b : Bool} → rowBit before v u ≡ b → rowBit (clearedRows s t (clearedRows t s before)) v u ≡ cond (isPair s t v u) false (cond (isPair t s v u) false b)
+    twice v u p =
+        cleared s t (clearedRows t s before) v u (omega (arith, cleared-length t s before, h .whole))
+        ∙ ap (cond (isPair s t v u) false) (cleared t s before v u (omega (arith, h .whole)) ∙ ap (cond (isPair t s v u) false) p)
+
+    none : (x y : Bool) → cond x false (cond y false false) ≡ false
+    none true y = refl
+    none false true = refl
+    none false false = refl
 
 -- the row of no state, and of one state more
-module _ (labels : List ℕ) (label : ℕ) where
-  pub row-none : IsRow labels label 0 0
+module _ (bytes : List ℕ) (byte : ℕ) where
+  pub row-none : IsRow bytes byte 0 0
   row-none = record { bits = λ u less. absurd (omega arith); rest = λ u h. bitOf-none u }
 
-  more : (u row next : ℕ) → IsRow labels label u row → ((k : ℕ) → (k ≡ u → ⊥) → bitOf next k ≡ bitOf row k) → bitOf next u ≡ eqb label (getD labels u 0) → IsRow labels label (u + 1) next
+  more : (u row next : ℕ) → IsRow bytes byte u row → ((k : ℕ) → (k ≡ u → ⊥) → bitOf next k ≡ bitOf row k) → bitOf next u ≡ eqb byte (getD bytes u 0) → IsRow bytes byte (u + 1) next
   more u row next r other here =
       record {
-        bits = below-more (λ (k : ℕ). bitOf next k ≡ eqb label (getD labels k 0)) u (λ k less. other k (λ e. omega arith) ∙ r .bits k less) here;
+        bits = below-more (λ (k : ℕ). bitOf next k ≡ eqb byte (getD bytes k 0)) u (λ k less. other k (λ e. omega arith) ∙ r .bits k less) here;
         rest = λ k h. other k (λ e. omega arith) ∙ r .rest k (omega arith);
       }
 
-  pub row-with : (u row : ℕ) → IsRow labels label u row → getD labels u 0 ≡ label → IsRow labels label (u + 1) (setBit row u)
+  pub row-with : (u row : ℕ) → IsRow bytes byte u row → getD bytes u 0 ≡ byte → IsRow bytes byte (u + 1) (setBit row u)
   row-with u row r e =
-      more u row (setBit row u) r (λ k o. bitOf-other 1 row u k (omega arith) o) (bitOf-put 1 row u (omega arith) ∙ sym (eq-eqb label (getD labels u 0) (sym e)))
+      more u row (setBit row u) r (λ k o. bitOf-other 1 row u k (omega arith) o) (bitOf-put 1 row u (omega arith) ∙ sym (eq-eqb byte (getD bytes u 0) (sym e)))
 
-  pub row-kept : (u row : ℕ) → IsRow labels label u row → (getD labels u 0 ≡ label → ⊥) → IsRow labels label (u + 1) row
-  row-kept u row r o = more u row row r (λ k o. refl) (r .rest u (omega arith) ∙ sym (ne-eqb label (getD labels u 0) (λ e. o (sym e))))
+  pub row-kept : (u row : ℕ) → IsRow bytes byte u row → (getD bytes u 0 ≡ byte → ⊥) → IsRow bytes byte (u + 1) row
+  row-kept u row r o = more u row row r (λ k o. refl) (r .rest u (omega arith) ∙ sym (ne-eqb byte (getD bytes u 0) (λ e. o (sym e))))
+
+-- the classes of no state, and of one state more
+module _ (bytes : List ℕ) where
+  pub classes-none : AreClasses bytes 0 (replicate (limits .states) 0)
+  classes-none =
+      record {
+        whole = length-replicate {A = ℕ} (limits .states) 0;
+        row = λ b h. subst (IsRow bytes b 0) (sym (getD-replicate {A = ℕ} (limits .states) b 0 0 h)) (row-none bytes b);
+      }
+
+  pub classes-more : (u b : ℕ) (rows : List ℕ) → AreClasses bytes u rows → getD bytes u 0 ≡ b → b < limits .states → AreClasses bytes (u + 1) (set rows b (setBit (getD rows b 0) u))
+  classes-more u b rows c e small =
+      record {
+        whole = length-set rows b (setBit (getD rows b 0) u) ∙ c .whole;
+        row = λ k h. go k h (ℕ-discrete k b);
+      }
+    where
+      go : (k : ℕ) → k < limits .states → Dec (k ≡ b) → IsRow bytes k (u + 1) (getD (set rows b (setBit (getD rows b 0) u)) k 0)
+      go k h (yes p) =
+          rw p (subst (IsRow bytes b (u + 1)) (sym (getD-set-same rows b (setBit (getD rows b 0) u) 0 (omega (arith, c .whole)))) (row-with bytes b u (getD rows b 0) (c .row b small) e))
+      go k h (no o) =
+          subst (IsRow bytes k (u + 1)) (sym (getD-set-other rows b k (setBit (getD rows b 0) u) 0 o)) (row-kept bytes k u (getD rows k 0) (c .row k h) (λ f. o (sym f ∙ e)))
+
+-- what is known of each row up to v, after row v is stored
+stored : (Q : ℕ → ℕ → Type 0) (v row : ℕ) (rows : List ℕ) → v < length rows → ((w : ℕ) → w < v → Q w (getD rows w 0)) → Q v row → (w : ℕ) → w < v + 1 → Q w (getD (set rows v row) w 0)
+stored Q v row rows h all here =
+    below-more (λ (w : ℕ). Q w (getD (set rows v row) w 0)) v
+    (λ w less. subst (Q w) (sym (getD-set-other rows v w row 0 (λ e. omega arith))) (all w less))
+    (subst (Q v) (sym (getD-set-same rows v row 0 h)) here)
 
 -- no row, and one row more
 pub rows-none : (n : ℕ) (R : Pairs) (rows : List ℕ) → length rows ≡ limits .states → HoldsRows 0 n R rows
-rows-none n R rows e = record { whole = e; bits = λ v u less below. absurd (omega arith) }
+rows-none n R rows e = record { whole = e; bits = λ v u less below. absurd (omega arith); rest = λ v u less h. absurd (omega arith) }
 
 pub rows-more : (n v row : ℕ) (labels rows : List ℕ) → HoldsRows v n (sameLabels labels) rows → v < limits .states → IsRow labels (getD labels v 0) n row → HoldsRows (v + 1) n (sameLabels labels) (set rows v row)
 unfolding rowBit sameLabels
 rows-more n v row labels rows h small r =
+    let inside : v < length rows = omega (arith, h .whole) in
     record {
       whole = length-set rows v row ∙ h .whole;
-      bits = λ w u less below. below-more (λ (w : ℕ). bitOf (getD (set rows v row) w 0) u ≡ eqb (getD labels w 0) (getD labels u 0)) v
-          (λ w less. ap (λ (x : ℕ). bitOf x u) (getD-set-other rows v w row 0 (λ e. omega arith)) ∙ h .bits w u less below)
-          (ap (λ (x : ℕ). bitOf x u) (getD-set-same rows v row 0 (omega (arith, h .whole))) ∙ r .bits u below) w less;
+      bits = λ w u less below. stored (λ (w x : ℕ). bitOf x u ≡ eqb (getD labels w 0) (getD labels u 0)) v row rows inside (λ w less. h .bits w u less below) (r .bits u below) w less;
+      rest = λ w u less above. stored (λ (w x : ℕ). bitOf x u ≡ false) v row rows inside (λ w less. h .rest w u less above) (r .rest u above) w less;
     }
+
+-- tests that agree are equal
+agree-same : (a b : Bool) → agree a b ≡ true → a ≡ b
+unfolding agree
+agree-same true b e = sym e
+agree-same false true e = absurd (false-not e)
+agree-same false false e = refl
+
+same-agree : (a b : Bool) → a ≡ b → agree a b ≡ true
+unfolding agree
+same-agree true b e = sym e
+same-agree false b e = ap not (sym e)
+
+-- the words are compared: every row is that of its state's block, or one is not
+module _ {blocks members rows : List ℕ} {n : ℕ} (c : AreClasses blocks n members) (k : SmallBytes n blocks) where
+  pub agrees-all : ((v : ℕ) → v < n → getD rows v 0 ≡ getD members (getD blocks v 0) 0) → Agrees blocks n rows true
+  unfolding rowBit sameBlock
+  agrees-all e =
+      record {
+        tells = λ R h. sym (below-all n _ (λ v less. below-all n _ (λ u below.
+            same-agree _ _ (sym (c .row (getD blocks v 0) (k .small v less) .bits u below) ∙ ap (λ (x : ℕ). bitOf x u) (sym (e v less)) ∙ h .bits v u less below))));
+      }
+
+  pub agrees-not : (v : ℕ) → v < n → getD rows v 0 < 2 ^ wordBits → getD members (getD blocks v 0) 0 < 2 ^ wordBits → (getD rows v 0 ≡ getD members (getD blocks v 0) 0 → ⊥) → Agrees blocks n rows false
+  unfolding rowBit sameBlock
+  agrees-not v less p q o = record { tells = λ R h. go R h (sharedAsRelated n blocks R) refl }
+    where
+      row : IsRow blocks (getD blocks v 0) n (getD members (getD blocks v 0) 0)
+      row = c .row (getD blocks v 0) (k .small v less)
+
+      bit : (R : Pairs) → HoldsPairs n R rows → sharedAsRelated n blocks R ≡ true → (u : ℕ) → Dec (u < n) → bitOf (getD rows v 0) u ≡ bitOf (getD members (getD blocks v 0) 0) u
+      bit R h a u (yes below) =
+          h .bits v u less below ∙ sym (agree-same _ _ (all-below n _ (all-below n _ a v less) u below)) ∙ sym (row .bits u below)
+      bit R h a u (no above) = h .rest v u less (omega arith) ∙ sym (row .rest u (omega arith))
+
+      go : (R : Pairs) → HoldsPairs n R rows → (t : Bool) → sharedAsRelated n blocks R ≡ t → false ≡ t
+      go R h true a = absurd (o (bits-same wordBits _ _ p q (λ u l. bit R h a u (decLt u n))))
+      go R h false a = refl

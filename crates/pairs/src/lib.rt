@@ -1,10 +1,11 @@
 // The related pairs, as a row of one bit for each state. Nothing outside this crate knows the word.
-ghost use Prim.Native.Nat.{_≤_, _<_};
-ghost use lib.ListN.{length};
+ghost use Prim.Native.Nat.{_≤_, _<_, _^_};
+ghost use lib.Dec.{eqb};
+ghost use lib.ListN.{length, getD};
 ghost use mathlib.Core.Path.{_≡_};
 ghost use Rattle.rules.specs.Limits.{limits};
 ghost use Rattle.pairs.specs.Bits.{wordBits, bitOf, setBit, clearBit};
-ghost use Rattle.pairs.specs.Rows.{rowBit, removedRows, sameLabels, HoldsPairs, IsRow};
+ghost use Rattle.pairs.specs.Rows.{rowBit, removedRows, sameLabels, HoldsPairs, SmallBytes, AreClasses, Agrees};
 
 pub const STATES: usize = 64;
 
@@ -33,6 +34,13 @@ fn without(row: Row, u: usize) -> Row
     row & !(1 << u)
 }
 
+// The rows are equal; each is a word, so its bits are all of it.
+fn same(a: Row, b: Row) -> bool
+    ensures { λ r. ⌜ (r ≡ eqb a b) × (a < 2 ^ wordBits) × (b < 2 ^ wordBits) ⌝ }
+{
+    a == b
+}
+
 // Rows that hold nothing yet, for `start`.
 pub fn no_rows() -> Rows
     ensures { λ r. ⌜ length r ≡ limits .states ⌝ }
@@ -57,30 +65,54 @@ pub fn remove(rows: &mut Rows, s: usize, t: usize)
     rows[s] = without(rows[s], t);
 }
 
-// The row of a state with this label.
-fn row_of(labels: &[u8], n: usize, label: u8) -> Row
-    requires { ⌜ (n ≤ limits .states) × (n ≤ length (now labels)) ⌝ }
-    ensures { λ r. ⌜ IsRow (now (labels .entry)) label n r ⌝ }
+// The byte of a state, as the number of a row.
+fn byte_of(bytes: &[u8], n: usize, u: usize) -> usize
+    requires { ⌜ (u < n) × (n ≤ length (now bytes)) × SmallBytes n (now bytes) ⌝ }
+    ensures { λ r. ⌜ (r ≡ getD (now (bytes .entry)) u 0) × (r < limits .states) ⌝ }
 {
-    let mut row: Row = 0;
+    bytes[u] as usize
+}
+
+// Row b is that of a state with byte b.
+fn classes(bytes: &[u8], n: usize) -> Rows
+    requires { ⌜ (n ≤ limits .states) × (n ≤ length (now bytes)) × SmallBytes n (now bytes) ⌝ }
+    ensures { λ r. ⌜ AreClasses (now (bytes .entry)) n r ⌝ }
+{
+    let mut rows = [0; STATES];
     let mut u = 0;
     while u < n {
-        if labels[u] == label {
-            row = with(row, u);
-        }
+        let byte = byte_of(bytes, n, u);
+        rows[byte] = with(rows[byte], u);
         u += 1;
     }
-    row
+    rows
 }
 
 // Relates every pair of the n states with equal labels.
 pub fn start(labels: &[u8], n: usize, rows: &mut Rows)
-    requires { ⌜ (n ≤ limits .states) × (n ≤ length (now labels)) × (length (now rows) ≡ limits .states) ⌝ }
+    requires { ⌜ (n ≤ limits .states) × (n ≤ length (now labels)) × SmallBytes n (now labels) × (length (now rows) ≡ limits .states) ⌝ }
     ensures { λ r. ⌜ HoldsPairs n (sameLabels (now (labels .entry))) (now (rows .exit)) ⌝ }
 {
+    let members = classes(labels, n);
     let mut v = 0;
     while v < n {
-        rows[v] = row_of(labels, n, labels[v]);
+        rows[v] = members[byte_of(labels, n, v)];
         v += 1;
     }
+}
+
+// Two states share a block exactly when they are related.
+pub fn agrees(blocks: &[u8], n: usize, rows: &Rows) -> bool
+    requires { ⌜ (n ≤ limits .states) × (n ≤ length (now blocks)) × SmallBytes n (now blocks) ⌝ }
+    ensures { λ r. ⌜ Agrees (now (blocks .entry)) n (now (rows .entry)) r ⌝ }
+{
+    let members = classes(blocks, n);
+    let mut v = 0;
+    while v < n {
+        if !same(rows[v], members[byte_of(blocks, n, v)]) {
+            return false;
+        }
+        v += 1;
+    }
+    true
 }

@@ -7,8 +7,7 @@ ghost use Rattle.rules.specs.Bytes.{signedAt};
 ghost use Rattle.rules.specs.Reading.{entriesAt};
 ghost use Rattle.refutation.specs.Prices.{HoldsPrices, EntryTaken, Addable, WithTerm, Summable, IsSum};
 use field::Cursor;
-
-pub const STATES: usize = 64;
+use pairs::STATES;
 
 pub type Prices = [i64; STATES];
 

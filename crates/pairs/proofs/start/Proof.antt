@@ -8,22 +8,28 @@ use Rattle.pairs.proofs.start.Statement.{statement}
 use Rattle.pairs.proofs.start.Tie as tie
 
 abbrev Inv-loop : tie.InvT-loop
-Inv-loop labels n rows₀ v₀ rows v = (v ≤ n) × HoldsRows v n (sameLabels labels) rows
+Inv-loop labels n rows₀ members v₀ rows v = (v ≤ n) × HoldsRows v n (sameLabels labels) rows
 
 abbrev μ-loop : tie.MeasureT-loop
-μ-loop labels n rows₀ v₀ rows v = n - v
+μ-loop labels n rows₀ members v₀ rows v = n - v
+
+classes-requires : tie.Need-classes-requires Inv-loop μ-loop
+classes-requires c κs = (omega arith, omega arith, c .before .pre .2)
 
 loop-holds : tie.Need-loop-holds Inv-loop μ-loop
 loop-holds c = (omega arith, rows-none _ _ _ (omega arith))
 
-shared-slice-read-row-of : tie.Need-shared-slice-read-row-of Inv-loop μ-loop
-shared-slice-read-row-of c = omega arith
-
-row-of-requires : tie.Need-row-of-requires Inv-loop μ-loop
-row-of-requires c κs = omega arith
+byte-of-requires : tie.Need-byte-of-requires Inv-loop μ-loop
+byte-of-requires c κs = (omega arith, omega arith, c .before .before .before .before .pre .2)
 
 mul-rows : tie.Need-mul-rows Inv-loop μ-loop
 mul-rows c = omega arith
+
+array-read-rows : tie.Need-array-read-rows Inv-loop μ-loop
+array-read-rows c = omega arith
+
+mul-rows-2 : tie.Need-mul-rows-2 Inv-loop μ-loop
+mul-rows-2 c = omega arith
 
 element-write-rows : tie.Need-element-write-rows Inv-loop μ-loop
 element-write-rows c = omega arith
@@ -36,12 +42,13 @@ loop-less c = omega arith
 
 loop-again : tie.Need-loop-again Inv-loop μ-loop
 loop-again c =
-    let l = c .before .before .before .loop in
-    (omega arith, rows-more _ _ _ _ _ (l .inv .1) (omega arith) (c .row-of .ensures))
+    let l = c .before .before .loop in
+    let row = c .before .before .before .classes .ensures .row _ (c .before .before .before .before .before .pre .2 .small (l .v) (omega arith)) in
+    (omega arith, rw (c .byte-of .ensures .0) (rows-more _ _ _ _ _ (l .inv .1) (omega arith) row))
 
 returns : tie.Need-returns Inv-loop μ-loop
 returns c =
-    let e : c .before .loop .v ≡ c .before .before .before .args .n = omega arith in
+    let e : c .before .loop .v ≡ c .before .before .before .before .args .n = omega arith in
     rw e at (c .before .loop .inv .1)
 
 pub start-spec : {M : Type 1} → statement M
@@ -50,10 +57,12 @@ start-spec =
     (tie.spec
     Inv-loop
     μ-loop
+    classes-requires
     loop-holds
-    shared-slice-read-row-of
-    row-of-requires
+    byte-of-requires
     mul-rows
+    array-read-rows
+    mul-rows-2
     element-write-rows
     add-v
     loop-less

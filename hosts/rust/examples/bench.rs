@@ -19,7 +19,7 @@ fn largest() -> Vec<u8> {
 /// The least time of each call over many rounds that alternate, so that both meet the same machine.
 fn compare(name: &str, mut proved: impl FnMut() -> u64, mut plain: impl FnMut() -> u64) {
     let calls = 200;
-    let mut round = |call: &mut dyn FnMut() -> u64| {
+    let round = |call: &mut dyn FnMut() -> u64| {
         let start = Instant::now();
         for _ in 0..calls {
             black_box(call());

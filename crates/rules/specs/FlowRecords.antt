@@ -198,7 +198,7 @@ module _ (file : FileRule) (says : RuleSays) (decides : Decides file says) (A : 
       let a = pastLess (fault 11) _ (length C) (at + 2) (no-fault 10) e in
       let b = keptSame _ (fault 12) (twoAt C at) 0x464C (no-fault 11) (a .1) in
       let c = pastLess (fault 11) _ (length C) (at + 8) (no-fault 10) (b .1) in
-      let d = pastSame (fault 19) _ (fourAt C (at + 2)) 0 (no-fault 18) (c .1) in
+      let d = pastSame (fault 19) _ (fourAt C (at + 2)) _ (no-fault 18) (c .1) in
       let f = pastLess (fault 11) _ (length C) (afterK C at) (no-fault 10) (d .1) in
       let g = none-first _ _ (f .1) in
       let h = pastLess (fault 11) _ (length C) (afterK C at + 2) (no-fault 10) (g .1) in

@@ -1,8 +1,15 @@
 /* Zolkirta: judges certificates of weak bisimulation for probabilistic automata.
  *
- * Every call takes byte buffers and plain numbers, checks everything itself, keeps no pointer and uses no heap. A buffer is a
- * pointer and a length; the pointer may be NULL where the length is 0. Buffers of one call must not overlap.
- * Link target/staticlib/libzolkirta.a, which `rt staticlib zolkirta` writes. x86-64 Linux.
+ * Buffers. Every call takes byte buffers and plain numbers and checks everything itself. A buffer is a pointer and a length; the
+ * pointer may be NULL where the length is 0. A lent buffer must not overlap another one or an input: that is the one thing the
+ * caller sees to. A refusal writes no byte of any lent buffer.
+ *
+ * Stack. A call needs less than 16 KiB (15,288 bytes measured for zolkirta_reduce and 9,912 for zolkirta_judge, at 64 states). No
+ * heap is used.
+ *
+ * Threads. The library has no state and keeps no pointer: any number of calls may run at once.
+ *
+ * Platform. x86-64 Linux, with the System V calling convention. Link libzolkirta.a; it needs memcpy and memset and nothing else.
  */
 #ifndef ZOLKIRTA_H
 #define ZOLKIRTA_H
@@ -16,6 +23,39 @@
 #ifdef __cplusplus
 extern "C" {
 #endif
+
+/* The numbers that a call answers: 0, or one refusal. */
+enum zolkirta_number {
+    ZOLKIRTA_ACCEPTED = 0,
+    /* in the model, file 1 */
+    ZOLKIRTA_MODEL_ENDS = 1,            /* the file ends inside a record */
+    ZOLKIRTA_MODEL_MARK = 2,            /* a record has a wrong mark */
+    ZOLKIRTA_MODEL_HEAD = 3,            /* the state, action or transition count is outside its range */
+    ZOLKIRTA_LABEL = 4,                 /* a label is above 63 */
+    ZOLKIRTA_TRANSITION = 5,            /* a source descends or is absent, an action is absent, d is 0, or a bad entry count */
+    ZOLKIRTA_ENTRY = 6,                 /* an entry's state is absent or does not ascend, or its weight is 0 */
+    ZOLKIRTA_SUM = 7,                   /* a transition's weights do not add up to d */
+    ZOLKIRTA_ENTRIES = 8,               /* the entries so far pass 1,024 */
+    ZOLKIRTA_MODEL_BYTES_LEFT = 9,      /* bytes are left after the last transition */
+    /* of the call, no file and no place */
+    ZOLKIRTA_BLOCK_BUFFER = 10,         /* the block buffer is shorter than the state count */
+    /* in the certificate, file 2 */
+    ZOLKIRTA_CERTIFICATE_ENDS = 11,     /* the file ends inside a record */
+    ZOLKIRTA_CERTIFICATE_MARK = 12,     /* a record has a wrong mark */
+    ZOLKIRTA_CERTIFICATE_HEAD = 13,     /* the refutation count is above 2,016 */
+    ZOLKIRTA_REFUTED_PAIR = 14,         /* a refutation's transition or state is absent, t is s, or the pair is not related */
+    ZOLKIRTA_PRICES = 15,               /* a price condition other than the last breaks */
+    ZOLKIRTA_LAST_PRICES = 16,          /* the last price condition breaks */
+    ZOLKIRTA_BLOCK_NUMBERS = 17,        /* the blocks are not numbered by first appearance */
+    ZOLKIRTA_BLOCKS = 18,               /* the blocks differ from the pairs left */
+    ZOLKIRTA_FLOW = 19,                 /* a flow's D is 0, or an entry is out of order, zero, absent or not in the question */
+    ZOLKIRTA_FLOW_EQUATION = 20,        /* an equation at some v breaks */
+    ZOLKIRTA_TARGET_EQUATION = 21,      /* an equation at some u breaks */
+    ZOLKIRTA_CERTIFICATE_BYTES_LEFT = 22, /* bytes are left after the last flow */
+    /* of the call, no file and no place */
+    ZOLKIRTA_OUTPUT_BUFFER = 23,        /* the certificate is accepted, and the buffer is shorter than the merged model's file */
+    ZOLKIRTA_STATE = 24                 /* the state to fetch is not below the state count */
+};
 
 /* What a call answers. */
 typedef struct zolkirta_answer {
@@ -31,6 +71,19 @@ typedef struct zolkirta_answer {
  * stretch_length, length 0 where none leave. Refusals 1 to 9 with file 1, and 24 where the state is not below the model's
  * state count. */
 zolkirta_answer zolkirta_fetch(const uint8_t *model, size_t model_length, uint32_t state);
+
+/* Judges a certificate for a model. Number 0: accepted, and the first `written` bytes of the block buffer, one a state, are the
+ * blocks; its later bytes stay. Else a refusal, which writes nothing: 1 to 9 in the model (file 1), 10 where the block buffer is
+ * shorter than the state count (no file, no place), 11 to 22 in the certificate (file 2). */
+zolkirta_answer zolkirta_judge(const uint8_t *model, size_t model_length, const uint8_t *certificate, size_t certificate_length,
+                               uint8_t *blocks, size_t blocks_length);
+
+/* Judges a certificate for a model and writes the model with each block merged into one state. Number 0: accepted, and the first
+ * `written` bytes of `out` are the merged model's file, which is no longer than the model's; its later bytes stay. Else a refusal,
+ * which writes nothing: 1 to 9 in the model (file 1), 11 to 22 in the certificate (file 2), and 23 where the certificate is accepted
+ * and `out` is shorter than the file (no file, no place). */
+zolkirta_answer zolkirta_reduce(const uint8_t *model, size_t model_length, const uint8_t *certificate, size_t certificate_length,
+                                uint8_t *out, size_t out_length);
 
 #ifdef __cplusplus
 }

@@ -6,19 +6,10 @@ document 01 lists under 'Also run', with their answers by hand.
 """
 import os
 
+from files import S, model
+
 HERE = os.path.dirname(os.path.abspath(__file__))
 CRATE = os.path.join(HERE, '..', 'crates', 'fetch_cases')
-S = bytes.fromhex('5041030200024c420000005452000100010102000154520100000101000001')
-
-
-def model(n, m, labels, transitions):
-    """The bytes of a model; a transition is (source, action, d, entries), an entry (state, weight)."""
-    out = b'PA' + bytes([n, m]) + len(transitions).to_bytes(2, 'big') + b'LB' + bytes(labels)
-    for source, action, d, entries in transitions:
-        out += b'TR' + bytes([source, action]) + d.to_bytes(2, 'big') + bytes([len(entries)])
-        for state, weight in entries:
-            out += bytes([state]) + weight.to_bytes(2, 'big')
-    return out
 
 
 def refusal(data, number, place):

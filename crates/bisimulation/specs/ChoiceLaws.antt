@@ -1,13 +1,13 @@
 -- The laws of the tests: what a choice comes to, and what it tells.
 use Prim.Native.Nat.{ℕ, zero, suc, _*_, _≤_, _<_}
-use mathlib.Core.Path.{_≡_, refl, sym, _∙_, ap, subst}
+use mathlib.Core.Path.{_≡_, refl, sym, _∙_, ap, ap₂, subst}
 use mathlib.Core.Bool.{Bool, true, false, cond}
 use lib.Dec.{ltb, eqb}
 use borrow.Author.Tests.{lt-ltb, le-ltb, eq-eqb, ne-eqb, ltb-true, ltb-false, eqb-true, eqb-false}
 use native.Mathlib.Omega.{arith}
 use native.Mathlib.Nat.{zero-mul}
 use native.Mathlib.Decide.{ℕ-discrete}
-use Rattle.bisimulation.specs.Choice.{ifLess, ifSame, ifTrue, allBelow}
+use Rattle.bisimulation.specs.Choice.{ifLess, ifSame, ifTrue, both, allBelow}
 
 -- z is what the choice comes to: x where the test holds, y where it does not
 pub less {ℓ} : {X : Type ℓ} {z x : X} (y : X) {a b : ℕ} → a < b → z ≡ x → z ≡ ifLess a b x y
@@ -46,6 +46,11 @@ eitherSame P a b {x} {y} p q = go (eqb a b)
     go : (t : Bool) → P (cond t x y)
     go true = p
     go false = q
+
+pub eitherTrue {ℓ κ} : {X : Type ℓ} (P : X → Type κ) (b : Bool) {x y : X} → P x → P y → P (ifTrue b x y)
+unfolding ifTrue
+eitherTrue P true p q = p
+eitherTrue P false p q = q
 
 -- the numbers that are compared change places
 pub turned {ℓ} : {X : Type ℓ} (a b : ℕ) (x y : X) → ifSame a b x y ≡ ifSame b a x y
@@ -93,6 +98,15 @@ pub isTrue {ℓ} : {X : Type ℓ} {z x : X} (y : X) {b : Bool} → b ≡ true �
 unfolding ifTrue
 isTrue {x = x} y h e = e ∙ ap (λ (t : Bool). cond t x y) (sym h)
 
+pub isFalse {ℓ} : {X : Type ℓ} {z y : X} (x : X) {b : Bool} → b ≡ false → z ≡ y → z ≡ ifTrue b x y
+unfolding ifTrue
+isFalse {y = y} x h e = e ∙ ap (λ (t : Bool). cond t x y) (sym h)
+
+pub notTrue {ℓ} : {X : Type ℓ} {z y : X} (x : X) {b : Bool} → (b ≡ true → ⊥) → z ≡ y → z ≡ ifTrue b x y
+unfolding ifTrue
+notTrue x {b = true} n e = absurd (n refl)
+notTrue x {b = false} n e = e
+
 pub keptTrue {ℓ} : {X : Type ℓ} {z : X} (x r : X) (b : Bool) → (z ≡ r → ⊥) → z ≡ ifTrue b x r → (b ≡ true) × (z ≡ x)
 unfolding ifTrue
 keptTrue x r true n e = (refl, e)
@@ -125,3 +139,31 @@ unfolding allBelow
 below-all zero f h = refl
 below-all (suc n) f h =
     ap (λ (t : Bool). cond t (f n) false) (below-all n f (λ i less. h i (omega arith))) ∙ h n (omega arith)
+
+-- where it does not hold of one, it does not hold of all
+pub not-all : (n : ℕ) (f : ℕ → Bool) (i : ℕ) → i < n → f i ≡ false → false ≡ allBelow n f
+not-all n f i less e = go (allBelow n f) refl
+  where
+    go : (t : Bool) → allBelow n f ≡ t → false ≡ t
+    go true q = absurd (false-not (sym e ∙ all-below n f q i less))
+    go false q = refl
+
+-- tests that are equal below n
+pub allBelowCong : (n : ℕ) (f g : ℕ → Bool) → ((i : ℕ) → i < n → f i ≡ g i) → allBelow n f ≡ allBelow n g
+unfolding allBelow
+allBelowCong zero f g h = refl
+allBelowCong (suc n) f g h =
+    ap₂ (λ (a b : Bool). cond a b false) (allBelowCong n f g (λ i l. h i (omega arith))) (h n (omega arith))
+
+-- both tests hold of every number where each holds of every number
+pub all-both : (n : ℕ) (f g : ℕ → Bool) → allBelow n (λ i. both (f i) (g i)) ≡ both (allBelow n f) (allBelow n g)
+unfolding allBelow both
+all-both zero f g = refl
+all-both (suc n) f g = ap (λ (a : Bool). cond a (cond (f n) (g n) false) false) (all-both n f g) ∙ go (allBelow n f) (allBelow n g) (f n) (g n)
+  where
+    go : (a b c d : Bool) → cond (cond a b false) (cond c d false) false ≡ cond (cond a c false) (cond b d false) false
+    go true true true d = refl
+    go true true false d = refl
+    go true false true d = refl
+    go true false false d = refl
+    go false b c d = refl

@@ -4,8 +4,10 @@
 use Prim.Native.Nat.{ℕ, _<_}
 use mathlib.Core.Path.{_≡_}
 use mathlib.Core.Logic.{_↔_}
+use mathlib.Core.Bool.{true}
 use Rattle.bisimulation.specs.Automaton.{Automaton}
 use Rattle.bisimulation.specs.StepRule.{StepRule, MeetsStepRule}
+use Rattle.bisimulation.specs.Pairs.{Pairs}
 
 -- a 'symmetric relation' on states 'that links only equally labelled states and meets the step rule'
 pub record Bisimulation (rule : StepRule) (A : Automaton) (W : ℕ → ℕ → Type 0) : Type 0 where
@@ -25,3 +27,17 @@ pub record LargestBisimulation (rule : StepRule) (A : Automaton) (Same : ℕ →
   pub itself : Bisimulation rule A Same
   pub largest : (W : ℕ → ℕ → Type 0) → Bisimulation rule A W → (s t : ℕ) → W s t → Same s t
   pub exactly : (s t : ℕ) → Same s t ↔ Bisimilar rule A s t
+
+-- the same for relations that are sets of pairs, as those of a program are: a contract of a function can say it
+pub record Links (W : Pairs) (s t : ℕ) : Type 0 where
+  pub linked : W s t ≡ true
+
+pub record BisimilarByPairs (rule : StepRule) (A : Automaton) (s t : ℕ) : Type 0 where
+  pub W : Pairs
+  pub bisimulation : Bisimulation rule A (Links W)
+  pub linked : Links W s t
+
+pub record LargestPairs (rule : StepRule) (A : Automaton) (Same : ℕ → ℕ → Type 0) : Type 0 where
+  pub itself : Bisimulation rule A Same
+  pub largest : (W : Pairs) → Bisimulation rule A (Links W) → (s t : ℕ) → Links W s t → Same s t
+  pub exactly : (s t : ℕ) → Same s t ↔ BisimilarByPairs rule A s t

@@ -12,6 +12,7 @@ pub mod PairsLaws
 pub mod Prices
 pub mod Refutation
 pub mod Largest
+pub mod LargestPairs
 pub mod Rule
 pub mod PairsLeft
 pub mod PairsLeftLaws
@@ -27,3 +28,4 @@ pub mod Duality
 pub mod Own
 pub mod Respelled
 pub mod Plain
+pub mod SmallPair

@@ -25,11 +25,11 @@ unfolding equalLabels
 labelsEqual A v u e = eqb-true (A .label v) (A .label u) e
 
 -- what the test of a pair tells, and when it holds
-isPairTrue : (s t v u : ℕ) → isPair s t v u ≡ true → (v ≡ s) × (u ≡ t)
+pub isPairTrue : (s t v u : ℕ) → isPair s t v u ≡ true → (v ≡ s) × (u ≡ t)
 unfolding isPair
 isPairTrue s t v u e = let b = bothTrue (eqb v s) (eqb u t) e in (eqb-true v s (b .0), eqb-true u t (b .1))
 
-isPairOf : (s t v u : ℕ) → v ≡ s → u ≡ t → isPair s t v u ≡ true
+pub isPairOf : (s t v u : ℕ) → v ≡ s → u ≡ t → isPair s t v u ≡ true
 unfolding isPair both
 isPairOf s t v u e f = rw (eq-eqb v s e, eq-eqb u t f)
 

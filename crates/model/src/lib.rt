@@ -50,12 +50,12 @@ struct Head {
     transitions: usize,
 }
 
-struct Fields {
-    source: usize,
-    action: usize,
-    denominator: usize,
-    count: usize,
-    entries: Cursor,
+pub struct Fields {
+    pub source: usize,
+    pub action: usize,
+    pub denominator: usize,
+    pub count: usize,
+    pub entries: Cursor,
 }
 
 fn head_at(s: &[u8]) -> Head
@@ -145,7 +145,7 @@ fn labels_fault(s: &[u8], n: usize) -> usize
     label_fault(s, n)
 }
 
-fn fields_at(s: &[u8], at: usize) -> Fields
+pub fn fields_at(s: &[u8], at: usize) -> Fields
     requires { ⌜ at + 7 ≤ length (now s) ⌝ }
     ensures { λ r. ⌜ FieldsAt (now (s .entry)) at r ⌝ }
 {
@@ -340,7 +340,7 @@ pub fn scan_whole(s: &[u8], places: &mut Places) -> Scanned
     }
 }
 
-fn no_places() -> Places
+pub fn no_places() -> Places
     ensures { λ r. ⌜ 257 ≡ length r ⌝ }
 {
     [0; PLACES]

@@ -3,11 +3,12 @@ use Prim.Native.Nat.{ℕ, zero, suc, _+_, _-_, _*_, _/_, _%_, _^_, _<_, min, max
 use mathlib.Core.Path.{_≡_, refl, sym, ap, ap₂, _∙_}
 use mathlib.Core.Bool.{Bool, true, false}
 use native.Mathlib.Omega.{arith}
-use native.Mathlib.Nat.{pow-suc, mod-eq-of-lt}
+use native.Mathlib.Nat.{zero-add, suc-add, pow-suc, mod-eq-of-lt}
 use lib.Dec.{eqb}
 use lib.Bits.{bitAnd, bitOr, and-step, or-step, and-mask, or-zero-r}
 use lib.Pow.{pow-lt, pow-pos, shr-shr, shl-exact}
-use borrow.Author.Tests.{eqb-true, eqb-false}
+use lib.Count.{trailingZeros, under}
+use borrow.Author.Tests.{eqb-true, eqb-false, eq-eqb, ne-eqb}
 use Rattle.pairs.specs.Bits.{bitOf, putBit, setBit, clearBit}
 
 -- no bit of 0 is 1
@@ -55,18 +56,20 @@ bits-same (suc w) x y h l e =
     let low : x % 2 ≡ y % 2 = lowest-same x y (e zero (omega arith)) in
     omega arith
 
--- the machine's `x >> t & 1 == 1`
-pub bitOf-shift : (x t : ℕ) → eqb (bitAnd (x / 2 ^ t) 1) 1 ≡ bitOf x t
+-- a shift is one halving and the rest
+halved : (x t : ℕ) → x / 2 ^ suc t ≡ x / 2 / 2 ^ t
+halved x t = let e : 1 + t ≡ suc t = omega arith in omega (arith, shr-shr x 1 t, ap (λ (z : ℕ). x / 2 ^ z) e)
+
+-- the machine's `x >> t & m == k`, with m and k 1
+bitOf-shift : (x t : ℕ) → eqb (bitAnd (x / 2 ^ t) 1) 1 ≡ bitOf x t
 unfolding bitOf
 bitOf-shift x zero =
     let e : x / 1 ≡ x = omega arith in
     ap (λ (z : ℕ). eqb (bitAnd z 1) 1) e ∙ ap (λ (z : ℕ). eqb z 1) (and-mask x 1)
-bitOf-shift x (suc t) =
-    let e : x / 2 ^ suc t ≡ x / 2 / 2 ^ t = omega (arith, shr-shr x 1 t, ap (λ (z : ℕ). x / 2 ^ z) (one-more t)) in
-    ap (λ (z : ℕ). eqb (bitAnd z 1) 1) e ∙ bitOf-shift (x / 2) t
-  where
-    one-more : (t : ℕ) → 1 + t ≡ suc t
-    one-more t = omega arith
+bitOf-shift x (suc t) = ap (λ (z : ℕ). eqb (bitAnd z 1) 1) (halved x t) ∙ bitOf-shift (x / 2) t
+
+pub bitOf-tested : (x t m k : ℕ) → m ≡ 1 → k ≡ 1 → eqb (bitAnd (x / 2 ^ t) m) k ≡ bitOf x t
+bitOf-tested x t m k e f = ap₂ (λ (a b : ℕ). eqb (bitAnd (x / 2 ^ t) a) b) e f ∙ bitOf-shift x t
 
 -- the machine's `1 << t`, in words of w bits
 one-shifted : (w t : ℕ) → t < w → (1 * 2 ^ t) % 2 ^ w ≡ 2 ^ t
@@ -100,6 +103,33 @@ and-powers (suc w) x (suc t) h l =
     let i : x / 2 < 2 ^ w = omega (arith, pow-suc 2 w) in
     and-step x (2 ^ suc w - 1 - 2 ^ suc t) ∙ ap₂ (λ (a b : ℕ). bitAnd (x / 2) a * 2 + min (x % 2) b) e f ∙ omega (arith, and-powers w (x / 2) t i (omega arith))
 
--- the machine's `x & !(1 << t)`
-pub clearBit-and : (w x t : ℕ) → x < 2 ^ w → t < w → bitAnd x ((2 ^ w - 1) - (1 * 2 ^ t) % 2 ^ w) ≡ clearBit x t
-clearBit-and w x t h l = ap (λ (z : ℕ). bitAnd x ((2 ^ w - 1) - z)) (one-shifted w t l) ∙ and-powers w x t h l
+-- the machine's `x & !(k << t)`, with k 1
+pub clearBit-and : (w x t k : ℕ) → k ≡ 1 → x < 2 ^ w → t < w → bitAnd x ((2 ^ w - 1) - (k * 2 ^ t) % 2 ^ w) ≡ clearBit x t
+clearBit-and w x t k e h l =
+    ap (λ (z : ℕ). bitAnd x ((2 ^ w - 1) - z)) (ap (λ (z : ℕ). (z * 2 ^ t) % 2 ^ w) e ∙ one-shifted w t l) ∙ and-powers w x t h l
+
+-- the machine's `x >> u`, and the zeros below the lowest bit of a word of w bits
+pub bitOf-above : (x u i : ℕ) → bitOf (x / 2 ^ u) i ≡ bitOf x (u + i)
+unfolding bitOf
+bitOf-above x zero i = let e : x / 1 ≡ x = omega arith in ap (λ (z : ℕ). bitOf z i) e ∙ ap (bitOf x) (sym (zero-add i))
+bitOf-above x (suc u) i =
+    ap (λ (z : ℕ). bitOf z i) (halved x u) ∙ bitOf-above (x / 2) u i ∙ ap (bitOf x) (sym (suc-add u i))
+
+pub trailing-none : (w x i : ℕ) → i < trailingZeros w x → bitOf x i ≡ false
+unfolding bitOf trailingZeros
+trailing-none zero x i h = absurd (omega arith)
+trailing-none (suc w) x i h = go i (x % 2) refl h (trailing-none w (x / 2))
+  where
+    go : (i d : ℕ) → x % 2 ≡ d → i < under d (trailingZeros w (x / 2)) → ((k : ℕ) → k < trailingZeros w (x / 2) → bitOf (x / 2) k ≡ false) → bitOf x i ≡ false
+    go i (suc d) e h rest = absurd (omega arith)
+    go zero zero e h rest = ne-eqb (x % 2) 1 (λ o. omega arith)
+    go (suc i) zero e h rest = rest i (omega arith)
+
+pub trailing-some : (w x : ℕ) → trailingZeros w x < w → bitOf x (trailingZeros w x) ≡ true
+unfolding bitOf trailingZeros
+trailing-some zero x h = absurd (omega arith)
+trailing-some (suc w) x h = go (x % 2) refl h (trailing-some w (x / 2))
+  where
+    go : (d : ℕ) → x % 2 ≡ d → under d (trailingZeros w (x / 2)) < suc w → (trailingZeros w (x / 2) < w → bitOf (x / 2) (trailingZeros w (x / 2)) ≡ true) → bitOf x (under d (trailingZeros w (x / 2))) ≡ true
+    go (suc d) e h rest = eq-eqb (x % 2) 1 (omega arith)
+    go zero e h rest = rest (omega arith)

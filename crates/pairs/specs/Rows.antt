@@ -1,7 +1,7 @@
 -- Document 01, 'They are kept as a row of one bit for each state': bit u of row v says that the pair (v,u) is related.
 use Prim.Native.Nat.{ℕ, _<_, _≤_}
 use mathlib.Core.Path.{_≡_}
-use mathlib.Core.Bool.{Bool, false}
+use mathlib.Core.Bool.{Bool, true, false}
 use mathlib.Core.List.{List}
 use lib.Dec.{eqb}
 use lib.ListN.{length, getD, set}
@@ -58,3 +58,13 @@ sharedAsRelated n blocks R = allBelow n (λ v. allBelow n (λ u. agree (sameBloc
 -- the answer says that of the pairs that the rows hold
 pub record Agrees (blocks : List ℕ) (n : ℕ) (rows : List ℕ) (answer : Bool) : Type 0 where
   pub tells : (R : Pairs) → HoldsPairs n R rows → answer ≡ sharedAsRelated n blocks R
+
+-- r is the first number from u on of which f holds; where f holds of none below the limit of states, r is not below it
+pub record IsNext (f : ℕ → Bool) (u r : ℕ) : Type 0 where
+  pub from : u ≤ r
+  pub none : (i : ℕ) → u ≤ i → i < r → f i ≡ false
+  pub some : r < limits .states → f r ≡ true
+
+-- a true answer says that v and u are related to the same states
+pub record AreAlike (rows : List ℕ) (v u : ℕ) (answer : Bool) : Type 0 where
+  pub alike : answer ≡ true → (i : ℕ) → rowBit rows v i ≡ rowBit rows u i

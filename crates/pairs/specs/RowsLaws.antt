@@ -1,5 +1,5 @@
 -- The laws of the rows.
-use Prim.Native.Nat.{ℕ, _+_, _^_, _<_}
+use Prim.Native.Nat.{ℕ, _+_, _-_, _/_, _^_, _<_}
 use mathlib.Core.Path.{_≡_, refl, sym, ap, ap₂, _∙_, subst}
 use mathlib.Core.Bool.{Bool, true, false, cond, not}
 use mathlib.Core.List.{List}
@@ -8,6 +8,7 @@ use native.Mathlib.Decide.{ℕ-discrete, decLt}
 use lib.Dec.{eqb}
 use lib.ListN.{length, getD, set, replicate, length-set, length-replicate, getD-replicate}
 use lib.Seq.{getD-set-same, getD-set-other}
+use lib.Count.{trailingZeros}
 use borrow.Author.Count.{below-more}
 use borrow.Author.Tests.{eqb-true, eqb-false, eq-eqb, ne-eqb}
 use Rattle.bisimulation.specs.Choice.{both}
@@ -17,14 +18,19 @@ use Rattle.bisimulation.specs.Pairs.{Pairs, equalLabels, isPair, removed}
 use Rattle.rules.specs.Certificate.{agree, sameBlock}
 use Rattle.rules.specs.Limits.{limits}
 use Rattle.pairs.specs.Bits.{wordBits, bitOf, setBit, clearBit}
-use Rattle.pairs.specs.BitsLaws.{bitOf-none, bitOf-put, bitOf-other, bits-same}
-use Rattle.pairs.specs.Rows.{rowBit, HoldsRows, HoldsPairs, clearedRows, removedRows, sameLabels, IsRow, SmallBytes, AreClasses, Agrees, sharedAsRelated}
+use Rattle.pairs.specs.BitsLaws.{bitOf-none, bitOf-put, bitOf-other, bits-same, bitOf-above, trailing-none, trailing-some}
+use Rattle.pairs.specs.Rows.{rowBit, HoldsRows, HoldsPairs, clearedRows, removedRows, sameLabels, IsRow, SmallBytes, AreClasses, Agrees, sharedAsRelated, IsNext}
 
 -- the rows after the start
 pub holds-start : (A : Automaton) (labels : List ℕ) {n : ℕ} {rows : List ℕ} → HoldsPairs n (sameLabels labels) rows → ((v : ℕ) → v < n → getD labels v 0 ≡ A .label v) → HoldsPairs n (equalLabels A) rows
 unfolding sameLabels equalLabels
 holds-start A labels h e =
     record { whole = h .whole; bits = λ v u less below. h .bits v u less below ∙ ap₂ eqb (e v less) (e u below); rest = h .rest }
+
+-- two stores that clear a bit each: u of row i, and v of row j
+pub removed-stores : (rows : List ℕ) (s t i u j v : ℕ) {a b : ℕ} → i ≡ t → u ≡ s → j ≡ s → v ≡ t → a ≡ clearBit (getD rows i 0) u → b ≡ clearBit (getD (set rows i a) j 0) v → set (set rows i a) j b ≡ removedRows s t rows
+unfolding clearedRows removedRows
+removed-stores rows s t i u j v e f g h p q = rw (q, p, e, f, g, h)
 
 -- one bit is cleared, and no other
 cleared : (s t : ℕ) (rows : List ℕ) (v u : ℕ) → s < length rows → rowBit (clearedRows s t rows) v u ≡ cond (isPair s t v u) false (rowBit rows v u)
@@ -120,13 +126,13 @@ stored Q v row rows h all here =
 pub rows-none : (n : ℕ) (R : Pairs) (rows : List ℕ) → length rows ≡ limits .states → HoldsRows 0 n R rows
 rows-none n R rows e = record { whole = e; bits = λ v u less below. absurd (omega arith); rest = λ v u less h. absurd (omega arith) }
 
-pub rows-more : (n v row : ℕ) (labels rows : List ℕ) → HoldsRows v n (sameLabels labels) rows → v < limits .states → IsRow labels (getD labels v 0) n row → HoldsRows (v + 1) n (sameLabels labels) (set rows v row)
+pub rows-more : (n v byte row : ℕ) (labels rows : List ℕ) → HoldsRows v n (sameLabels labels) rows → v < limits .states → byte ≡ getD labels v 0 → IsRow labels byte n row → HoldsRows (v + 1) n (sameLabels labels) (set rows v row)
 unfolding rowBit sameLabels
-rows-more n v row labels rows h small r =
+rows-more n v byte row labels rows h small e r =
     let inside : v < length rows = omega (arith, h .whole) in
     record {
       whole = length-set rows v row ∙ h .whole;
-      bits = λ w u less below. stored (λ (w x : ℕ). bitOf x u ≡ eqb (getD labels w 0) (getD labels u 0)) v row rows inside (λ w less. h .bits w u less below) (r .bits u below) w less;
+      bits = λ w u less below. stored (λ (w x : ℕ). bitOf x u ≡ eqb (getD labels w 0) (getD labels u 0)) v row rows inside (λ w less. h .bits w u less below) (r .bits u below ∙ ap (λ (b : ℕ). eqb b (getD labels u 0)) e) w less;
       rest = λ w u less above. stored (λ (w x : ℕ). bitOf x u ≡ false) v row rows inside (λ w less. h .rest w u less above) (r .rest u above) w less;
     }
 
@@ -142,6 +148,10 @@ unfolding agree
 same-agree true b e = sym e
 same-agree false b e = ap not (sym e)
 
+-- one row more is that of its state's block
+pub same-more : {blocks members : List ℕ} {n : ℕ} → AreClasses blocks n members → (rows : List ℕ) (v byte : ℕ) → ((w : ℕ) → w < v → getD rows w 0 ≡ getD members (getD blocks w 0) 0) → byte ≡ getD blocks v 0 → getD rows v 0 ≡ getD members byte 0 → (w : ℕ) → w < v + 1 → getD rows w 0 ≡ getD members (getD blocks w 0) 0
+same-more {members = members} c rows v byte all e f = below-more _ v all (f ∙ ap (λ (b : ℕ). getD members b 0) e)
+
 -- the words are compared: every row is that of its state's block, or one is not
 module _ {blocks members rows : List ℕ} {n : ℕ} (c : AreClasses blocks n members) (k : SmallBytes n blocks) where
   pub agrees-all : ((v : ℕ) → v < n → getD rows v 0 ≡ getD members (getD blocks v 0) 0) → Agrees blocks n rows true
@@ -152,14 +162,14 @@ module _ {blocks members rows : List ℕ} {n : ℕ} (c : AreClasses blocks n mem
             same-agree _ _ (sym (c .row (getD blocks v 0) (k .small v less) .bits u below) ∙ ap (λ (x : ℕ). bitOf x u) (sym (e v less)) ∙ h .bits v u less below))));
       }
 
-  pub agrees-not : (v : ℕ) → v < n → getD rows v 0 < 2 ^ wordBits → getD members (getD blocks v 0) 0 < 2 ^ wordBits → (getD rows v 0 ≡ getD members (getD blocks v 0) 0 → ⊥) → Agrees blocks n rows false
+  pub agrees-not : (v byte : ℕ) → v < n → byte ≡ getD blocks v 0 → getD rows v 0 < 2 ^ wordBits → getD members byte 0 < 2 ^ wordBits → (getD rows v 0 ≡ getD members byte 0 → ⊥) → (answer : Bool) → answer ≡ false → Agrees blocks n rows answer
   unfolding rowBit sameBlock
-  agrees-not v less p q o = record { tells = λ R h. go R h (sharedAsRelated n blocks R) refl }
+  agrees-not v byte less e p q o answer f = record { tells = λ R h. f ∙ go R h (sharedAsRelated n blocks R) refl }
     where
-      row : IsRow blocks (getD blocks v 0) n (getD members (getD blocks v 0) 0)
-      row = c .row (getD blocks v 0) (k .small v less)
+      row : IsRow blocks (getD blocks v 0) n (getD members byte 0)
+      row = rw e (c .row (getD blocks v 0) (k .small v less))
 
-      bit : (R : Pairs) → HoldsPairs n R rows → sharedAsRelated n blocks R ≡ true → (u : ℕ) → Dec (u < n) → bitOf (getD rows v 0) u ≡ bitOf (getD members (getD blocks v 0) 0) u
+      bit : (R : Pairs) → HoldsPairs n R rows → sharedAsRelated n blocks R ≡ true → (u : ℕ) → Dec (u < n) → bitOf (getD rows v 0) u ≡ bitOf (getD members byte 0) u
       bit R h a u (yes below) =
           h .bits v u less below ∙ sym (agree-same _ _ (all-below n _ (all-below n _ a v less) u below)) ∙ sym (row .bits u below)
       bit R h a u (no above) = h .rest v u less (omega arith) ∙ sym (row .rest u (omega arith))
@@ -167,3 +177,15 @@ module _ {blocks members rows : List ℕ} {n : ℕ} (c : AreClasses blocks n mem
       go : (R : Pairs) → HoldsPairs n R rows → (t : Bool) → sharedAsRelated n blocks R ≡ t → false ≡ t
       go R h true a = absurd (o (bits-same wordBits _ _ p q (λ u l. bit R h a u (decLt u n))))
       go R h false a = refl
+
+-- the machine's `u + u64::trailing_zeros(x >> u)`
+pub next-bit : (x u : ℕ) → IsNext (bitOf x) u (u + trailingZeros (limits .states) (x / 2 ^ u))
+next-bit x u =
+    let zeros = trailingZeros (limits .states) (x / 2 ^ u) in
+    record {
+      from = omega arith;
+      none = λ i above less.
+          let e : u + (i - u) ≡ i = omega arith in
+          ap (bitOf x) (sym e) ∙ sym (bitOf-above x u (i - u)) ∙ trailing-none (limits .states) (x / 2 ^ u) (i - u) (omega arith);
+      some = λ less. sym (bitOf-above x u zeros) ∙ trailing-some (limits .states) (x / 2 ^ u) (omega arith);
+    }

@@ -5,7 +5,7 @@ ghost use lib.ListN.{length, getD};
 ghost use mathlib.Core.Path.{_≡_};
 ghost use Rattle.rules.specs.Limits.{limits};
 ghost use Rattle.pairs.specs.Bits.{wordBits, bitOf, setBit, clearBit};
-ghost use Rattle.pairs.specs.Rows.{rowBit, removedRows, sameLabels, HoldsPairs, SmallBytes, AreClasses, Agrees};
+ghost use Rattle.pairs.specs.Rows.{rowBit, removedRows, sameLabels, HoldsPairs, SmallBytes, AreClasses, Agrees, IsNext, AreAlike};
 
 pub const STATES: usize = 64;
 
@@ -54,6 +54,33 @@ pub fn related(rows: &Rows, v: usize, u: usize) -> bool
     ensures { λ r. ⌜ r ≡ rowBit (now (rows .entry)) v u ⌝ }
 {
     has(rows[v], u)
+}
+
+// The first bit from u on that is 1, no number below STATES where there is none.
+fn next_bit(row: Row, u: usize) -> usize
+    requires { ⌜ u < wordBits ⌝ }
+    ensures { λ r. ⌜ IsNext (bitOf row) u r ⌝ }
+{
+    u + u64::trailing_zeros(row >> u) as usize
+}
+
+// The first state from u on that is related to v, no number below STATES where there is none.
+pub fn next_related(rows: &Rows, v: usize, u: usize) -> usize
+    requires { ⌜ (v < limits .states) × (u ≤ limits .states) ⌝ }
+    ensures { λ r. ⌜ IsNext (rowBit (now (rows .entry)) v) u r ⌝ }
+{
+    if STATES <= u {
+        return u;
+    }
+    next_bit(rows[v], u)
+}
+
+// v and u are related to the same states, where it is true.
+pub fn same_row(rows: &Rows, v: usize, u: usize) -> bool
+    requires { ⌜ (v < limits .states) × (u < limits .states) ⌝ }
+    ensures { λ r. ⌜ AreAlike (now (rows .entry)) v u r ⌝ }
+{
+    same(rows[v], rows[u])
 }
 
 // Removes (s,t) and (t,s).

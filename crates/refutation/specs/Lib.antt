@@ -1,2 +1,3 @@
-pub mod Prices
-pub mod PricesLaws
+-- A refutation judged.
+pub mod Judged
+pub mod JudgedLaws

@@ -1,105 +1,157 @@
-// The prices of a refutation, and their sums over the entries of a transition.
-ghost use Prim.Native.Nat.{_+_, _*_, _≤_, _<_};
+// A refutation judged: its fixed fields, and the conditions of its prices in their order.
+ghost use Prim.Native.Nat.{_+_, _*_, _≤_};
 ghost use lib.ListN.{length};
 ghost use mathlib.Core.Path.{_≡_};
 ghost use Rattle.rules.specs.Limits.{limits};
-ghost use Rattle.rules.specs.Bytes.{signedAt};
-ghost use Rattle.rules.specs.Reading.{entriesAt};
-ghost use Rattle.refutation.specs.Prices.{HoldsPrices, EntryTaken, Addable, WithTerm, Summable, IsSum};
+ghost use Rattle.rules.specs.Reading.{statesOf};
+ghost use Rattle.rules.specs.PlainRule.{plainPriceCount};
+ghost use Rattle.transition.specs.Known.{automatonIn, Known, KnownTransition};
+ghost use Rattle.prices.specs.Prices.{priceIn, SmallPrices};
+ghost use Rattle.prices.specs.Conditions.{conditionsFault};
+ghost use Rattle.refutation.specs.Judged.{Asked, FaultIs, PairJudged, PricesJudged, RefutationJudged};
+use fault::Fault;
 use field::Cursor;
-use pairs::STATES;
+use model::Places;
+use pairs::Rows;
+use prices::Prices;
 
-pub type Prices = [i64; STATES];
+const MARK: usize = 0x5058;
 
-pub struct Sums {
-    pub first: i64,
-    pub second: i64,
-}
-
-struct Entry {
-    state: usize,
-    weight: usize,
-    next: Cursor,
-}
-
-// The prices that follow each other from a place on, into a table.
-pub fn prices_at(s: &[u8], at: usize, n: usize, out: &mut Prices)
-    requires { ⌜ (n ≤ limits .states) × (at + 4 * n ≤ length (now s)) × (length (now out) ≡ limits .states) ⌝ }
-    ensures { λ r. ⌜ HoldsPrices n (λ i. signedAt (now (s .entry)) (at + 4 * i)) (now (out .exit)) ⌝ }
+// 15 and 16, of a challenger with the action a. For an internal one the prices y are x.
+fn conditions_fault(
+    s: &[u8],
+    n: usize,
+    count: usize,
+    places: &Places,
+    rows: &Rows,
+    q: usize,
+    t: usize,
+    a: usize,
+    x: &Prices,
+    y: &Prices,
+    g: &Prices,
+) -> Fault
+    requires { ⌜ Asked (now s) n count (now places) q t × SmallPrices n (now x) × SmallPrices n (now y) × SmallPrices n (now g) ⌝ }
+    ensures { λ z. ⌜ FaultIs n (now (rows .entry)) (λ R. conditionsFault (automatonIn (now (s .entry))) R a q t (priceIn (now (x .entry))) (priceIn (now (y .entry))) (priceIn (now (g .entry)))) z ⌝ }
 {
-    let mut i = 0;
-    let mut place = Cursor::new(at);
-    while i < n {
-        let field = place.price(s);
-        let value = field.value;
-        out[i] = value;
-        place = field.next;
-        i += 1;
+    if !prices::all_fair(s, count, places, a, x, y) {
+        return fault::refusal(15);
     }
+    if !prices::all_related(rows, n, y, g) {
+        return fault::refusal(15);
+    }
+    if !prices::last_holds(s, places, q, t, x, g) {
+        return fault::refusal(16);
+    }
+    fault::none()
 }
 
-fn entry_at(s: &[u8], place: Cursor) -> Entry
-    requires { ⌜ place .at + 2 < length (now s) ⌝ }
-    ensures { λ r. ⌜ EntryTaken (now (s .entry)) (place .at) r ⌝ }
+// 14, of the challenger q against t.
+fn pair_fault(
+    s: &[u8],
+    n: usize,
+    count: usize,
+    places: &Places,
+    rows: &Rows,
+    q: usize,
+    t: usize,
+) -> Fault
+    requires { ⌜ Known (now s) n count (now places) ⌝ }
+    ensures { λ z. ⌜ PairJudged (now (s .entry)) n count (now (rows .entry)) q t z ⌝ }
 {
-    let state = place.byte(s);
-    let weight = state.next.pair(s);
-    let next = weight.next;
-    Entry {
-        state: state.value,
-        weight: weight.value,
-        next,
+    if count <= q {
+        return fault::refusal(14);
     }
+    if n <= t {
+        return fault::refusal(14);
+    }
+    let source = transition::fields_of(s, places, q).source;
+    if t == source {
+        return fault::refusal(14);
+    }
+    if !pairs::related(rows, source, t) {
+        return fault::refusal(14);
+    }
+    fault::none()
 }
 
-// A sum with one more term, weight times price.
-fn with_term(sum: i64, weight: usize, price: i64) -> i64
-    requires { ⌜ Addable sum weight price ⌝ }
-    ensures { λ r. ⌜ WithTerm sum weight price r ⌝ }
+// How many prices a refutation by the challenger q has.
+pub fn price_count(s: &[u8], n: usize, places: &Places, q: usize) -> usize
+    requires { ⌜ KnownTransition (now s) (now places) q × (n ≡ statesOf (now s)) ⌝ }
+    ensures { λ r. ⌜ r ≡ plainPriceCount (automatonIn (now (s .entry))) q ⌝ }
 {
-    sum + weight as i64 * price
+    if transition::fields_of(s, places, q).action == 0 {
+        return 2 * n;
+    }
+    3 * n
 }
 
-// The sum of weight times price over the entries from a place on.
-pub fn sum_of(s: &[u8], at: usize, count: usize, prices: &Prices) -> i64
-    requires { ⌜ Summable (now s) count at (now prices) ⌝ }
-    ensures { λ r. ⌜ IsSum (entriesAt (now (s .entry)) count at) (now (prices .entry)) r ⌝ }
+// 15 and 16, of the prices that stand from a place on.
+fn prices_fault(
+    s: &[u8],
+    n: usize,
+    count: usize,
+    places: &Places,
+    rows: &Rows,
+    q: usize,
+    t: usize,
+    cert: &[u8],
+    at: usize,
+    x: &mut Prices,
+    y: &mut Prices,
+    g: &mut Prices,
+) -> Fault
+    requires { ⌜ Asked (now s) n count (now places) q t × (at + 4 * plainPriceCount (automatonIn (now s)) q ≤ length (now cert)) × (length (now x) ≡ limits .states) × (length (now y) ≡ limits .states) × (length (now g) ≡ limits .states) ⌝ }
+    ensures { λ z. ⌜ PricesJudged (now (s .entry)) (now (cert .entry)) n (now (rows .entry)) q t at (now (x .exit)) (now (y .exit)) (now (g .exit)) z ⌝ }
 {
-    let mut unread = count;
-    let mut place = Cursor::new(at);
-    let mut sum = 0;
-    while 0 < unread {
-        let entry = entry_at(s, place);
-        let v = entry.state;
-        let price = prices[v];
-        sum = with_term(sum, entry.weight, price);
-        place = entry.next;
-        unread -= 1;
+    let action = transition::fields_of(s, places, q).action;
+    prices::prices_at(cert, at, n, x);
+    if action == 0 {
+        prices::prices_at(cert, at + 4 * n, n, g);
+        return conditions_fault(s, n, count, places, rows, q, t, 0, x, x, g);
     }
-    sum
+    prices::prices_at(cert, at + 4 * n, n, y);
+    prices::prices_at(cert, at + 8 * n, n, g);
+    conditions_fault(s, n, count, places, rows, q, t, action, x, y, g)
 }
 
-// The sums for two tables of prices, in one pass over the entries.
-pub fn sums_of(s: &[u8], at: usize, count: usize, first: &Prices, second: &Prices) -> Sums
-    requires { ⌜ Summable (now s) count at (now first) × Summable (now s) count at (now second) ⌝ }
-    ensures { λ r. ⌜ IsSum (entriesAt (now (s .entry)) count at) (now (first .entry)) (r .first) × IsSum (entriesAt (now (s .entry)) count at) (now (second .entry)) (r .second) ⌝ }
+// Refusals 11, 12 and 14 to 16 of the refutation at a place.
+pub fn refutation_fault(
+    s: &[u8],
+    n: usize,
+    count: usize,
+    places: &Places,
+    rows: &Rows,
+    cert: &[u8],
+    at: usize,
+    x: &mut Prices,
+    y: &mut Prices,
+    g: &mut Prices,
+) -> Fault
+    requires { ⌜ Known (now s) n count (now places) × (at ≤ length (now cert)) × (length (now x) ≡ limits .states) × (length (now y) ≡ limits .states) × (length (now g) ≡ limits .states) ⌝ }
+    ensures { λ r. ⌜ RefutationJudged (now (s .entry)) (now (cert .entry)) n (now (rows .entry)) at (now (x .exit)) (now (y .exit)) (now (g .exit)) r ⌝ }
 {
-    let mut left = count;
-    let mut place = Cursor::new(at);
-    let mut one = 0;
-    let mut other = 0;
-    while 0 < left {
-        let entry = entry_at(s, place);
-        let v = entry.state;
-        let price = first[v];
-        let other_price = second[v];
-        one = with_term(one, entry.weight, price);
-        other = with_term(other, entry.weight, other_price);
-        place = entry.next;
-        left -= 1;
+    if cert.len() - at < 2 {
+        return fault::refusal(11);
     }
-    Sums {
-        first: one,
-        second: other,
+    let mark = Cursor::new(at).pair(cert);
+    if mark.value != MARK {
+        return fault::refusal(12);
     }
+    if cert.len() - at < 5 {
+        return fault::refusal(11);
+    }
+    let challenger = mark.next.pair(cert);
+    let defender = challenger.next.byte(cert);
+    let q = challenger.value;
+    let t = defender.value;
+    let pair = pair_fault(s, n, count, places, rows, q, t);
+    if pair.number != 0 {
+        return pair;
+    }
+    let start = defender.next.at;
+    if cert.len() - start < 4 * price_count(s, n, places, q) {
+        return fault::refusal(11);
+    }
+    prices_fault(s, n, count, places, rows, q, t, cert, start, x, y, g)
 }

@@ -7,7 +7,8 @@ use lib.ListN.{length, length-take, length-drop}
 use native.Mathlib.Omega.{arith}
 use Rattle.bisimulation.specs.ChoiceLaws.{via, less, notLess, eitherLess}
 use Rattle.rules.specs.Limits.{Limits}
-use Rattle.rules.specs.Reading.{Scan, sound, refused, scanWhole, statesOf, countOf, modelAt, readingOf, readWhole, placeOf, sourceAt, firstNotBelow, runFirst, runPast, runStart, runEnd}
+use Rattle.rules.specs.Model.{Model}
+use Rattle.rules.specs.Reading.{model, Scan, sound, refused, scanWhole, statesOf, countOf, modelAt, readingOf, readWhole, placeOf, sourceAt, firstNotBelow, runFirst, runPast, runStart, runEnd}
 use Rattle.rules.specs.ReadingLaws.{Sound, Tells, whole-tells}
 use Rattle.rules.specs.Answers.{Answer, refusalIn, answerWithoutPlace, runAnswer, fetchReading, fetchAnswer, FetchNumber}
 
@@ -100,3 +101,23 @@ fetch-refusal L s state number place q = (
   ⊎-elim (λ h. omega (arith, ap (λ (a : Answer). a .number) q)) (λ h. omega (arith, ap (λ (a : Answer). a .number) q)) (fetch-number L s state),
   omega (arith, ap (λ (a : Answer). a .stretchStart) q, ap (λ (a : Answer). a .stretchLength) q, fetch-inside L s state),
 )
+
+-- what is read is the model in the bytes
+pub read-model : (L : Limits) (s : List ℕ) {N : Model} {end : ℕ} → readWhole L s ≡ model N end → N ≡ modelAt s
+unfolding readWhole readingOf
+read-model L s {N} {end} e = go (scanWhole L s) e
+  where
+    go : (scan : Scan) → readingOf s scan ≡ model N end → N ≡ modelAt s
+    go (sound n m count last) q = cc
+    go (refused number place) q = let z : _≡_ {A = ℕ} 0 1 = cc in absurd (omega arith)
+
+-- the states of what is read are those of the head
+pub read-states : (L : Limits) (s : List ℕ) {N : Model} {end : ℕ} → readWhole L s ≡ model N end → length (N .labels) ≡ statesOf s
+unfolding readWhole readingOf
+read-states L s {N} {end} e = go (scanWhole L s) (whole-tells L s) e
+  where
+    go : (scan : Scan) → Tells L s scan → readingOf s scan ≡ model N end → length (N .labels) ≡ statesOf s
+    go (sound n m count last) t q =
+        let same : modelAt s ≡ N = cc in
+        ap (λ (x : Model). length (x .labels)) (sym same) ∙ labels-length s (omega (arith, t .states, t .labels))
+    go (refused number place) t q = let z : _≡_ {A = ℕ} 0 1 = cc in absurd (omega arith)

@@ -7,7 +7,7 @@ use lib.ListN.{length, take, drop}
 use Rattle.bisimulation.specs.Choice.{ifLess, ifSame, unlessLess}
 use Rattle.rules.specs.Limits.{Limits}
 use Rattle.rules.specs.Model.{Model}
-use Rattle.rules.specs.Reading.{Reading, model, noModel, readWhole, runStart, runEnd}
+use Rattle.rules.specs.Reading.{Reading, model, noModel, modelAt, readWhole, runStart, runEnd}
 use Rattle.rules.specs.Certificate.{Fault, FileRule}
 use Rattle.rules.specs.Judging.{Judgement, accepted, rejected, judge}
 use Rattle.rules.specs.Quotient.{mergedFile}
@@ -98,14 +98,9 @@ unfoldable pub quotientOutcome : (M C buffer : List ℕ) → Model → Judgement
 quotientOutcome M C buffer N (accepted blocks) = mergedOutcome (mergedFile N blocks) buffer
 quotientOutcome M C buffer N (rejected f file place) = unwritten (rejection M C f file place) buffer
 
--- the same for what reading the model gave
-unfoldable pub reduceReadingOutcome : (M C buffer : List ℕ) → Reading → Judgement → Outcome
-reduceReadingOutcome M C buffer (model N end) judged = quotientOutcome M C buffer N judged
-reduceReadingOutcome M C buffer (noModel number place) judged = blocksOutcome M C buffer judged
-
--- 'The call that writes it lends this buffer and no block buffer': judging, then the merged model
+-- 'The call that writes it lends this buffer and no block buffer': judging, then the merged model of the model in the bytes
 unfoldable pub reduceOutcome : Limits → FileRule → (M C buffer : List ℕ) → Outcome
-reduceOutcome L rule M C buffer = reduceReadingOutcome M C buffer (readWhole L M) (judge L rule M C)
+reduceOutcome L rule M C buffer = quotientOutcome M C buffer (modelAt M) (judge L rule M C)
 
 -- the numbers that document 01 gives for a fetch
 unfoldable pub FetchNumber : ℕ → Type 0

@@ -4,7 +4,7 @@ use mathlib.Core.Path.{_≡_}
 use mathlib.Core.List.{List}
 use lib.ListN.{length, getD}
 use Rattle.bisimulation.specs.StepRule.{StepRule, Met}
-use Rattle.bisimulation.specs.Largest.{LargestBisimulation}
+use Rattle.bisimulation.specs.Largest.{LargestBisimulation, LargestPairs}
 use Rattle.rules.specs.Limits.{Limits, limits}
 use Rattle.rules.specs.Model.{Model, automatonOf, HoldOneAutomaton}
 use Rattle.rules.specs.Reading.{readWhole, model}
@@ -39,3 +39,9 @@ pub record Demand3 (L : Limits) (file : FileRule) (rule : StepRule) : Type 1 whe
 -- for document 01's limits and step rule
 abbrev pub PlainDemand3 : Type 1
 PlainDemand3 = Demand3 limits plainRule Met
+
+-- the first clause for relations that are sets of pairs: what the contract of a call says of the blocks that it accepts
+pub record LargestBlockPairs (L : Limits) (rule : StepRule) (bytes blocks : List ℕ) : Type 0 where
+  pub M : Model
+  pub holds : HoldsModel L bytes M
+  pub largest : LargestPairs rule (automatonOf M) (InOneBlock blocks)

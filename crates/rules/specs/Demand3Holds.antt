@@ -1,16 +1,26 @@
 -- Demand 3 holds, for every step rule whose tests decide what it says and whose theory covers it; so for document 01's own.
 use Prim.Native.Nat.{ℕ}
-use mathlib.Core.Path.{_≡_, sym, _∙_, subst}
+use mathlib.Core.Path.{_≡_, refl, sym, _∙_, ap₂, subst}
+use mathlib.Core.Bool.{Bool, true, false, cond}
 use mathlib.Core.Logic.{_↔_}
 use mathlib.Core.List.{List}
-use lib.ListN.{length}
+use lib.Dec.{ltb, eqb}
+use lib.ListN.{length, getD}
+use borrow.Author.Tests.{lt-ltb, ltb-true, eq-eqb, eqb-true}
 use native.Mathlib.Omega.{arith}
-use Rattle.bisimulation.specs.Largest.{LargestBisimulation}
+use Rattle.bisimulation.specs.Choice.{both}
+use Rattle.bisimulation.specs.ChoiceLaws.{false-not}
+use Rattle.bisimulation.specs.StepRule.{Met}
+use Rattle.bisimulation.specs.Pairs.{Pairs}
+use Rattle.bisimulation.specs.Largest.{LargestBisimulation, Links}
+use Rattle.bisimulation.specs.LargestPairs.{largest-pairs}
 use Rattle.bisimulation.specs.Rule.{Rule}
 use Rattle.bisimulation.specs.Spelling.{oneAnswer}
 use Rattle.bisimulation.specs.Plain.{plain}
 use Rattle.rules.specs.AnyRule.{Decides, FitsFields, Covers}
 use Rattle.rules.specs.Limits.{Limits, limits}
+use Rattle.rules.specs.Reading.{statesOf}
+use Rattle.rules.specs.AnswerLaws.{read-states}
 use Rattle.rules.specs.Model.{Model, automatonOf, HoldOneAutomaton}
 use Rattle.rules.specs.SoundModel.{Bytes, SoundModel}
 use Rattle.rules.specs.SoundModelLaws.{limits-fit, sound-automaton}
@@ -23,11 +33,11 @@ use Rattle.rules.specs.AcceptedExactly.{accepted-exactly}
 use Rattle.rules.specs.PlainSays.{plainSays}
 use Rattle.rules.specs.PlainDecides.{plain-decides}
 use Rattle.rules.specs.LargestBlocks.{kept-largest, plain-covers, Numbered, one-numbering}
-use Rattle.rules.specs.Demand3.{InOneBlock, HoldsModel, Demand3, PlainDemand3}
+use Rattle.rules.specs.Demand3.{InOneBlock, HoldsModel, Demand3, PlainDemand3, LargestBlockPairs}
 
 module _ (L : Limits) (file : FileRule) (says : RuleSays) (decides : Decides file says) (fits : FitsFields L file) (rule : Rule) (theory : Covers rule says) where
   -- an accepted certificate's blocks are numbered and whole, and the largest relation
-  record AcceptedFacts (M : Model) (blocks : List ℕ) : Type 1 where
+  pub record AcceptedFacts (M : Model) (blocks : List ℕ) : Type 1 where
     pub sound : SoundModel L M
     pub whole : length blocks ≡ length (M .labels)
     pub numbered : Numbered (length (M .labels)) blocks
@@ -55,7 +65,7 @@ module _ (L : Limits) (file : FileRule) (says : RuleSays) (decides : Decides fil
   one-model : (bytes : List ℕ) (M N : Model) → HoldsModel L bytes M → HoldsModel L bytes N → M ≡ N
   one-model bytes M N h k = let e = sym (h .reads) ∙ k .reads in cc
 
-  facts-of : (bytes C blocks : List ℕ) → Bytes bytes → Bytes C → AcceptedFor L file bytes C blocks → (M : Model) → HoldsModel L bytes M → AcceptedFacts M blocks
+  pub facts-of : (bytes C blocks : List ℕ) → Bytes bytes → Bytes C → AcceptedFor L file bytes C blocks → (M : Model) → HoldsModel L bytes M → AcceptedFacts M blocks
   facts-of bytes C blocks b c a M h =
       let acc = from-judging bytes C blocks b c a in
       subst (λ (N : Model). AcceptedFacts N blocks) (one-model bytes (acc .M) M (holds bytes C blocks b acc) h) (facts bytes C blocks acc)
@@ -97,3 +107,40 @@ plain-accepted bytes C blocks b c =
 -- demand 3 for document 01
 pub plain-demand3 : PlainDemand3
 plain-demand3 = demand3 limits plainRule plainSays plain-decides plain-fits plain plain-covers
+
+-- accepted blocks are one byte a state
+pub plain-whole : (bytes C blocks : List ℕ) → Bytes bytes → Bytes C → AcceptedFor limits plainRule bytes C blocks → length blocks ≡ statesOf bytes
+plain-whole bytes C blocks b c a =
+    let acc = from-judging limits plainRule plainSays plain-decides plain-fits plain plain-covers bytes C blocks b c a in
+    facts limits plainRule plainSays plain-decides plain-fits plain plain-covers bytes C blocks acc .whole
+    ∙ read-states limits bytes (holds limits plainRule plainSays plain-decides plain-fits plain plain-covers bytes C blocks b acc .reads)
+
+-- lying in one block as a set of pairs
+abbrev inOneBlock : List ℕ → Pairs
+inOneBlock blocks s t = both (both (ltb s (length blocks)) (ltb t (length blocks))) (eqb (getD blocks s 0) (getD blocks t 0))
+
+both-true : (a b : Bool) → both a b ≡ true → (a ≡ true) × (b ≡ true)
+unfolding both
+both-true true true e = (refl, refl)
+both-true true false e = absurd (false-not e)
+both-true false b e = absurd (false-not e)
+
+true-both : {a b : Bool} → a ≡ true → b ≡ true → both a b ≡ true
+unfolding both
+true-both {a} {b} p q = ap₂ (λ (x y : Bool). cond x y false) p q
+
+in-one-block : (blocks : List ℕ) (s t : ℕ) → Links (inOneBlock blocks) s t ↔ InOneBlock blocks s t
+in-one-block blocks s t = (
+  λ h.
+      let a = both-true _ _ (h .linked) in
+      let b = both-true _ _ (a .0) in
+      record { first = ltb-true s (length blocks) (b .0); second = ltb-true t (length blocks) (b .1); same = eqb-true _ _ (a .1) },
+  λ h.
+      record { linked = true-both (true-both (lt-ltb s (length blocks) (h .first)) (lt-ltb t (length blocks) (h .second))) (eq-eqb _ _ (h .same)) },
+)
+
+-- its first clause for sets of pairs
+pub plain-largest-pairs : (bytes C blocks : List ℕ) → Bytes bytes → Bytes C → AcceptedFor limits plainRule bytes C blocks → LargestBlockPairs limits Met bytes blocks
+plain-largest-pairs bytes C blocks b c a =
+    let l = plain-demand3 .largest bytes C blocks b c a in
+    record { M = l .M; holds = l .holds; largest = largest-pairs (inOneBlock blocks) (in-one-block blocks) (l .largest) }

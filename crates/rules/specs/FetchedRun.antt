@@ -132,7 +132,7 @@ module _ (s : List ℕ) (count : ℕ) (f : Follows s count) where
       ∙ ap transitionsBytes (sym (skip .0 ∙ run))
 
 -- the records of a file that holds a model follow each other
-length-entriesAt : (s : List ℕ) (left at : ℕ) → length (entriesAt s left at) ≡ left
+pub length-entriesAt : (s : List ℕ) (left at : ℕ) → length (entriesAt s left at) ≡ left
 unfolding entriesAt
 length-entriesAt s zero at = refl
 length-entriesAt s (suc left) at = ap suc (length-entriesAt s left (at + 3))

@@ -7,7 +7,7 @@ use lib.Dec.{eqb}
 use lib.ListN.{length, length-append}
 use native.Mathlib.Omega.{arith}
 use Rattle.bisimulation.specs.Choice.{ifTrue, both}
-use Rattle.bisimulation.specs.ChoiceLaws.{less, notLess, same, notSame, isTrue, pastLess, pastSame, keptLess, keptSame, keptTrue}
+use Rattle.bisimulation.specs.ChoiceLaws.{less, notLess, same, notSame, isTrue, pastLess, pastSame, keptSame}
 use Rattle.bisimulation.specs.Automaton.{Automaton}
 use Rattle.bisimulation.specs.Pairs.{Pairs}
 use Rattle.rules.specs.AnyRule.{Decides, Narrow}
@@ -17,6 +17,7 @@ use Rattle.rules.specs.Certificate.{fault, noFault, FileRule, kCountAt, 
 use Rattle.rules.specs.Judging.{Question}
 use Rattle.rules.specs.Encoding.{KEntry, WEntry, FlowRecord, fourBytes, listBytes, kBytes, wBytes, flowBytes, kIn, wIn, flowOf}
 use Rattle.rules.specs.Accepted.{RuleSays, GoodK, GoodW, GoodFlow, kKey, wKey}
+use Rattle.rules.specs.EntryFaults.{passed-k, passed-w}
 use Rattle.rules.specs.EntryLists.{entriesFrom, length-entriesFrom, length-listBytes, entries-stand, entries-read, entries-good, entries-pass}
 use Rattle.rules.specs.RefutationRecords.{no-fault, none-first, first-none}
 
@@ -108,21 +109,18 @@ module _ (file : FileRule) (says : RuleSays) (decides : Decides file says) (A : 
 
   -- one entry judged
   k-turn : IsBytes C → (left at lowest : ℕ) → noFault ≡ kFault file A C q t (suc left) at lowest → (lowest ≤ kKey (kAt C at)) × GoodK says A q t (kAt C at) × (noFault ≡ kFault file A C q t left (at + 7) (kKey (kAt C at) + 1))
-  unfolding kFault kKey kAt threeAt
+  unfolding kKey kAt threeAt
   k-turn b left at lowest e =
-      let a = pastLess (fault 19) _ (threeAt C at) lowest (no-fault 18) e in
-      let c = keptLess _ (fault 19) (twoAt C (at + 1)) (A .transitions) (no-fault 18) (a .1) in
-      let d = keptTrue _ (fault 19) (file .inQuestion A q t (byteAt C at) (twoAt C (at + 1))) (no-fault 18) (c .1) in
-      let f = keptLess _ (fault 19) 0 (fourAt C (at + 3)) (no-fault 18) (d .1) in (
-        a .0,
+      let p = passed-k file A C q t left at lowest e in (
+        p .order,
         record {
           layer = b .small at;
-          transition = c .0;
-          allowed = decides .inQuestion A q t (byteAt C at) (twoAt C (at + 1)) .0 (d .0);
-          some = f .0;
+          transition = p .transition;
+          allowed = decides .inQuestion A q t (byteAt C at) (twoAt C (at + 1)) .0 (p .allowed);
+          some = p .some;
           fits = four-small C (at + 3) b;
         },
-        f .1,
+        p .rest,
       )
 
   k-pass : (left at lowest : ℕ) (e : KEntry) → kAt C at ≡ e → lowest ≤ kKey e → GoodK says A q t e → noFault ≡ kFault file A C q t left (at + 7) (kKey e + 1) → noFault ≡ kFault file A C q t (suc left) at lowest
@@ -138,16 +136,12 @@ module _ (file : FileRule) (says : RuleSays) (decides : Decides file says) (A : 
       (h ∙ ap (λ (x : KEntry). kFault file A C q t left (at + 7) (kKey x + 1)) (sym r)))))
 
   w-turn : IsBytes C → (left at lowest : ℕ) → noFault ≡ wFault A C R (suc left) at lowest → (lowest ≤ wKey (wAt C at)) × GoodW A R (wAt C at) × (noFault ≡ wFault A C R left (at + 6) (wKey (wAt C at) + 1))
-  unfolding wFault wKey wAt twoAt
+  unfolding wKey wAt twoAt
   w-turn b left at lowest e =
-      let a = pastLess (fault 19) _ (twoAt C at) lowest (no-fault 18) e in
-      let c = keptLess _ (fault 19) (byteAt C at) (A .states) (no-fault 18) (a .1) in
-      let d = keptLess _ (fault 19) (byteAt C (at + 1)) (A .states) (no-fault 18) (c .1) in
-      let f = keptTrue _ (fault 19) (R (byteAt C at) (byteAt C (at + 1))) (no-fault 18) (d .1) in
-      let g = keptLess _ (fault 19) 0 (fourAt C (at + 2)) (no-fault 18) (f .1) in (
-        a .0,
-        record { from = c .0; to = d .0; related = f .0; some = g .0; fits = four-small C (at + 2) b },
-        g .1,
+      let p = passed-w A C R left at lowest e in (
+        p .order,
+        record { from = p .from; to = p .to; related = p .related; some = p .some; fits = four-small C (at + 2) b },
+        p .rest,
       )
 
   w-pass : (left at lowest : ℕ) (e : WEntry) → wAt C at ≡ e → lowest ≤ wKey e → GoodW A R e → noFault ≡ wFault A C R left (at + 6) (wKey e + 1) → noFault ≡ wFault A C R (suc left) at lowest
@@ -183,16 +177,17 @@ length-flow f =
       length-listBytes WEntry 6 wBytes length-w (f .ws),
     )
 
-module _ (file : FileRule) (says : RuleSays) (decides : Decides file says) (A : Automaton) (narrow : Narrow A) (C : List ℕ) (R : Pairs) (x : Question) (at : ℕ) where
-  record Passed : Type 0 where
+-- what a flow without fault tells
+module _ (file : FileRule) (A : Automaton) (C : List ℕ) (R : Pairs) (q t at : ℕ) where
+  pub record Passed : Type 0 where
     pub mark : twoAt C at ≡ 0x464C
     pub some : 1 ≤ fourAt C (at + 2)
-    pub ks : noFault ≡ kFault file A C (x .challenger) (x .defender) (kCountAt C at) (at + 8) 0
+    pub ks : noFault ≡ kFault file A C q t (kCountAt C at) (at + 8) 0
     pub whole : afterFlow C at ≤ length C
     pub ws : noFault ≡ wFault A C R (wCountAt C at) (afterK C at + 2) 0
-    pub equations : noFault ≡ file .equationsFault A (x .challenger) (x .defender) (flowAt C at)
+    pub equations : noFault ≡ file .equationsFault A q t (flowAt C at)
 
-  passed : noFault ≡ flowFault file A C R (x .challenger) (x .defender) at → Passed
+  pub passed : noFault ≡ flowFault file A C R q t at → Passed
   unfolding flowFault
   passed e =
       let a = pastLess (fault 11) _ (length C) (at + 2) (no-fault 10) e in
@@ -206,10 +201,11 @@ module _ (file : FileRule) (says : RuleSays) (decides : Decides file says) (A : 
       let j = none-first _ _ (i .1) in
       record { mark = b .0; some = omega (arith, d .0); ks = g .0; whole = i .0; ws = j .0; equations = j .1 }
 
+module _ (file : FileRule) (says : RuleSays) (decides : Decides file says) (A : Automaton) (narrow : Narrow A) (C : List ℕ) (R : Pairs) (x : Question) (at : ℕ) where
   pub flow-good : noFault ≡ flowFault file A C R (x .challenger) (x .defender) at → IsBytes C → GoodFlow says A R x (flowRecordAt C at)
   unfolding flowRecordAt kCountAt wCountAt
   flow-good e b =
-      let p = passed e in
+      let p = passed file A C R (x .challenger) (x .defender) at e in
       let ks = entries-good KEntry 7 kBytes length-k C (kAt C) (GoodK says A (x .challenger) (x .defender)) (k-reads file says decides A narrow C R (x .challenger) (x .defender)) kKey (kFault file A C (x .challenger) (x .defender)) (k-turn file says decides A narrow C R (x .challenger) (x .defender) b) (kCountAt C at) (at + 8) 0 (p .ks) in
       let ws = entries-good WEntry 6 wBytes length-w C (wAt C) (GoodW A R) (w-reads file says decides A narrow C R (x .challenger) (x .defender)) wKey (wFault A C R) (w-turn file says decides A narrow C R (x .challenger) (x .defender) b) (wCountAt C at) (afterK C at + 2) 0 (p .ws) in
       record {
@@ -237,7 +233,7 @@ module _ (file : FileRule) (says : RuleSays) (decides : Decides file says) (A : 
   pub flow-stands : noFault ≡ flowFault file A C R (x .challenger) (x .defender) at → IsBytes C → Stands C at (flowBytes (flowRecordAt C at))
   unfolding flowRecordAt flowBytes twoBytes afterK afterFlow
   flow-stands e b =
-      let p = passed e in
+      let p = passed file A C R (x .challenger) (x .defender) at e in
       let w = p .whole in
       let ks = entriesFrom 7 (kAt C) (kCountAt C at) (at + 8) in
       let ws = entriesFrom 6 (wAt C) (wCountAt C at) (afterK C at + 2) in

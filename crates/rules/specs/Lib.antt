@@ -19,6 +19,7 @@ pub mod AnyRule
 pub mod QuestionsLaws
 pub mod EntryLists
 pub mod RefutationRecords
+pub mod EntryFaults
 pub mod BlocksRecord
 pub mod FlowRecords
 pub mod CertificateKept
@@ -30,9 +31,15 @@ pub mod LargestBlocks
 pub mod Demand3Holds
 pub mod Numbers
 pub mod Quotient
+pub mod KeyedSums
+pub mod QuotientLaws
+pub mod QuotientHolds
 pub mod Answers
 pub mod AnswerLaws
 pub mod ModelAutomaton
 pub mod EntryPrices
 pub mod FetchedRun
 pub mod Cases
+pub mod MoreCases
+pub mod JudgeOutcome
+pub mod ReduceOutcome

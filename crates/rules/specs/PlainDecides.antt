@@ -33,11 +33,11 @@ T-holds false h = absurd h
 
 -- the choice by the challenger's kind
 module _ (A : Automaton) where
-  kind-internal : {X : Type 0} (q : ℕ) (x y : X) → A .action q ≡ 0 → x ≡ byKind A q x y
+  pub kind-internal : {X : Type 0} (q : ℕ) (x y : X) → A .action q ≡ 0 → x ≡ byKind A q x y
   unfolding byKind
   kind-internal q x y e = same y e refl
 
-  kind-external : {X : Type 0} (q : ℕ) (x y : X) → A .action q ≢ 0 → y ≡ byKind A q x y
+  pub kind-external : {X : Type 0} (q : ℕ) (x y : X) → A .action q ≢ 0 → y ≡ byKind A q x y
   unfolding byKind
   kind-external q x y n = notSame x n refl
 
@@ -136,11 +136,11 @@ module _ (A : Automaton) where
       go h (no n) = external-refutes R q t p (λ v. p (A .states + v)) (λ v. p (2 * A .states + v)) .1 (h .external n) ∙ kind-external q _ _ n
 
   -- equations without fault hold
-  all-hold : (e : ℕ → Sides) → allHold A e ≡ true → (v : ℕ) → v < A .states → Holds (e v)
+  pub all-hold : (e : ℕ → Sides) → allHold A e ≡ true → (v : ℕ) → v < A .states → Holds (e v)
   unfolding allHold
   all-hold e h v l = record { equal = eqb-true _ _ (all-below (A .states) _ h v l) }
 
-  hold-all : (e : ℕ → Sides) → ((v : ℕ) → v < A .states → Holds (e v)) → allHold A e ≡ true
+  pub hold-all : (e : ℕ → Sides) → ((v : ℕ) → v < A .states → Holds (e v)) → allHold A e ≡ true
   unfolding allHold
   hold-all e h = below-all (A .states) _ (λ v l. eq-eqb _ _ (h v l .equal))
 
@@ -206,15 +206,15 @@ module _ (A : Automaton) where
       sym (notSame _ (λ z. omega arith) (notSame _ (λ z. omega arith) (same _ a (sym (eq-eqb _ _ b))) ∙ kind-external q false _ n))
 
   -- the conditions look at prices of states alone
-  AlikeOnStates : (X Y : ℕ → ℤ) → Type 0
+  abbrev pub AlikeOnStates : (X Y : ℕ → ℤ) → Type 0
   AlikeOnStates X Y = (v : ℕ) → v < A .states → X v ≡ Y v
 
-  targets-same : (X Y : ℕ → ℤ) → AlikeOnStates X Y → (r : ℕ) → priceOfTargets A X r ≡ priceOfTargets A Y r
-  unfolding priceOfTargets AlikeOnStates
+  pub targets-same : (X Y : ℕ → ℤ) → AlikeOnStates X Y → (r : ℕ) → priceOfTargets A X r ≡ priceOfTargets A Y r
+  unfolding priceOfTargets
   targets-same X Y h r = sumℤCong (A .states) _ _ (λ v l. ap (λ (z : ℤ). pos (A .weight r v) *ℤ z) (h v l))
 
-  price-same : (X Y : ℕ → ℤ) → AlikeOnStates X Y → (r x : ℕ) → x < A .states → priceAt A X r x ≡ priceAt A Y r x
-  unfolding priceAt AlikeOnStates
+  pub price-same : (X Y : ℕ → ℤ) → AlikeOnStates X Y → (r x : ℕ) → x < A .states → priceAt A X r x ≡ priceAt A Y r x
+  unfolding priceAt
   price-same X Y h r x l = ap (λ (z : ℤ). pos (A .denominator r) *ℤ z) (h x l)
 
   module _ (sound : SoundAutomaton A) where
@@ -227,14 +227,13 @@ module _ (A : Automaton) where
         }
 
     related-same : (R : Pairs) (X X′ G G′ : ℕ → ℤ) → AlikeOnStates X X′ → AlikeOnStates G G′ → RelatedCondition A R X G → RelatedCondition A R X′ G′
-    unfolding AlikeOnStates
     related-same R X X′ G G′ h k c = record { holds = λ v u l m e. subst₂ _≤ℤ_ (k u m) (h v l) (c .holds v u l m e) }
 
     last-same : (q t : ℕ) (X X′ G G′ : ℕ → ℤ) → t < A .states → AlikeOnStates X X′ → AlikeOnStates G G′ → LastCondition A q t X G → LastCondition A q t X′ G′
     last-same q t X X′ G G′ l h k c = record { holds = subst₂ _<ℤ_ (price-same X X′ h q t l) (targets-same G G′ k q) (c .holds) }
 
     pub only-prices : (R : Pairs) (q t : ℕ) (p p′ : ℕ → ℤ) → t < A .states → ((i : ℕ) → i < plainPriceCount A q → p i ≡ p′ i) → PlainRefutes A R q t p → PlainRefutes A R q t p′
-    unfolding plainPriceCount AlikeOnStates
+    unfolding plainPriceCount
     only-prices R q t p p′ l h c =
         record {
           internal = λ i.

@@ -92,9 +92,9 @@ length-refutation x =
       length-listBytes ℤ 4 priceBytes length-price (x .prices),
     )
 
-module _ (file : FileRule) (says : RuleSays) (decides : Decides file says) (A : Automaton) (narrow : Narrow A) (C : List ℕ) (R : Pairs) (at : ℕ) where
+module _ (file : FileRule) (A : Automaton) (C : List ℕ) (R : Pairs) (at : ℕ) where
   -- what a refutation record without fault tells
-  record Passed : Type 0 where
+  pub record Passed : Type 0 where
     pub mark : twoAt C at ≡ 0x5058
     pub transition : challengerAt C at < A .transitions
     pub state : defenderAt C at < A .states
@@ -103,7 +103,7 @@ module _ (file : FileRule) (says : RuleSays) (decides : Decides file says) (A : 
     pub whole : afterRefutation file A C at ≤ length C
     pub prices : noFault ≡ file .pricesFault A R (challengerAt C at) (defenderAt C at) (pricesAt C at)
 
-  passed : noFault ≡ refutationFault file A C R at → Passed
+  pub passed : noFault ≡ refutationFault file A C R at → Passed
   unfolding refutationFault pairFault
   passed e =
       let a = pastLess (fault 11) _ (length C) (at + 2) (no-fault 10) e in
@@ -125,11 +125,12 @@ module _ (file : FileRule) (says : RuleSays) (decides : Decides file says) (A : 
         prices = j .1;
       }
 
+module _ (file : FileRule) (says : RuleSays) (decides : Decides file says) (A : Automaton) (narrow : Narrow A) (C : List ℕ) (R : Pairs) (at : ℕ) where
   -- it is good, and its encoding stands there
   pub refutation-good : noFault ≡ refutationFault file A C R at → IsBytes C → GoodRefutation says A R (refutationAt file A C at)
   unfolding refutationAt pricesOf pricesAt
   refutation-good e b =
-      let p = passed e in
+      let p = passed file A C R at e in
       record {
         transition = p .transition;
         state = p .state;
@@ -146,7 +147,7 @@ module _ (file : FileRule) (says : RuleSays) (decides : Decides file says) (A : 
   pub refutation-stands : noFault ≡ refutationFault file A C R at → IsBytes C → Stands C at (refutationBytes (refutationAt file A C at))
   unfolding refutationAt refutationBytes challengerAt defenderAt afterRefutation twoBytes
   refutation-stands e b =
-      let p = passed e in
+      let p = passed file A C R at e in
       let w = p .whole in
       after-two C at 0x5058 _ (mark-stands C at 0x5058 b (omega arith) (p .mark))
       (after-two C (at + 2) (twoAt C (at + 2)) _ (two-stands C (at + 2) b (omega arith))

@@ -24,6 +24,17 @@ each-at P [] i d h less = absurd (omega arith)
 each-at P (x ∷ xs) zero d h less = h .0
 each-at P (x ∷ xs) (suc i) d h less = each-at P xs i d (h .1) (omega arith)
 
+-- what follows from P of one element follows of each, and each of two lists are each of the two in a row
+pub each-map : {A : Type 0} (P Q : A → Type 0) → ((x : A) → P x → Q x) → (xs : List A) → Each P xs → Each Q xs
+unfolding Each
+each-map P Q f [] h = tt
+each-map P Q f (x ∷ xs) h = (f x (h .0), each-map P Q f xs (h .1))
+
+pub each-append : {A : Type 0} (P : A → Type 0) (xs ys : List A) → Each P xs → Each P ys → Each P (xs ++ ys)
+unfolding Each
+each-append P [] ys h k = k
+each-append P (x ∷ xs) ys h k = (h .0, each-append P xs ys (h .1) k)
+
 -- the first number is not below `lowest`, and none is below what `next` says of the element before it
 unfoldable pub From : {A : Type 0} → (A → ℕ) → (A → ℕ) → ℕ → List A → Type 0
 From f next lowest [] = Unit
@@ -79,7 +90,7 @@ module _ (a w : ℕ) (f : ℕ → ℕ) where
       let ih = sum-without n (omega arith) in
       omega arith
 
-  sum-with : f a ≡ 0 → (n : ℕ) → a < n → sum n (λ v. ifSame a v w (f v)) ≡ w + sum n f
+  pub sum-with : f a ≡ 0 → (n : ℕ) → a < n → sum n (λ v. ifSame a v w (f v)) ≡ w + sum n f
   unfolding sum
   sum-with none zero h = absurd (omega arith)
   sum-with none (suc n) h = go (ℕ-discrete a n) (sum-with none n)
@@ -128,25 +139,15 @@ one-byte : (x : ℕ) (xs : List ℕ) → x < 256 → EachByte xs → EachByte (x
 unfolding Each
 one-byte x xs h k = (h, k)
 
-both-bytes : (xs ys : List ℕ) → EachByte xs → EachByte ys → EachByte (xs ++ ys)
-unfolding Each
-both-bytes [] ys h k = k
-both-bytes (x ∷ xs) ys h k = (h .0, both-bytes xs ys (h .1) k)
-
 two-bytes : (x : ℕ) → EachByte (twoBytes x)
 unfolding Each twoBytes
 two-bytes x = omega arith
-
-label-bytes : (highest : ℕ) → highest ≤ 255 → (labels : List ℕ) → Each (λ (b : ℕ). b ≤ highest) labels → EachByte labels
-unfolding Each
-label-bytes highest small [] known = tt
-label-bytes highest small (b ∷ labels) known = (omega arith, label-bytes highest small labels (known .1))
 
 entry-bytes : (n : ℕ) → n ≤ 255 → (es : List Entry) → Each (λ (e : Entry). e .state < n) es → EachByte (entriesBytes es)
 unfolding Each entriesBytes
 entry-bytes n small [] known = tt
 entry-bytes n small (e ∷ es) known =
-    (omega arith, both-bytes (twoBytes (e .weight)) (entriesBytes es) (two-bytes (e .weight)) (entry-bytes n small es (known .1)))
+    (omega arith, each-append _ (twoBytes (e .weight)) (entriesBytes es) (two-bytes (e .weight)) (entry-bytes n small es (known .1)))
 
 transition-bytes : (n m : ℕ) → n ≤ 255 → m ≤ 255 → (t : Transition) → TransitionRules n m t → EachByte (transitionBytes t)
 unfolding transitionBytes
@@ -155,7 +156,7 @@ transition-bytes n m states actions t rules =
     (one-byte _ _ (omega arith)
     (one-byte _ _ (omega arith)
     (one-byte _ _ (omega arith)
-    (both-bytes _ _ (two-bytes _)
+    (each-append _ _ _ (two-bytes _)
     (one-byte _ _ (omega arith)
     (entry-bytes n states (t .entries) (rules .states)))))))
 
@@ -163,7 +164,7 @@ transitions-bytes : (n m : ℕ) → n ≤ 255 → m ≤ 255 → (ts : List Trans
 unfolding Each transitionsBytes
 transitions-bytes n m states actions [] rules = tt
 transitions-bytes n m states actions (t ∷ ts) rules =
-    both-bytes (transitionBytes t) (transitionsBytes ts) (transition-bytes n m states actions t (rules .0))
+    each-append _ (transitionBytes t) (transitionsBytes ts) (transition-bytes n m states actions t (rules .0))
     (transitions-bytes n m states actions ts (rules .1))
 
 pub sound-bytes : (L : Limits) (M : Model) → FitsWidths L → SoundModel L M → Bytes (modelBytes M)
@@ -174,9 +175,9 @@ sound-bytes L M fits ok i less =
     (one-byte _ _ (omega arith)
     (one-byte _ _ (omega arith)
     (one-byte _ _ (omega arith)
-    (both-bytes (twoBytes (length (M .transitions))) _ (two-bytes _)
+    (each-append _ (twoBytes (length (M .transitions))) _ (two-bytes _)
     (one-byte _ _ (omega arith)
     (one-byte _ _ (omega arith)
-    (both-bytes (M .labels) _ (label-bytes (L .label) (fits .label) (M .labels) (ok .labels))
+    (each-append _ (M .labels) _ (each-map (λ (b : ℕ). b ≤ L .label) (λ (b : ℕ). b < 256) (λ b h. omega (arith, fits .label)) (M .labels) (ok .labels))
     (transitions-bytes (length (M .labels)) (M .actions) (omega arith) (omega arith) (M .transitions) (ok .transitions))))))))))
     less

@@ -1,10 +1,23 @@
 -- What the calls promise, in the definitions of document 01.
-use Prim.Native.Nat.{ℕ}
+use Prim.Native.Nat.{ℕ, _+_, _≤_, _<_}
 use mathlib.Core.Path.{_≡_}
-use mathlib.Core.List.{List}
+use mathlib.Core.Logic.{_↔_, _⊎_}
+use mathlib.Core.List.{List, _++_}
+use lib.ListN.{length, take, drop}
+use Rattle.bisimulation.specs.Choice.{ifSame}
+use Rattle.bisimulation.specs.StepRule.{Met}
 use Rattle.rules.specs.Limits.{limits}
+use Rattle.rules.specs.Model.{Model, HoldOneAutomaton}
+use Rattle.rules.specs.Reading.{statesOf}
+use Rattle.rules.specs.SoundModel.{Bytes}
+use Rattle.rules.specs.PlainRule.{plainRule}
+use Rattle.rules.specs.PlainSays.{plainSays}
+use Rattle.rules.specs.Judging.{AcceptedFor, NameSameBlocks}
+use Rattle.rules.specs.Accepted.{Accepted}
+use Rattle.rules.specs.Quotient.{mergedFile}
+use Rattle.rules.specs.Demand3.{HoldsModel, LargestBlockPairs}
 use Rattle.rules.specs.Answers as rules
-use Rattle.rules.specs.Answers.{fetchAnswer, stretchIn, FetchNumber}
+use Rattle.rules.specs.Answers.{Outcome, fetchAnswer, stretchIn, stretchOf, FetchNumber, JudgeNumber, ReduceNumber, judgeOutcome, reduceOutcome}
 use Rattle.zolkirta.specs.declared.Answer.{Answer}
 
 -- the struct of numbers as document 01's answer
@@ -31,3 +44,75 @@ pub record FetchHandedBack (model : List ℕ) (state : ℕ) (number file place :
   pub placed : place ≡ fetchAnswer limits model state .place
   pub handed : part ≡ stretchIn model (fetchAnswer limits model state)
   pub known : FetchNumber number
+
+-- the stretch of an answer lies in its file
+pub record StretchInside (model certificate : List ℕ) (r : Answer) : Type 0 where
+  pub fits : r .«stretch_start» + r .«stretch_length» ≤ ifSame (r .file) 2 (length certificate) (length model)
+
+-- a call's answer and the lent buffer afterwards are those of an outcome of document 01
+pub record OutcomeIs (o : Outcome) (model certificate after : List ℕ) (r : Answer) : Type 0 where
+  pub answer : answered r ≡ o .answer
+  pub buffer : after ≡ o .buffer
+  pub inside : StretchInside model certificate r
+
+-- the same with the stretch handed back as a part of the file that holds the record at fault
+pub record HandedBack (o : Outcome) (model certificate after : List ℕ) (number file place : ℕ) (part : List ℕ) : Type 0 where
+  pub numbered : number ≡ o .answer .number
+  pub filed : file ≡ o .answer .file
+  pub placed : place ≡ o .answer .place
+  pub handed : part ≡ stretchOf model certificate (o .answer)
+  pub buffer : after ≡ o .buffer
+
+-- demand 3 of blocks: lying in one of them is the largest relation, and a certificate accepted for a model file that holds the same
+-- automaton has the same blocks
+pub record LargestOf (model blocks : List ℕ) : Type 0 where
+  pub largest : LargestBlockPairs limits Met model blocks
+  pub oneAnswer : (other certificate₂ blocks₂ : List ℕ) → Bytes other → Bytes certificate₂ → AcceptedFor limits plainRule other certificate₂ blocks₂ → (M N : Model) → HoldsModel limits model M → HoldsModel limits other N → HoldOneAutomaton M N → NameSameBlocks blocks blocks₂
+
+-- what a judging call that answers this number keeps, with these bytes in the lent buffer before and after it
+pub record Demands (model certificate before after : List ℕ) (number : ℕ) : Type 0 where
+  -- the number is one of 0 to 22
+  pub known : JudgeNumber number
+  -- demand 2: it is 0 exactly when the certificate keeps every rule on a sound model and the buffer is long enough
+  pub accepts : (number ≡ 0) ↔ ((blocks : List ℕ) × Accepted limits plainSays 0x4354 model certificate blocks × (length blocks ≤ length before))
+  -- demand 3: then it holds of the bytes now in the buffer
+  pub largest : number ≡ 0 → LargestOf model (take (statesOf model) after)
+
+-- judging answers what document 01 says, number, file, place and stretch, and leaves in the block buffer what it says
+pub record JudgeAnswered (model certificate before after : List ℕ) (r : Answer) : Type 0 where
+  pub outcome : OutcomeIs (judgeOutcome limits plainRule model certificate before) model certificate after r
+  pub demands : Demands model certificate before after (r .number)
+
+-- the same with the stretch handed back as a part of its file
+pub record JudgeHandedBack (model certificate before after : List ℕ) (number file place : ℕ) (part : List ℕ) : Type 0 where
+  pub outcome : HandedBack (judgeOutcome limits plainRule model certificate before) model certificate after number file place part
+  pub demands : Demands model certificate before after number
+
+-- the certificate keeps every rule on the sound model M of these bytes, with these blocks
+pub record KeepsRulesOn (model certificate : List ℕ) (M : Model) (blocks : List ℕ) : Type 0 where
+  pub holds : HoldsModel limits model M
+  pub accepted : Accepted limits plainSays 0x4354 model certificate blocks
+
+-- what a reducing call that answers this number keeps, with these bytes in the lent buffer before and after it
+pub record ReduceDemands (model certificate before after : List ℕ) (number : ℕ) : Type 0 where
+  -- the number is one of 0 to 9 and 11 to 23
+  pub known : ReduceNumber number
+  -- demand 2: it is 0 exactly when the certificate keeps every rule on a sound model and the merged file fits the buffer
+  pub accepts : (number ≡ 0) ↔ ((M : Model) × (blocks : List ℕ) × KeepsRulesOn model certificate M blocks × (length (mergedFile M blocks) ≤ length before))
+  -- and 23 exactly when it does not fit
+  pub short : (number ≡ 23) ↔ ((M : Model) × (blocks : List ℕ) × KeepsRulesOn model certificate M blocks × (length before < length (mergedFile M blocks)))
+  -- where it is 0 the buffer begins with that file, and is as before behind it
+  pub file : number ≡ 0 → (M : Model) (blocks : List ℕ) → KeepsRulesOn model certificate M blocks → after ≡ mergedFile M blocks ++ drop (length (mergedFile M blocks)) before
+  -- demand 3, where it is 0 and where it is 23
+  pub largest : (number ≡ 0) ⊎ (number ≡ 23) → (M : Model) (blocks : List ℕ) → KeepsRulesOn model certificate M blocks → LargestOf model blocks
+
+-- reducing answers what document 01 says, number, file, place, stretch and written length, and leaves in the buffer what it says
+pub record ReduceAnswered (model certificate before after : List ℕ) (r : Answer) : Type 0 where
+  pub outcome : OutcomeIs (reduceOutcome limits plainRule model certificate before) model certificate after r
+  pub demands : ReduceDemands model certificate before after (r .number)
+
+-- the same with the stretch handed back as a part of its file
+pub record ReduceHandedBack (model certificate before after : List ℕ) (number file place written : ℕ) (part : List ℕ) : Type 0 where
+  pub outcome : HandedBack (reduceOutcome limits plainRule model certificate before) model certificate after number file place part
+  pub wrote : written ≡ reduceOutcome limits plainRule model certificate before .answer .written
+  pub demands : ReduceDemands model certificate before after number

@@ -3,9 +3,16 @@ ghost use Prim.Native.Nat.{_≤_};
 ghost use mathlib.Core.Path.{_≡_};
 ghost use lib.ListN.{length};
 ghost use Rattle.rules.specs.Limits.{limits};
-ghost use Rattle.rules.specs.Answers.{refusalIn, answerWithoutPlace, runAnswer, fetchAnswer};
-ghost use Rattle.zolkirta.specs.Calls.{answered, FetchAnswered, FetchHandedBack};
+ghost use Rattle.rules.specs.Answers.{refusalIn, answerWithoutPlace, runAnswer, fetchAnswer, judgeOutcome, reduceOutcome};
+ghost use Rattle.transition.specs.Known.{Known};
+ghost use Rattle.rules.specs.PlainRule.{plainRule};
+ghost use Rattle.zolkirta.specs.Calls.{answered, StretchInside, OutcomeIs, FetchAnswered, FetchHandedBack, JudgeAnswered, JudgeHandedBack, ReduceAnswered, ReduceHandedBack};
+ghost use Rattle.zolkirta.specs.Parts.{ReadsModel, VerdictIs, HandsBack, Reduced};
+ghost use Rattle.quotient.specs.File.{CanWriteFile};
+use judge::Judged;
 use model::Fetched;
+use model::Places;
+use model::Scanned;
 
 // What a call answers: document 01's number, file (1 model, 2 certificate) and place; where the stretch, or the run of a
 // fetch, starts in its file and how long it is; and how many bytes were written into the lent buffer.
@@ -19,8 +26,8 @@ pub struct Answer {
     pub written: usize,
 }
 
-fn without_place(number: u32) -> Answer
-    ensures { λ r. ⌜ answered r ≡ answerWithoutPlace number 0 ⌝ }
+fn without_place(number: u32, written: usize) -> Answer
+    ensures { λ r. ⌜ answered r ≡ answerWithoutPlace number written ⌝ }
 {
     Answer {
         number,
@@ -28,17 +35,18 @@ fn without_place(number: u32) -> Answer
         place: 0,
         stretch_start: 0,
         stretch_length: 0,
-        written: 0,
+        written,
     }
 }
 
-fn refusal_in_model(number: usize, place: usize, size: usize) -> Answer
+// A refusal in a file of so many bytes.
+fn refusal_in(number: usize, file: u32, place: usize, size: usize) -> Answer
     requires { ⌜ (number ≤ 24) × (place ≤ size) ⌝ }
-    ensures { λ r. ⌜ answered r ≡ refusalIn number 1 place size ⌝ }
+    ensures { λ r. ⌜ answered r ≡ refusalIn number file place size ⌝ }
 {
     Answer {
         number: number as u32,
-        file: 1,
+        file,
         place,
         stretch_start: place,
         stretch_length: size - place,
@@ -59,7 +67,30 @@ fn run_from(start: usize, end: usize) -> Answer
             written: 0,
         };
     }
-    without_place(0)
+    without_place(0, 0)
+}
+
+// Hands an answer back: the tail of the slice that holds the record at fault, empty where none does, and the numbers beside it.
+fn hand_back<'a>(
+    model: &'a [u8],
+    certificate: &'a [u8],
+    answer: Answer,
+    number: &mut u32,
+    file: &mut u32,
+    place: &mut usize,
+) -> &'a [u8]
+    requires { ⌜ StretchInside (now model) (now certificate) answer ⌝ }
+    ensures { λ r. ⌜ HandsBack (now (model .entry)) (now (certificate .entry)) answer (now (number .exit)) (now (file .exit)) (now (place .exit)) (now r) ⌝ }
+{
+    let start = answer.stretch_start;
+    let size = answer.stretch_length;
+    *number = answer.number;
+    *file = answer.file;
+    *place = answer.place;
+    if answer.file == 2 {
+        return &certificate[start..start + size];
+    }
+    &model[start..start + size]
 }
 
 fn fetch_answer(model: &[u8], state: u32) -> Answer
@@ -68,8 +99,8 @@ fn fetch_answer(model: &[u8], state: u32) -> Answer
     let fetched = model::fetch_run(model, state as usize);
     match fetched {
         Fetched::Found { start, end } => run_from(start, end),
-        Fetched::NoState => without_place(24),
-        Fetched::Unsound { number, place } => refusal_in_model(number, place, model.len()),
+        Fetched::NoState => without_place(24, 0),
+        Fetched::Unsound { number, place } => refusal_in(number, 1, place, model.len()),
     }
 }
 
@@ -85,12 +116,7 @@ pub fn fetch<'a>(
     ensures { λ r. ⌜ FetchHandedBack (now (model .entry)) state (now (number .exit)) (now (file .exit)) (now (place .exit)) (now r) ⌝ }
 {
     let answer = fetch_answer(model, state);
-    let start = answer.stretch_start;
-    let size = answer.stretch_length;
-    *number = answer.number;
-    *file = answer.file;
-    *place = answer.place;
-    &model[start..start + size]
+    hand_back(model, model, answer, number, file, place)
 }
 
 // The same for C: the run or the stretch by where it starts in the model and how long it is.
@@ -99,4 +125,168 @@ pub extern "C" fn zolkirta_fetch(model: &[u8], state: u32) -> Answer
     ensures { λ r. ⌜ FetchAnswered (now (model .entry)) state r ⌝ }
 {
     fetch_answer(model, state)
+}
+
+// What a judging call finds: the model's counts and where in the certificate the accepted blocks begin; or the answer of a refusal.
+pub enum Verdict {
+    Accepted {
+        states: usize,
+        transitions: usize,
+        blocks: usize,
+    },
+    Refused(Answer),
+}
+
+// A sound model's certificate judged, for a buffer with room for so many blocks.
+fn judge_sound(
+    model: &[u8],
+    n: usize,
+    count: usize,
+    places: &Places,
+    certificate: &[u8],
+    room: usize,
+) -> Verdict
+    requires { ⌜ Known (now model) n count (now places) × ReadsModel (now model) ⌝ }
+    ensures { λ r. ⌜ VerdictIs (now (model .entry)) (now (certificate .entry)) (now (places .entry)) room r ⌝ }
+{
+    if room < n {
+        return Verdict::Refused(without_place(10, 0));
+    }
+    let judged = judge::judge_certificate(model, n, count, places, certificate);
+    match judged {
+        Judged::Accepted { blocks } => Verdict::Accepted {
+            states: n,
+            transitions: count,
+            blocks,
+        },
+        Judged::Rejected { number, place } => {
+            Verdict::Refused(refusal_in(number, 2, place, certificate.len()))
+        }
+    }
+}
+
+// The model read, then its certificate judged. A call without a block buffer gives the most states that a model has.
+fn judge_files(model: &[u8], certificate: &[u8], places: &mut Places, room: usize) -> Verdict
+    requires { ⌜ length (now places) ≡ 257 ⌝ }
+    ensures { λ r. ⌜ VerdictIs (now (model .entry)) (now (certificate .entry)) (now (places .exit)) room r ⌝ }
+{
+    let scanned = model::scan_whole(model, places);
+    match scanned {
+        Scanned::Sound(m) => {
+            judge_sound(model, m.states, m.transitions, places, certificate, room)
+        }
+        Scanned::Refused { number, place } => {
+            Verdict::Refused(refusal_in(number, 1, place, model.len()))
+        }
+    }
+}
+
+fn judge_answer(model: &[u8], certificate: &[u8], blocks: &mut [u8]) -> Answer
+    ensures { λ r. ⌜ JudgeAnswered (now (model .entry)) (now (certificate .entry)) (now (blocks .entry)) (now (blocks .exit)) r ⌝ }
+{
+    let mut places = model::no_places();
+    let found = judge_files(model, certificate, &mut places, blocks.len());
+    match found {
+        Verdict::Accepted {
+            states,
+            transitions: _,
+            blocks: at,
+        } => {
+            bytes::copy(&certificate[at..at + states], blocks);
+            without_place(0, states)
+        }
+        Verdict::Refused(answer) => answer,
+    }
+}
+
+// Judges a certificate for a model: hands back the tail of the slice that holds the record at fault, empty where none does;
+// number, file and place stand beside it. Acceptance writes the blocks, one byte a state.
+pub fn judge<'a>(
+    model: &'a [u8],
+    certificate: &'a [u8],
+    blocks: &mut [u8],
+    number: &mut u32,
+    file: &mut u32,
+    place: &mut usize,
+) -> &'a [u8]
+    ensures { λ r. ⌜ JudgeHandedBack (now (model .entry)) (now (certificate .entry)) (now (blocks .entry)) (now (blocks .exit)) (now (number .exit)) (now (file .exit)) (now (place .exit)) (now r) ⌝ }
+{
+    let answer = judge_answer(model, certificate, blocks);
+    hand_back(model, certificate, answer, number, file, place)
+}
+
+// The same for C: the stretch by where it starts in its file and how long it is.
+#[no_mangle]
+pub extern "C" fn zolkirta_judge(model: &[u8], certificate: &[u8], blocks: &mut [u8]) -> Answer
+    ensures { λ r. ⌜ JudgeAnswered (now (model .entry)) (now (certificate .entry)) (now (blocks .entry)) (now (blocks .exit)) r ⌝ }
+{
+    judge_answer(model, certificate, blocks)
+}
+
+// The merged model of an accepted certificate, written if there is room for it.
+fn reduce_accepted(
+    model: &[u8],
+    n: usize,
+    count: usize,
+    places: &Places,
+    blocks: &[u8],
+    out: &mut [u8],
+) -> Answer
+    requires { ⌜ CanWriteFile (now model) n count (now places) (now blocks) ⌝ }
+    ensures { λ r. ⌜ Reduced (now (model .entry)) (now (blocks .entry)) (now (out .entry)) (now (out .exit)) r ⌝ }
+{
+    let room = out.len();
+    let size = quotient::write_file(model, n, count, places, blocks, out);
+    if room < size {
+        return without_place(23, 0);
+    }
+    without_place(0, size)
+}
+
+fn reduce_answer(model: &[u8], certificate: &[u8], out: &mut [u8]) -> Answer
+    ensures { λ r. ⌜ ReduceAnswered (now (model .entry)) (now (certificate .entry)) (now (out .entry)) (now (out .exit)) r ⌝ }
+{
+    let mut places = model::no_places();
+    let found = judge_files(model, certificate, &mut places, 64);
+    match found {
+        Verdict::Accepted {
+            states,
+            transitions,
+            blocks: at,
+        } => reduce_accepted(
+            model,
+            states,
+            transitions,
+            &places,
+            &certificate[at..at + states],
+            out,
+        ),
+        Verdict::Refused(answer) => answer,
+    }
+}
+
+// Judges a certificate for a model and writes the model with each block merged into one state; hands back what `judge` does, with
+// the written length beside it, 0 on refusal.
+pub fn reduce<'a>(
+    model: &'a [u8],
+    certificate: &'a [u8],
+    out: &mut [u8],
+    number: &mut u32,
+    file: &mut u32,
+    place: &mut usize,
+    written: &mut usize,
+) -> &'a [u8]
+    ensures { λ r. ⌜ ReduceHandedBack (now (model .entry)) (now (certificate .entry)) (now (out .entry)) (now (out .exit)) (now (number .exit)) (now (file .exit)) (now (place .exit)) (now (written .exit)) (now r) ⌝ }
+{
+    let answer = reduce_answer(model, certificate, out);
+    *written = answer.written;
+    hand_back(model, certificate, answer, number, file, place)
+}
+
+// The same for C.
+#[no_mangle]
+pub extern "C" fn zolkirta_reduce(model: &[u8], certificate: &[u8], out: &mut [u8]) -> Answer
+    ensures { λ r. ⌜ ReduceAnswered (now (model .entry)) (now (certificate .entry)) (now (out .entry)) (now (out .exit)) r ⌝ }
+{
+    reduce_answer(model, certificate, out)
 }

@@ -1,4 +1,4 @@
-//! Safe calls of the proved library, and a plain reader to compare it with.
+//! Safe calls of the proved library, and a plain reader and judge to compare it with.
 
 pub mod plain;
 
@@ -16,6 +16,23 @@ pub struct Answer {
 
 extern "C" {
     fn zolkirta_fetch(model: *const u8, model_length: usize, state: u32) -> Answer;
+    fn zolkirta_judge(
+        model: *const u8,
+        model_length: usize,
+        certificate: *const u8,
+        certificate_length: usize,
+        blocks: *mut u8,
+        blocks_length: usize,
+    ) -> Answer;
+}
+
+/// Judges a certificate for a model. On acceptance the first bytes of `blocks`, one a state, are the blocks; a refusal writes
+/// nothing.
+pub fn judge(model: &[u8], certificate: &[u8], blocks: &mut [u8]) -> Answer {
+    // The library reads the two slices, writes inside the third and nowhere else, and keeps no pointer.
+    unsafe {
+        zolkirta_judge(model.as_ptr(), model.len(), certificate.as_ptr(), certificate.len(), blocks.as_mut_ptr(), blocks.len())
+    }
 }
 
 /// The run of the model's bytes that holds the transitions that leave `state`.

@@ -3,7 +3,8 @@ use Rattle.rules.specs.ReadingLaws.{EntriesSoFar, entry-descends, entry-empty, 
 use Rattle.rules.specs.Reading.{entriesFault}
 use Rattle.bisimulation.specs.ChoiceLaws.{same, notSame}
 use borrow.Author.Needs.{needs}
-use Prim.Native.Nat.{_+_, _*_, _≤_}
+use Prim.Native.Nat.{ℕ, _+_, _*_, _≤_}
+use mathlib.Core.List.{List}
 use mathlib.Core.Path.{_≡_, refl, _∙_}
 use Rattle.field.specs.Taken.{taken-at}
 use native.Mathlib.Omega.{arith}
@@ -18,6 +19,10 @@ Inv-loop s n denominator count at unread₀ place₀ lowest₀ total₀ unread p
 
 abbrev μ-loop : tie.MeasureT-loop
 μ-loop s n denominator count at unread₀ place₀ lowest₀ total₀ unread place lowest total = unread
+
+-- the lowest state that may follow
+from-lowest : {s : List ℕ} {n d left at low total whole : ℕ} → EntriesSoFar s n d left at low total whole → (lowest : ℕ) → lowest ≡ low → EntriesSoFar s n d left at lowest total whole
+from-lowest h lowest e = rw e h
 
 new-requires : tie.Need-new-requires Inv-loop μ-loop
 new-requires c κs = search needs
@@ -54,8 +59,10 @@ loop-again c =
     let l = c .before .before .before .before .before .before .loop in (
       omega arith,
       omega arith,
-      entry-follows _ _ _ _ _ _ _ _ (l .inv .2) (omega arith) _ _ _ (c .before .before .before .before .byte .ensures .value) (taken-at (c .before .before .before .pair .ensures) (c .before .before .before .before .before .before .loop .place .at + 1) (omega arith))
-          (omega arith) (omega arith) (omega arith),
+      from-lowest
+          (entry-follows _ _ _ _ _ _ _ _ (l .inv .2) (omega arith) _ _ _ (c .before .before .before .before .byte .ensures .value)
+          (taken-at (c .before .before .before .pair .ensures) (l .place .at + 1) (omega arith)) (omega arith) (omega arith) (omega arith))
+          _ (omega arith),
     )
 
 returns-3 : tie.Need-returns-3 Inv-loop μ-loop

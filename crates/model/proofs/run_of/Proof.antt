@@ -20,12 +20,12 @@ module _ (s table : List ℕ) (state count : ℕ) (w : Walkable s count table) w
   first-most : (first : ℕ) → first ≡ firstNotBelow s state (count - 0) 0 → first ≤ count
   first-most first e = omega (arith, w .transitions, first-is first e, run-most s state)
 
-  past-is : (first past : ℕ) → first ≡ runFirst s state → past ≡ firstNotBelow s (state + 1) (count - first) first → past ≡ runPast s state
+  past-is : (first past next : ℕ) → first ≡ runFirst s state → past ≡ firstNotBelow s next (count - first) first → next ≡ state + 1 → past ≡ runPast s state
   unfolding runPast
-  past-is first past e f = let z = w .transitions in cc
+  past-is first past next e f g = let z = w .transitions in cc
 
-  past-most : (first past : ℕ) → first ≡ runFirst s state → past ≡ firstNotBelow s (state + 1) (count - first) first → past ≤ count
-  past-most first past e f = omega (arith, w .transitions, past-is first past e f, run-most s state)
+  past-most : (first past next : ℕ) → first ≡ runFirst s state → past ≡ firstNotBelow s next (count - first) first → next ≡ state + 1 → past ≤ count
+  past-most first past next e f g = omega (arith, w .transitions, past-is first past next e f g, run-most s state)
 
 first-not-below-requires : tie.Need-first-not-below-requires
 first-not-below-requires c κs = search needs
@@ -43,10 +43,10 @@ element-copy-out-t10 : tie.Need-element-copy-out-t10
 element-copy-out-t10 c = omega (arith, first-most _ _ _ _ (c .before .before .before .pre .1) _ (c .before .first-not-below .ensures), c .before .before .before .pre .1 .most)
 
 mul-t11 : tie.Need-mul-t11
-mul-t11 c = omega (arith, past-most _ _ _ _ (c .before .before .before .before .pre .1) _ _ (first-is _ _ _ _ (c .before .before .before .before .pre .1) _ (c .before .before .first-not-below .ensures)) (c .before .first-not-below2 .ensures), c .before .before .before .before .pre .1 .most)
+mul-t11 c = omega (arith, past-most _ _ _ _ (c .before .before .before .before .pre .1) _ _ _ (first-is _ _ _ _ (c .before .before .before .before .pre .1) _ (c .before .before .first-not-below .ensures)) (c .before .first-not-below2 .ensures) (omega arith), c .before .before .before .before .pre .1 .most)
 
 element-copy-out-t14 : tie.Need-element-copy-out-t14
-element-copy-out-t14 c = omega (arith, past-most _ _ _ _ (c .before .before .before .before .pre .1) _ _ (first-is _ _ _ _ (c .before .before .before .before .pre .1) _ (c .before .before .first-not-below .ensures)) (c .before .first-not-below2 .ensures), c .before .before .before .before .pre .1 .most)
+element-copy-out-t14 c = omega (arith, past-most _ _ _ _ (c .before .before .before .before .pre .1) _ _ _ (first-is _ _ _ _ (c .before .before .before .before .pre .1) _ (c .before .before .first-not-below .ensures)) (c .before .first-not-below2 .ensures) (omega arith), c .before .before .before .before .pre .1 .most)
 
 returns : tie.Need-returns
 unfolding runStart runEnd
@@ -55,7 +55,7 @@ returns c =
     let s = now (c .before .before .before .before .before .args .s) in
     record {
       start = w .places .held _ (omega (arith, first-most _ _ _ _ (c .before .before .before .before .before .pre .1) _ (c .before .before .before .first-not-below .ensures))) ∙ ap (placeOf s) (first-is _ _ _ _ (c .before .before .before .before .before .pre .1) _ (c .before .before .before .first-not-below .ensures));
-      end = w .places .held _ (omega (arith, past-most _ _ _ _ (c .before .before .before .before .before .pre .1) _ _ (first-is _ _ _ _ (c .before .before .before .before .before .pre .1) _ (c .before .before .before .first-not-below .ensures)) (c .before .before .first-not-below2 .ensures))) ∙ ap (placeOf s) (past-is _ _ _ _ (c .before .before .before .before .before .pre .1) _ _ (first-is _ _ _ _ (c .before .before .before .before .before .pre .1) _ (c .before .before .before .first-not-below .ensures)) (c .before .before .first-not-below2 .ensures));
+      end = w .places .held _ (omega (arith, past-most _ _ _ _ (c .before .before .before .before .before .pre .1) _ _ _ (first-is _ _ _ _ (c .before .before .before .before .before .pre .1) _ (c .before .before .before .first-not-below .ensures)) (c .before .before .first-not-below2 .ensures) (omega arith))) ∙ ap (placeOf s) (past-is _ _ _ _ (c .before .before .before .before .before .pre .1) _ _ _ (first-is _ _ _ _ (c .before .before .before .before .before .pre .1) _ (c .before .before .before .first-not-below .ensures)) (c .before .before .first-not-below2 .ensures) (omega arith));
     }
 
 pub run-of-spec : {M : Type 1} → statement M

@@ -1,12 +1,17 @@
 -- `scan_model` meets its contract: the head, the labels and the transitions in the order of `scanModel`.
 use Rattle.rules.specs.ReadingLaws.{refuse-stops, refuse-passes, head-passed, labels-passed}
-use Rattle.rules.specs.Reading.{scanModel, labelsFault}
+use Rattle.rules.specs.Reading.{Scan, refused, scanModel, labelsFault}
 use Rattle.rules.specs.Limits.{limits}
-use mathlib.Core.Path.{sym, _∙_, ap}
+use Prim.Native.Nat.{ℕ}
+use mathlib.Core.Path.{_≡_, sym, _∙_, ap}
 use native.Mathlib.Omega.{arith}
 use borrow.Author.Needs.{needs}
 use Rattle.model.proofs.scan_model.Statement.{statement}
 use Rattle.model.proofs.scan_model.Tie as tie
+
+-- a refusal at the place 6 of the labels
+at-labels : (number place : ℕ) {scan : Scan} → place ≡ 6 → refused number 6 ≡ scan → refused number place ≡ scan
+at-labels number place e f = rw e f
 
 head-fault-requires : tie.Need-head-fault-requires
 head-fault-requires c κs = search needs
@@ -31,8 +36,9 @@ unfolding scanModel
 returns-2 c =
     record {
       answer =
-          refuse-passes _ (c .before .before .before .before .head-fault .ensures) (c .before .before .before .if1 .left)
-          (refuse-stops _ _ _ (c .before .labels-fault .ensures ∙ ap (labelsFault limits _) (c .before .before .head-at .ensures .states)) (c .if2 .taken));
+          at-labels _ _ (omega arith)
+          (refuse-passes _ (c .before .before .before .before .head-fault .ensures) (c .before .before .before .if1 .left)
+          (refuse-stops _ _ _ (c .before .labels-fault .ensures ∙ ap (labelsFault limits _) (c .before .before .head-at .ensures .states)) (c .if2 .taken)));
       places = tt;
       size = c .before .before .before .before .before .before .pre;
     }

@@ -6,7 +6,7 @@ use Rattle.rules.specs.Reading.{scanTransitions, placeOf, afterTransition}
 use Rattle.rules.specs.Limits.{limits}
 use denote.Ref.{now}
 use lib.ListN.{length, set, length-set}
-use Prim.Native.Nat.{ℕ, _+_, _*_, _-_, _≤_}
+use Prim.Native.Nat.{ℕ, _+_, _*_, _-_, _≤_, _<_}
 use mathlib.Core.List.{List}
 use mathlib.Core.Path.{_≡_, refl, sym, _∙_, ap, subst}
 use Rattle.bisimulation.specs.ChoiceLaws.{via}
@@ -30,6 +30,14 @@ Inv-loop s n m count places₀ left₀ last₀ entries₀ at₀ places left last
 
 abbrev μ-loop : tie.MeasureT-loop
 μ-loop s n m count places₀ left₀ last₀ entries₀ at₀ places left last entries at = left
+
+-- the scan from the same source, entries and place
+scan-same : (s : List ℕ) (n m count left last entries at last′ entries′ at′ : ℕ) → last ≡ last′ → entries ≡ entries′ → at ≡ at′ → scanTransitions limits s n m count left last entries at ≡ scanTransitions limits s n m count left last′ entries′ at′
+scan-same s n m count left last entries at last′ entries′ at′ e f g = rw (e, f, g)
+
+-- one more place, for the next record
+next-held : {s table : List ℕ} {r next : ℕ} (at : ℕ) → PlacesHeld s r table → r + 1 ≡ next → r < length table → at ≡ placeOf s r → PlacesHeld s next (set table r at)
+next-held {s} {table} {r} at h e room f = subst (λ (k : ℕ). PlacesHeld s k (set table r at)) e (one-more-held s table r at h room f)
 
 add-at : tie.Need-add-at Inv-loop μ-loop
 add-at c = omega arith
@@ -104,12 +112,12 @@ loop-again c =
       some = omega arith;
       inside = omega arith;
       few = omega arith;
-      size = length-set (l .places) (a .count - l .left) (l .at) ∙ l .inv .size;
+      size = length-set (l .places) (a .count - l .left) _ ∙ l .inv .size;
       place = e ∙ ap (afterTransition s) (l .inv .place) ∙ sym (placeOf-next s (a .count - l .left)) ∙ ap (placeOf s) z;
-      held = subst (λ (k : ℕ). PlacesHeld s k (set (l .places) (a .count - l .left) (l .at))) z (one-more-held s _ _ _ (l .inv .held) (omega arith) (l .inv .place));
+      held = next-held _ (l .inv .held) z (omega arith) (omega (arith, l .inv .place));
       scan =
           via (scanTransitions-turn limits _ _ _ _ (l .left) (l .last) (l .entries) (l .at) (omega arith))
-          (refuse-passes _ (c .before .before .transition-fault .ensures) (c .before .if1 .left) (cc))
+          (refuse-passes _ (c .before .before .transition-fault .ensures) (c .before .if1 .left) (scan-same _ _ _ _ _ _ _ _ _ _ _ (omega arith) (omega arith) e))
           ∙ l .inv .scan;
     }
 

@@ -3,9 +3,10 @@ use Prim.Native.Nat.{ℕ, _≤_, _<_, _-_}
 use mathlib.Core.Path.{_≡_, sym, _∙_}
 use native.Mathlib.Omega.{arith}
 use lib.ListN.{getD}
-use borrow.Author.Count.{below-none, below-more}
+use borrow.Author.Count.{below-none}
 use borrow.Author.Tests.{eqb-true, eqb-false, not-true, not-false}
-use Rattle.pairs.specs.RowsLaws.{agrees-all, agrees-not}
+use borrow.Author.Needs.{needs}
+use Rattle.pairs.specs.RowsLaws.{same-more, agrees-all, agrees-not}
 use Rattle.pairs.proofs.agrees.Statement.{statement}
 use Rattle.pairs.proofs.agrees.Tie as tie
 
@@ -44,8 +45,8 @@ returns c =
     let a = c .before .before .before .before .before .before .before .before in
     let v = c .before .before .before .before .before .loop .v in
     let members = c .before .before .before .before .before .before .classes in
-    let same = rw (c .before .before .byte-of .ensures .0) at (c .before .same .ensures) in
-    agrees-not (members .ensures) (a .pre .2) v (omega arith) (same .1) (same .2) (eqb-false _ _ (sym (same .0) ∙ not-true _ (c .if1 .taken)))
+    let same = c .before .same .ensures in
+    agrees-not (members .ensures) (a .pre .2) v _ (omega arith) (omega arith) (same .1) (same .2) (eqb-false _ _ (sym (same .0) ∙ not-true _ (c .if1 .taken))) _ (search needs)
 
 add-v : tie.Need-add-v Inv-loop μ-loop
 add-v c = omega arith
@@ -55,9 +56,10 @@ loop-less c = omega arith
 
 loop-again : tie.Need-loop-again Inv-loop μ-loop
 loop-again c =
-    let l = c .before .before .before .before .before .loop in
-    let same = rw (c .before .before .byte-of .ensures .0) at (c .before .same .ensures) in
-    (omega arith, below-more _ (l .v) (l .inv .1) (eqb-true _ _ (sym (same .0) ∙ not-false _ (c .if1 .left))))
+    let b = c .before .before .before .before .before in
+    let same = c .before .same .ensures in
+    let equal = eqb-true _ _ (sym (same .0) ∙ not-false _ (c .if1 .left)) in
+    (omega arith, same-more (b .before .classes .ensures) (b .before .before .before .args .rows .now) (b .loop .v) (c .before .before .byte-of .result) (b .loop .inv .1) (omega arith) equal)
 
 returns-2 : tie.Need-returns-2 Inv-loop μ-loop
 returns-2 c =

@@ -1,5 +1,6 @@
 -- `has` meets its contract: the shift and the mask tell the bit.
-use Rattle.pairs.specs.BitsLaws.{bitOf-shift}
+use native.Mathlib.Omega.{arith}
+use Rattle.pairs.specs.BitsLaws.{bitOf-tested}
 use borrow.Author.Needs.{needs}
 use Rattle.pairs.proofs.has.Statement.{statement}
 use Rattle.pairs.proofs.has.Tie as tie
@@ -8,7 +9,7 @@ shr-result : tie.Need-shr-result
 shr-result c = search needs
 
 returns : tie.Need-returns
-returns c = bitOf-shift _ _
+returns c = bitOf-tested _ _ _ _ (omega arith) (omega arith)
 
 pub has-spec : {M : Type 1} → statement M
 has-spec = tie.close (tie.spec shr-result returns)

@@ -1,5 +1,6 @@
 -- `remove` meets its contract: each store clears one bit.
-use Rattle.pairs.specs.Rows.{clearedRows, removedRows}
+use native.Mathlib.Omega.{arith}
+use Rattle.pairs.specs.RowsLaws.{removed-stores}
 use borrow.Author.Needs.{needs}
 use Rattle.pairs.proofs.remove.Statement.{statement}
 use Rattle.pairs.proofs.remove.Tie as tie
@@ -35,8 +36,8 @@ element-write-rows-2 : tie.Need-element-write-rows-2
 element-write-rows-2 c = search needs
 
 returns : tie.Need-returns
-unfolding removedRows clearedRows
-returns c = rw (c .without2 .ensures, c .before .before .without .ensures)
+returns c =
+    removed-stores _ _ _ _ _ _ _ (omega arith) (omega arith) (omega arith) (omega arith) (c .before .before .without .ensures) (c .without2 .ensures)
 
 pub remove-spec : {M : Type 1} → statement M
 remove-spec =

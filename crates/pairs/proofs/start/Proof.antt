@@ -43,8 +43,8 @@ loop-less c = omega arith
 loop-again : tie.Need-loop-again Inv-loop μ-loop
 loop-again c =
     let l = c .before .before .loop in
-    let row = c .before .before .before .classes .ensures .row _ (c .before .before .before .before .before .pre .2 .small (l .v) (omega arith)) in
-    (omega arith, rw (c .byte-of .ensures .0) (rows-more _ _ _ _ _ (l .inv .1) (omega arith) row))
+    let row = c .before .before .before .classes .ensures .row _ (c .byte-of .ensures .1) in
+    (omega arith, rows-more _ _ _ _ _ _ (l .inv .1) (omega arith) (omega arith) row)
 
 returns : tie.Need-returns Inv-loop μ-loop
 returns c =

@@ -10,7 +10,7 @@ shl-result : tie.Need-shl-result
 shl-result c = search needs
 
 returns : tie.Need-returns
-returns c = clearBit-and wordBits _ _ (omega arith) (omega arith)
+returns c = clearBit-and wordBits _ _ _ (omega arith) (omega arith) (omega arith)
 
 pub without-spec : {M : Type 1} → statement M
 without-spec = tie.close (tie.spec shl-result returns)

@@ -2,10 +2,19 @@
 use Rattle.model.specs.Fetched.{answerOf}
 use Rattle.rules.specs.AnswerLaws.{fetch-refusal}
 use Rattle.rules.specs.Limits.{limits}
-use mathlib.Core.Path.{sym, _∙_, ap}
+use Rattle.rules.specs.Answers.{Answer, fetchAnswer}
+use Prim.Native.Nat.{ℕ}
+use mathlib.Core.List.{List}
+use mathlib.Core.Path.{_≡_, sym, _∙_, ap}
+use native.Mathlib.Omega.{arith}
 use borrow.Author.Needs.{needs}
+use Rattle.zolkirta.specs.OutcomeLaws.{without-as, refusal-as}
 use Rattle.zolkirta.proofs.fetch_answer.Statement.{statement}
 use Rattle.zolkirta.proofs.fetch_answer.Tie as tie
+
+-- the state that is fetched
+fetched : {a : Answer} (s : List ℕ) (x y : ℕ) → a ≡ fetchAnswer limits s x → x ≡ y → a ≡ fetchAnswer limits s y
+fetched s x y e f = e ∙ ap (fetchAnswer limits s) f
 
 fetch-run-requires : tie.Need-fetch-run-requires
 fetch-run-requires c κs = search needs
@@ -25,17 +34,20 @@ without-place-requires c κs = search needs
 enum-known-fetched-2 : tie.Need-enum-known-fetched-2
 enum-known-fetched-2 c = search needs
 
-refusal-in-model-requires : tie.Need-refusal-in-model-requires
-refusal-in-model-requires c κs = fetch-refusal limits _ _ _ _ (sym (ap (answerOf _) (c .before .fetched2 .given .1)) ∙ c .before .before .before .fetch-run .ensures)
+refusal-in-requires : tie.Need-refusal-in-requires
+refusal-in-requires c κs = fetch-refusal limits _ _ _ _ (sym (ap (answerOf _) (c .before .fetched2 .given .1)) ∙ c .before .before .before .fetch-run .ensures)
 
 returns : tie.Need-returns
-returns c = c .run-from .ensures ∙ sym (ap (answerOf _) (c .before .before .fetched .given .1)) ∙ c .before .before .before .before .fetch-run .ensures
+returns c = c .run-from .ensures ∙ sym (ap (answerOf _) (c .before .before .fetched .given .1)) ∙ fetched _ _ _ (c .before .before .before .before .fetch-run .ensures) (omega arith)
 
 returns-2 : tie.Need-returns-2
-returns-2 c = c .without-place .ensures ∙ sym (ap (answerOf _) (c .before .enum-told .given .1)) ∙ c .before .before .before .fetch-run .ensures
+returns-2 c =
+    without-as 24 0 (c .without-place .ensures) (omega arith) (omega arith)
+    ∙ sym (ap (answerOf _) (c .before .enum-told .given .1))
+    ∙ fetched _ _ _ (c .before .before .before .fetch-run .ensures) (omega arith)
 
 returns-3 : tie.Need-returns-3
-returns-3 c = c .refusal-in-model .ensures ∙ sym (ap (answerOf _) (c .before .before .fetched2 .given .1)) ∙ c .before .before .before .before .fetch-run .ensures
+returns-3 c = refusal-as _ 1 _ _ (c .refusal-in .ensures) (omega arith) (omega arith) ∙ sym (ap (answerOf _) (c .before .before .fetched2 .given .1)) ∙ fetched _ _ _ (c .before .before .before .before .fetch-run .ensures) (omega arith)
 
 pub fetch-answer-spec : {M : Type 1} → statement M
 fetch-answer-spec =
@@ -47,7 +59,7 @@ fetch-answer-spec =
     enum-told
     without-place-requires
     enum-known-fetched-2
-    refusal-in-model-requires
+    refusal-in-requires
     returns
     returns-2
     returns-3)

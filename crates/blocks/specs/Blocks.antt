@@ -1,0 +1,14 @@
+-- What the judge of the blocks record hands up.
+use Prim.Native.Nat.{ℕ}
+use mathlib.Core.Path.{_≡_}
+use mathlib.Core.List.{List}
+use Rattle.bisimulation.specs.Automaton.{Automaton}
+use Rattle.bisimulation.specs.Pairs.{Pairs}
+use Rattle.rules.specs.Certificate.{blocksFault}
+use Rattle.fault.specs.Faults.{faultOf}
+use Rattle.fault.specs.declared.Fault.{Fault}
+use Rattle.pairs.specs.Rows.{HoldsPairs}
+
+-- the fault is document 01's for an automaton of n states and the pairs that the rows hold
+pub record BlocksJudged (C : List ℕ) (at n : ℕ) (rows : List ℕ) (r : Fault) : Type 0 where
+  pub number : (A : Automaton) → A .states ≡ n → (R : Pairs) → HoldsPairs n R rows → faultOf r ≡ blocksFault A C R at

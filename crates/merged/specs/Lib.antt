@@ -1,0 +1,4 @@
+pub mod Merged
+pub mod Weights
+pub mod WeightsLaws
+pub mod MergedLaws

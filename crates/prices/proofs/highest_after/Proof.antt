@@ -1,0 +1,20 @@
+-- `highest_after` meets its contract: equal rows have the highest price in common.
+use Rattle.prices.specs.HighestLaws.{highest-alike, highest-back}
+use borrow.Author.Needs.{needs}
+use Rattle.prices.proofs.highest_after.Statement.{statement}
+use Rattle.prices.proofs.highest_after.Tie as tie
+
+same-row-requires : tie.Need-same-row-requires
+same-row-requires c κs = search needs
+
+returns : tie.Need-returns
+returns c = highest-back (highest-alike (c .before .same-row .ensures) (c .if1 .taken) (c .before .before .pre .2))
+
+highest-requires : tie.Need-highest-requires
+highest-requires c κs = search needs
+
+returns-2 : tie.Need-returns-2
+returns-2 c = search needs
+
+pub highest-after-spec : {M : Type 1} → statement M
+highest-after-spec = tie.close (tie.spec same-row-requires returns highest-requires returns-2)

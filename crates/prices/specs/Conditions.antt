@@ -1,0 +1,30 @@
+-- The price conditions, as they are tested.
+use Prim.Native.Nat.{ℕ}
+use mathlib.Core.Bool.{Bool, true}
+use lib.IntN.{ℤ}
+use Rattle.bisimulation.specs.Choice.{ifSame, unlessTrue, both, allBelow}
+use Rattle.bisimulation.specs.Automaton.{Automaton}
+use Rattle.bisimulation.specs.Pairs.{Pairs}
+use Rattle.rules.specs.Certificate.{Fault, fault, noFault}
+use Rattle.rules.specs.PlainRule.{priceCondition, allRelated, below}
+
+module _ (A : Automaton) where
+  -- the condition of a transition holds for the prices X alone, and for Y alone
+  unfoldable pub fairTwice : (X Y : ℕ → ℤ) → ℕ → Bool
+  fairTwice X Y r = both (priceCondition A X X r) (priceCondition A Y Y r)
+
+  -- what a challenger with the action a asks of a transition; for an internal one Y is X
+  unfoldable pub fairTo : ℕ → (X Y : ℕ → ℤ) → ℕ → Bool
+  fairTo a X Y r = ifSame (A .action r) a (priceCondition A X Y r) (ifSame (A .action r) 0 (fairTwice X Y r) true)
+
+  -- what it asks of the transitions
+  unfoldable pub allFair : ℕ → (X Y : ℕ → ℤ) → Bool
+  allFair a X Y = allBelow (A .transitions) (fairTo a X Y)
+
+  -- 15 and 16, of the challenger q with the action a against t; for an internal one Y is X
+  unfoldable pub conditionsFault : Pairs → (a q t : ℕ) → (X Y G : ℕ → ℤ) → Fault
+  conditionsFault R a q t X Y G =
+      unlessTrue (allFair a X Y) (fault 15)
+      (unlessTrue (allRelated A R Y G) (fault 15)
+      (unlessTrue (below A X G q t) (fault 16)
+      noFault))

@@ -1,0 +1,202 @@
+-- Laws of the highest price among related states.
+use Prim.Native.Nat.{ℕ, _+_, _-_, _^_, _≤_, _<_}
+use mathlib.Core.Path.{_≡_, refl, sym, _∙_, ap, subst}
+use mathlib.Core.Logic.{_⊎_, inl, inr}
+use mathlib.Core.Bool.{Bool, true, false, not}
+use mathlib.Core.List.{List}
+use lib.Dec.{T, le→leb, ltb→lt}
+use lib.IntN.{ℤ, pos, negsuc}
+use lib.Signed.{mag, leZ, ltZ, _≤ℤ_, _<ℤ_, leZ-yes, ltZ-yes, ltZ-no, ≤ℤ-refl, <ℤ-≤ℤ-trans, clashℤ}
+use mir.Syntax.{w64}
+use mir.Val.{toZ, ofZ}
+use borrow.Author.Count.{below-more}
+use native.Mathlib.Omega.{arith}
+use native.Mathlib.Decide.{ℕ-discrete, decLt}
+use Rattle.bisimulation.specs.Choice.{ifTrue}
+use Rattle.bisimulation.specs.ChoiceLaws.{isTrue, all-below, below-all, false-not}
+use Rattle.bisimulation.specs.Automaton.{Automaton}
+use Rattle.bisimulation.specs.Pairs.{Pairs}
+use Rattle.rules.specs.Limits.{limits}
+use Rattle.rules.specs.PlainRule.{allRelated}
+use Rattle.rules.specs.PlainDecides.{holds-T, T-holds}
+use Rattle.pairs.specs.Rows.{rowBit, HoldsPairs, IsNext, AreAlike}
+use Rattle.prices.specs.Prices.{priceIn, SmallPrices}
+use Rattle.prices.specs.PricesLaws.{price-back}
+use Rattle.prices.specs.Highest.{IsLarger, Inside, Bounds, HighestBelow, IsHighest, AreRelated}
+
+-- laws of the order of numbers with a sign
+≤ℤ-trans : {a b c : ℤ} → a ≤ℤ b → b ≤ℤ c → a ≤ℤ c
+≤ℤ-trans {a} {b} {c} h k = go (ltZ c a) refl
+  where
+    go : (t : Bool) → ltZ c a ≡ t → a ≤ℤ c
+    go true e = clashℤ (<ℤ-≤ℤ-trans (ltZ-yes (holds-T e)) h) k
+    go false e = ltZ-no (holds-T (ap not e))
+
+less-le : (a b : ℤ) → T (ltZ a b) → T (leZ a b)
+less-le (pos a) (pos b) h = le→leb a b (omega (arith, ltb→lt a b h))
+less-le (pos a) (negsuc b) h = h
+less-le (negsuc a) (pos b) h = h
+less-le (negsuc a) (negsuc b) h = le→leb b a (omega (arith, ltb→lt b a h))
+
+-- the larger of two prices
+pub second-larger : (a b : ℤ) → ltZ a b ≡ true → IsLarger a b b
+second-larger a b e = record { first = leZ-yes (less-le a b (holds-T e)); second = ≤ℤ-refl b; one = inr refl }
+
+pub first-larger : (a b : ℤ) → ltZ a b ≡ false → IsLarger a b a
+first-larger a b e = record { first = ≤ℤ-refl a; second = ltZ-no (holds-T (ap not e)); one = inl refl }
+
+-- what is known before each related state: u is one, and the highest price below it
+pub record Seeking (rows : List ℕ) (v u : ℕ) (table : List ℤ) (most : ℤ) : Type 0 where
+  pub here : u < limits .states → rowBit rows v u ≡ true
+  pub highest : HighestBelow rows v u table most
+
+-- the price that is below every other
+lowest : (x : ℤ) → mag x < 2 ^ 31 → negsuc (2 ^ 31 - 1) ≤ℤ x
+lowest (pos a) h = leZ-yes tt
+lowest (negsuc a) h = leZ-yes (le→leb a (2 ^ 31 - 1) (omega arith))
+
+module _ {rows : List ℕ} {v : ℕ} {table : List ℤ} where
+  pub seek-start : {u : ℕ} → IsNext (rowBit rows v) 0 u → Seeking rows v u table (negsuc (2 ^ 31 - 1))
+  seek-start next =
+      record {
+        here = next .some;
+        highest = record {
+          bounds = λ n small inside.
+              record {
+                above = λ u less e. absurd (false-not (sym (next .none u (omega arith) less) ∙ e));
+                least = λ x fits all. lowest x fits;
+                small = omega arith;
+              };
+        };
+      }
+
+  pub highest-back : {m : ℕ} {z : ℤ} → HighestBelow rows v m table z → HighestBelow rows v m table (toZ w64 (ofZ w64 z))
+  highest-back {m} {z} h =
+      record { bounds = λ n small inside. let b = h .bounds n small inside in subst (Bounds rows v m table) (sym (price-back z (b .small))) b }
+
+  -- one more related state, whose price the machine reads back from its bits
+  one-more : {u next : ℕ} {most z : ℤ} → Seeking rows v u table most → u < limits .states → IsLarger most (toZ w64 (ofZ w64 (priceIn table u))) z → IsNext (rowBit rows v) (u + 1) next → (n : ℕ) → SmallPrices n table → Inside n rows v → Bounds rows v next table z
+  one-more {u} {next} {most} {z} s less l later n prices inside =
+      record {
+        above = λ i below e. from i below e (ℕ-discrete i u);
+        least = λ x fits all. least x fits all (l .one);
+        small = small (l .one);
+      }
+    where
+      before : Bounds rows v u table most
+      before = s .highest .bounds n prices inside
+
+      fits-here : mag (priceIn table u) < 2 ^ 31
+      fits-here = prices .small u (inside .inside u (s .here less))
+
+      back : toZ w64 (ofZ w64 (priceIn table u)) ≡ priceIn table u
+      back = price-back (priceIn table u) fits-here
+
+      from : (i : ℕ) → i < next → rowBit rows v i ≡ true → Dec (i ≡ u) → priceIn table i ≤ℤ z
+      from i below e (yes p) = subst (λ (y : ℤ). y ≤ℤ z) (back ∙ ap (priceIn table) (sym p)) (l .second)
+      from i below e (no p) = go (decLt i u)
+        where
+          go : Dec (i < u) → priceIn table i ≤ℤ z
+          go (yes q) = ≤ℤ-trans (before .above i q e) (l .first)
+          go (no q) = absurd (false-not (sym (later .none i (omega arith) below) ∙ e))
+
+      least : (x : ℤ) → mag x < 2 ^ 31 → ((i : ℕ) → rowBit rows v i ≡ true → priceIn table i ≤ℤ x) → (z ≡ most) ⊎ (z ≡ toZ w64 (ofZ w64 (priceIn table u))) → z ≤ℤ x
+      least x fits all (inl e) = subst (λ (y : ℤ). y ≤ℤ x) (sym e) (before .least x fits all)
+      least x fits all (inr e) = subst (λ (y : ℤ). y ≤ℤ x) (sym (e ∙ back)) (all u (s .here less))
+
+      small : (z ≡ most) ⊎ (z ≡ toZ w64 (ofZ w64 (priceIn table u))) → mag z < 2 ^ 31
+      small (inl e) = subst (λ (y : ℤ). mag y < 2 ^ 31) (sym e) (before .small)
+      small (inr e) = subst (λ (y : ℤ). mag y < 2 ^ 31) (sym (e ∙ back)) fits-here
+
+  pub seek-turn : {u next : ℕ} {most z : ℤ} → Seeking rows v u table most → u < limits .states → IsLarger most (toZ w64 (ofZ w64 (priceIn table u))) z → IsNext (rowBit rows v) (u + 1) next → Seeking rows v next table (toZ w64 (ofZ w64 z))
+  seek-turn s less l later =
+      record { here = later .some; highest = highest-back (record { bounds = one-more s less l later }) }
+
+  pub seek-end : {u : ℕ} {most : ℤ} → Seeking rows v u table most → limits .states ≤ u → IsHighest rows v table most
+  seek-end s past =
+      record {
+        bounds = λ n small inside.
+            let b = s .highest .bounds n small inside in
+            record { above = λ u less. b .above u (omega arith); least = b .least; small = b .small };
+      }
+
+  -- states with equal rows have it in common
+  pub highest-alike : {known : ℕ} {answer : Bool} {z : ℤ} → AreAlike rows v known answer → answer ≡ true → IsHighest rows known table z → IsHighest rows v table z
+  highest-alike {known} a holds h =
+      record {
+        bounds = λ n prices inside.
+            let alike = a .alike holds in
+            let b = h .bounds n prices (record { few = inside .few; inside = λ u e. inside .inside u (alike u ∙ e) }) in
+            record {
+              above = λ u less e. b .above u less (sym (alike u) ∙ e);
+              least = λ x fits all. b .least x fits (λ u e. all u (alike u ∙ e));
+              small = b .small;
+            };
+      }
+
+-- the price of v in x is at least the price in g of each state that is related to v
+pub record Covered (rows : List ℕ) (x g : List ℤ) (v : ℕ) : Type 0 where
+  pub covers : (n : ℕ) → SmallPrices n g → Inside n rows v → (u : ℕ) → rowBit rows v u ≡ true → priceIn g u ≤ℤ priceIn x v
+
+-- what is known before each state: those before it are covered, and the highest price of one of them
+pub record Covering (rows : List ℕ) (x g : List ℤ) (v known : ℕ) (most : ℤ) : Type 0 where
+  pub below : known < limits .states
+  pub highest : IsHighest rows known g most
+  pub covered : (w : ℕ) → w < v → Covered rows x g w
+
+-- the rows hold no pair beyond the first n states
+held-inside : {n : ℕ} {R : Pairs} {rows : List ℕ} → HoldsPairs n R rows → n ≤ limits .states → (v : ℕ) → v < n → Inside n rows v
+held-inside {n} {rows = rows} h few v less = record { few = few; inside = λ u e. go u e (decLt u n) }
+  where
+    go : (u : ℕ) → rowBit rows v u ≡ true → Dec (u < n) → u < n
+    go u e (yes l) = l
+    go u e (no o) = absurd (false-not (sym (h .rest v u less (omega arith)) ∙ e))
+
+module _ {rows : List ℕ} {x g : List ℤ} where
+  pub cover-start : {z : ℤ} → IsHighest rows 0 g z → Covering rows x g 0 0 (toZ w64 (ofZ w64 z))
+  cover-start h = record { below = omega arith; highest = highest-back h; covered = λ w less. absurd (omega arith) }
+
+  module _ {n v : ℕ} {z : ℤ} (h : IsHighest rows v g z) (first : SmallPrices n x) (few : n ≤ limits .states) (less : v < n) where
+    price : toZ w64 (ofZ w64 (priceIn x v)) ≡ priceIn x v
+    price = price-back (priceIn x v) (first .small v less)
+
+    pub cover-turn : {known : ℕ} {before : ℤ} → Covering rows x g v known before → ltZ (toZ w64 (ofZ w64 (priceIn x v))) (toZ w64 (ofZ w64 z)) ≡ false → Covering rows x g (v + 1) v (toZ w64 (ofZ w64 z))
+    cover-turn c e =
+        record {
+          below = omega arith;
+          highest = highest-back h;
+          covered = below-more (Covered rows x g) v (c .covered) (record {
+            covers = λ m prices inside u related.
+                ≤ℤ-trans (highest-back h .bounds m prices inside .above u (omega (arith, inside .few, inside .inside u related)) related)
+                (subst (λ (y : ℤ). toZ w64 (ofZ w64 z) ≤ℤ y) price (ltZ-no (holds-T (ap not e))));
+          });
+        }
+
+    pub cover-not : SmallPrices n g → ltZ (toZ w64 (ofZ w64 (priceIn x v))) (toZ w64 (ofZ w64 z)) ≡ true → AreRelated n rows x g false
+    unfolding allRelated
+    cover-not second e = record { tells = λ A R states held. go A R states held (allRelated A R (priceIn x) (priceIn g)) refl }
+      where
+        go : (A : Automaton) (R : Pairs) → A .states ≡ n → HoldsPairs n R rows → (t : Bool) → allRelated A R (priceIn x) (priceIn g) ≡ t → false ≡ t
+        go A R states held false q = refl
+        go A R states held true q =
+            clashℤ {a = priceIn x v} (subst (λ (y : ℤ). y <ℤ toZ w64 (ofZ w64 z)) price (ltZ-yes (holds-T e)))
+            (highest-back h .bounds n second (held-inside held few v less) .least (priceIn x v) (first .small v less)
+            (λ u related.
+            let below : u < n = held-inside held few v less .inside u related in
+            leZ-yes (holds-T (isTrue true (sym (held .bits v u less below) ∙ related) refl ∙ all-below (A .states) _ (all-below (A .states) _ q v (omega arith)) u (omega arith)))))
+
+  pub cover-end : {n : ℕ} → n ≤ limits .states → SmallPrices n g → ((w : ℕ) → w < n → Covered rows x g w) → AreRelated n rows x g true
+  unfolding allRelated
+  cover-end {n} few second all =
+      record {
+        tells = λ A R states held. sym (below-all (A .states) _ (λ v less. below-all (A .states) _ (λ u below.
+            go R held v u (omega arith) (omega arith) (R v u) refl)));
+      }
+    where
+      go : (R : Pairs) → HoldsPairs n R rows → (v u : ℕ) → v < n → u < n → (t : Bool) → R v u ≡ t → ifTrue (R v u) (leZ (priceIn g u) (priceIn x v)) true ≡ true
+      go R held v u less below true e =
+          sym (isTrue true e (sym (T-holds _ (all v less .covers n second (held-inside held few v less) u (held .bits v u less below ∙ e) .le))))
+      go R held v u less below false e = ap (λ (t : Bool). ifTrue t (leZ (priceIn g u) (priceIn x v)) true) e ∙ not-asked
+        where
+          not-asked : ifTrue false (leZ (priceIn g u) (priceIn x v)) true ≡ true
+          not-asked = unfold ifTrue in refl

@@ -1,0 +1,149 @@
+-- Laws of the tables of prices and of the sums over entries.
+use Prim.Native.Nat.{ℕ, zero, suc, _+_, _*_, _-_, _^_, _≤_, _<_}
+use mathlib.Core.Path.{_≡_, sym, _∙_, ap, ap₂, subst}
+use mathlib.Core.List.{List, [], _∷_}
+use lib.ListN.{length, set, length-set}
+use lib.Seq.{getD-set-same, getD-set-other}
+use lib.IntN.{ℤ, pos, _+ℤ_, _*ℤ_, natAbs, +ℤ-assoc, +ℤ-idl, +ℤ-idr}
+use lib.Signed.{mag}
+use mir.Syntax.{w64}
+use mir.Val.{SFits, toZ, ofZ}
+use mir.Facts.{toZ-ofZ}
+use native.Mathlib.Decide.{ℕ-discrete}
+use native.Mathlib.Omega.{arith}
+use Rattle.bisimulation.specs.Prices.{priceOfTargets}
+use Rattle.rules.specs.Limits.{limits}
+use Rattle.rules.specs.Model.{Entry}
+use Rattle.rules.specs.Reading.{statesOf, entriesAt}
+use Rattle.rules.specs.SoundModel.{Each, sumOver}
+use Rattle.rules.specs.EntryPrices.{priceOfEntries}
+use Rattle.model.specs.declared.Fields.{Fields}
+use Rattle.transition.specs.declared.Entry as read
+use Rattle.transition.specs.Known.{automatonIn, KnownTransition, FieldsOf, EntriesKnown}
+use Rattle.transition.specs.KnownLaws.{few-states, entries-known, price-known}
+use Rattle.transition.specs.Terms.{EntryTaken, Addable, WithTerm}
+use Rattle.transition.specs.TermsLaws.{mag-abs}
+use Rattle.prices.specs.Prices.{HoldsPrices, SmallPrices, priceIn, HasPrice, Summable, IsSum}
+
+-- a table holds no price at first
+pub none-held : (X : ℕ → ℤ) (table : List ℤ) → length table ≡ limits .states → HoldsPrices 0 X table
+none-held X table e = record { size = e; held = λ i h. absurd (omega arith); small = λ i h. absurd (omega arith) }
+
+-- one more price
+pub one-more-held : (X : ℕ → ℤ) (table : List ℤ) (n : ℕ) (z : ℤ) → HoldsPrices n X table → n < limits .states → z ≡ X n → mag z < 2 ^ 31 → HoldsPrices (n + 1) X (set table n z)
+one-more-held X table n z h room e small =
+    record {
+      size = length-set table n z ∙ h .size;
+      held = go (λ i y. y ≡ X i) e (h .held);
+      small = go (λ i y. mag y < 2 ^ 31) small (h .small);
+    }
+  where
+    go : (P : ℕ → ℤ → Type 0) → P n z → ((i : ℕ) → i < n → P i (priceIn table i)) → (i : ℕ) → i < n + 1 → P i (priceIn (set table n z) i)
+    go P here before i less = at (ℕ-discrete i n)
+      where
+        at : Dec (i ≡ n) → P i (priceIn (set table n z) i)
+        at (yes q) =
+            subst (λ (k : ℕ). P k (priceIn (set table n z) k)) (sym q)
+            (subst (P n) (sym (getD-set-same table n z (pos 0) (omega (arith, h .size)))) here)
+        at (no q) = subst (P i) (sym (getD-set-other table n i z (pos 0) q)) (before i (omega arith))
+
+-- and its prices are small
+pub prices-small : {n : ℕ} {X : ℕ → ℤ} {table : List ℤ} → HoldsPrices n X table → SmallPrices n table
+prices-small h = record { size = h .size; small = h .small }
+
+-- a price that the machine reads back from its bits
+pub price-back : (z : ℤ) → mag z < 2 ^ 31 → toZ w64 (ofZ w64 z) ≡ z
+price-back z h = toZ-ofZ (record { sfits = omega arith })
+
+-- and so is a sum
+pub sum-back : {es : List Entry} {table : List ℤ} {z : ℤ} → IsSum es table z → toZ w64 (ofZ w64 z) ≡ z
+sum-back {z = z} h = toZ-ofZ (record { sfits = omega (arith, h .small, mag-abs z) })
+
+-- d times a price is a term that fits
+pub product : (d : ℕ) (price : ℤ) → d < 65536 → mag price < 2 ^ 31 → Addable (pos 0) d price
+product d price light small = record { soFar = omega arith; light = light; small = omega (arith, small) }
+
+-- entries whose states are below n have prices in a table of n prices
+have-prices : (n : ℕ) (table : List ℤ) → SmallPrices n table → n ≤ limits .states → (es : List Entry) → Each (λ (e : Entry). e .state < n) es → Each (HasPrice table) es
+unfolding Each
+have-prices n table h few [] known = tt
+have-prices n table h few (e ∷ es) known =
+    (record { state = omega (arith, known .0); small = h .small (e .state) (known .0) }, have-prices n table h few es (known .1))
+
+-- what is known before each entry: the sum so far and the entries left make up the sum over all
+pub record Summing (s : List ℕ) (table : List ℤ) (all : List Entry) (left at : ℕ) (sum : ℤ) : Type 0 where
+  pub whole : at + 3 * left ≤ length s
+  pub prices : Each (HasPrice table) (entriesAt s left at)
+  pub small : natAbs sum + 2 ^ 31 * sumOver (λ (e : Entry). e .weight) (entriesAt s left at) ≤ 2 ^ 31 * 65535
+  pub makesUp : sum +ℤ priceOfEntries (entriesAt s left at) (priceIn table) ≡ priceOfEntries all (priceIn table)
+
+module _ {s : List ℕ} {table : List ℤ} where
+  pub summing-start : {count at place : ℕ} → Summable s count at table → place ≡ at → Summing s table (entriesAt s count at) count place (pos 0)
+  summing-start {count} {at} h e =
+      subst (λ (k : ℕ). Summing s table (entriesAt s count at) count k (pos 0)) (sym e)
+      (record { whole = h .whole; prices = h .prices; small = omega (arith, h .weights); makesUp = +ℤ-idl _ })
+
+  module _ {all : List Entry} where
+    -- the first entry left has a price
+    pub summing-price : (left : ℕ) {at : ℕ} {sum : ℤ} {r : read.Entry} → Summing s table all left at sum → 0 < left → EntryTaken s at r → HasPrice table (record { state = r .state; weight = r .weight })
+    unfolding Each entriesAt
+    summing-price zero h some t = absurd (omega arith)
+    summing-price (suc left) h some t = rw (t .state, t .weight) (h .prices .0)
+
+    -- and can be added, as the machine reads its price back from its bits
+    pub summing-asks : (left : ℕ) {at : ℕ} {sum : ℤ} {r : read.Entry} → Summing s table all left at sum → 0 < left → EntryTaken s at r → Addable sum (r .weight) (toZ w64 (ofZ w64 (priceIn table (r .state))))
+    summing-asks left h some t =
+        let small = summing-price left h some t .small in
+        record { soFar = omega (arith, h .small); light = t .small; small = rw (price-back _ small) (omega (arith, small)) }
+
+    one-turn : (left at : ℕ) (sum : ℤ) → Summing s table all (suc left) at sum → (r : read.Entry) → EntryTaken s at r → mag (priceIn table (r .state)) < 2 ^ 31 → (z : ℤ) → WithTerm sum (r .weight) (priceIn table (r .state)) z → Summing s table all left (at + 3) z
+    unfolding Each entriesAt sumOver priceOfEntries
+    one-turn left at sum h r t light z w =
+        record {
+          whole = omega (arith, h .whole);
+          prices = h .prices .1;
+          small = omega (arith, h .small, w .small (2 ^ 31) light, t .weight);
+          makesUp =
+              ap (λ (y : ℤ). y +ℤ priceOfEntries (entriesAt s left (at + 3)) (priceIn table))
+              (w .value ∙ ap₂ (λ (k v : ℕ). sum +ℤ pos k *ℤ priceIn table v) (t .weight) (t .state))
+              ∙ +ℤ-assoc sum _ _
+              ∙ h .makesUp;
+        }
+
+    -- the next sum, which the machine reads back from its bits too
+    pub summing-turn : (left : ℕ) {at : ℕ} {sum z : ℤ} {r : read.Entry} → Summing s table all left at sum → 0 < left → EntryTaken s at r → WithTerm sum (r .weight) (toZ w64 (ofZ w64 (priceIn table (r .state)))) z → Summing s table all (left - 1) (r .next .at) (toZ w64 (ofZ w64 z))
+    summing-turn zero h some t w = absurd (omega arith)
+    summing-turn (suc left) {at} {sum} {z} {r} h some t w =
+        let one : left ≡ suc left - 1 = omega arith in
+        let light = summing-price _ h some t .small in
+        let price = price-back _ light in
+        let turned = one-turn left at sum h r t light z (subst (λ (p : ℤ). WithTerm sum (r .weight) p z) price w) in
+        let fits : SFits w64 z = record { sfits = omega (arith, mag-abs z, turned .small) } in
+        subst (λ (k : ℕ). Summing s table all k (r .next .at) (toZ w64 (ofZ w64 z))) one
+        (subst (λ (k : ℕ). Summing s table all left k (toZ w64 (ofZ w64 z))) (sym (t .next))
+        (subst (λ (y : ℤ). Summing s table all left (at + 3) y) (sym (toZ-ofZ fits)) turned))
+
+    pub summing-end : (left : ℕ) {at : ℕ} {sum : ℤ} → Summing s table all left at sum → left ≤ 0 → IsSum all table sum
+    unfolding entriesAt priceOfEntries
+    summing-end zero {sum = sum} h none = record { value = sym (+ℤ-idr sum) ∙ h .makesUp; small = omega (arith, h .small) }
+    summing-end (suc left) h none = absurd (omega arith)
+
+-- the entries of a known transition can be summed, and the sum is that over its targets
+module _ {s places : List ℕ} {r : ℕ} (k : KnownTransition s places r) {f : Fields} (fields : FieldsOf s r f) {table : List ℤ} where
+  pub summable : SmallPrices (statesOf s) table → Summable s (f .count) (f .entries .at) table
+  summable h =
+      rw (fields .count, fields .entries)
+      (record {
+        whole = known .inside;
+        prices = have-prices (statesOf s) table h (few-states (k .known)) _ (known .states);
+        weights = omega (arith, known .whole, known .light);
+      })
+    where
+      known : EntriesKnown s r
+      known = entries-known k
+
+  pub sum-is : {z : ℤ} → IsSum (entriesAt s (f .count) (f .entries .at)) table z → z ≡ priceOfTargets (automatonIn s) (priceIn table) r
+  sum-is h =
+      h .value
+      ∙ ap₂ (λ (c at : ℕ). priceOfEntries (entriesAt s c at) (priceIn table)) (fields .count) (fields .entries)
+      ∙ sym (price-known k (priceIn table))

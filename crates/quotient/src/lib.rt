@@ -1,0 +1,246 @@
+// The merged model: one state for each block.
+ghost use Prim.Native.Nat.{_+_, _≤_, _<_};
+ghost use mathlib.Core.Path.{_≡_};
+ghost use lib.ListN.{length, getD};
+ghost use Rattle.bisimulation.specs.Choice.{ifLess};
+ghost use Rattle.rules.specs.Quotient.{blockCount, labelOfBlock, blockLabels};
+ghost use Rattle.rules.specs.Model.{noTransition};
+ghost use Rattle.transition.specs.Known.{Known};
+ghost use Rattle.merged.specs.Merged.{BlocksBelow};
+ghost use Rattle.writer.specs.Appends.{Appends};
+ghost use Rattle.quotient.specs.Kept.{transitionsIn, CanKeep, Keeps, CanWrite, Wrote, WroteAll};
+ghost use Rattle.quotient.specs.File.{CanWriteParts, PartsWritten, CanWriteFile, FileWritten};
+use merged::Weights;
+use model::Places;
+
+// The transitions of the merged model: how many, and how many bytes their records have.
+pub struct Kept {
+    pub count: usize,
+    pub size: usize,
+}
+
+// One more than the highest block.
+pub fn block_count(blocks: &[u8]) -> usize
+    ensures { λ r. ⌜ r ≡ blockCount (now (blocks .entry)) ⌝ }
+{
+    let mut left = blocks.len();
+    let mut count = 0;
+    while 0 < left {
+        left -= 1;
+        count = count_with(count, merged::block_of(blocks, left));
+    }
+    count
+}
+
+fn count_with(count: usize, block: usize) -> usize
+    requires { ⌜ block < 256 ⌝ }
+    ensures { λ r. ⌜ r ≡ ifLess block count count (block + 1) ⌝ }
+{
+    if block < count {
+        return count;
+    }
+    block + 1
+}
+
+// The label of the first member of a block.
+fn label_of(labels: &[u8], blocks: &[u8], b: usize) -> usize
+    requires { ⌜ length (now labels) ≡ length (now blocks) ⌝ }
+    ensures { λ r. ⌜ (r ≡ labelOfBlock (now (blocks .entry)) (now (labels .entry)) b) × (r < 256) ⌝ }
+{
+    let mut v = 0;
+    while v < blocks.len() {
+        if merged::block_of(blocks, v) == b {
+            return labels[v] as usize;
+        }
+        v += 1;
+    }
+    0
+}
+
+// The labels of the first k blocks, appended.
+pub fn write_labels(labels: &[u8], blocks: &[u8], k: usize, out: &mut [u8], at: usize) -> usize
+    requires { ⌜ (length (now labels) ≡ length (now blocks)) × (at + k ≤ length (now out)) ⌝ }
+    ensures { λ r. ⌜ Appends (blockLabels (now (blocks .entry)) (now (labels .entry)) k 0) at (now (out .entry)) (now (out .exit)) r ⌝ }
+{
+    let mut b = 0;
+    let mut next = at;
+    while b < k {
+        next = writer::byte(out, next, label_of(labels, blocks, b));
+        b += 1;
+    }
+    next
+}
+
+// The transition r merged and appended at a place, unless it is the same as one from `start` on.
+fn keep_merged(
+    s: &[u8],
+    n: usize,
+    count: usize,
+    places: &Places,
+    r: usize,
+    blocks: &[u8],
+    k: usize,
+    b: usize,
+    weights: &mut Weights,
+    out: &mut [u8],
+    start: usize,
+    kept: Kept,
+) -> Kept
+    requires { ⌜ CanKeep (now s) (now places) n count (now blocks) k b r (now weights) (now out) start kept × (r < count) × (getD (now blocks) (getD (transitionsIn (now s)) r noTransition .source) 0 ≡ b) ⌝ }
+    ensures { λ x. ⌜ Keeps (now (s .entry)) (now (blocks .entry)) b r (now (weights .exit)) (now (out .entry)) (now (out .exit)) start x ⌝ }
+{
+    let next = merged::write_merged(s, places, r, blocks, k, weights, out, kept.size);
+    if repeated::is_repeated(out, start, kept.size, next) {
+        return kept;
+    }
+    Kept {
+        count: kept.count + 1,
+        size: next,
+    }
+}
+
+// The transition r, if it leaves a member of the block b.
+fn keep_of_block(
+    s: &[u8],
+    n: usize,
+    count: usize,
+    places: &Places,
+    r: usize,
+    blocks: &[u8],
+    k: usize,
+    b: usize,
+    weights: &mut Weights,
+    out: &mut [u8],
+    start: usize,
+    kept: Kept,
+) -> Kept
+    requires { ⌜ CanKeep (now s) (now places) n count (now blocks) k b r (now weights) (now out) start kept × (r < count) ⌝ }
+    ensures { λ x. ⌜ Keeps (now (s .entry)) (now (blocks .entry)) b r (now (weights .exit)) (now (out .entry)) (now (out .exit)) start x ⌝ }
+{
+    let source = transition::fields_of(s, places, r).source;
+    if merged::block_of(blocks, source) != b {
+        return kept;
+    }
+    keep_merged(
+        s,
+        n,
+        count,
+        places,
+        r,
+        blocks,
+        k,
+        b,
+        weights,
+        out,
+        start,
+        kept,
+    )
+}
+
+// The transitions of the block b, by original place.
+fn write_block(
+    s: &[u8],
+    n: usize,
+    count: usize,
+    places: &Places,
+    blocks: &[u8],
+    k: usize,
+    b: usize,
+    weights: &mut Weights,
+    out: &mut [u8],
+    initial: Kept,
+) -> Kept
+    requires { ⌜ CanWrite (now s) (now places) n count (now blocks) k b (now weights) (now out) initial ⌝ }
+    ensures { λ x. ⌜ Wrote (now (s .entry)) (now (blocks .entry)) b (now (weights .exit)) (now (out .entry)) (now (out .exit)) x ⌝ }
+{
+    let start = initial.size;
+    let mut kept = initial;
+    let mut r = 0;
+    while r < count {
+        kept = keep_of_block(
+            s,
+            n,
+            count,
+            places,
+            r,
+            blocks,
+            k,
+            b,
+            weights,
+            out,
+            start,
+            kept,
+        );
+        r += 1;
+    }
+    kept
+}
+
+// The transitions of the merged model, by block, from the start of a buffer on.
+pub fn write_transitions(
+    s: &[u8],
+    n: usize,
+    count: usize,
+    places: &Places,
+    blocks: &[u8],
+    k: usize,
+    out: &mut [u8],
+) -> Kept
+    requires { ⌜ Known (now s) n count (now places) × BlocksBelow n k (now blocks) × (4864 ≤ length (now out)) ⌝ }
+    ensures { λ x. ⌜ WroteAll (now (s .entry)) (now (blocks .entry)) k (now (out .entry)) (now (out .exit)) x ⌝ }
+{
+    let mut weights = merged::no_weights();
+    let mut kept = Kept { count: 0, size: 0 };
+    let mut b = 0;
+    while b < k {
+        kept = write_block(s, n, count, places, blocks, k, b, &mut weights, out, kept);
+        b += 1;
+    }
+    kept
+}
+
+// The file of the merged model, from its transition records.
+fn write_parts(
+    s: &[u8],
+    n: usize,
+    blocks: &[u8],
+    k: usize,
+    records: &[u8],
+    kept: Kept,
+    out: &mut [u8],
+)
+    requires { ⌜ CanWriteParts (now s) n (now blocks) k (now records) kept (now out) ⌝ }
+    ensures { λ _. ⌜ PartsWritten (now (s .entry)) (now (blocks .entry)) (now (out .entry)) (now (out .exit)) ⌝ }
+{
+    let mut labels = [0; 64];
+    write_labels(&s[8..8 + n], blocks, k, &mut labels[..], 0);
+    writer::write_model(
+        out,
+        s[3] as usize,
+        &labels[..k],
+        kept.count,
+        &records[..kept.size],
+    );
+}
+
+// The file of the merged model, written if there is room for it, and its length.
+pub fn write_file(
+    s: &[u8],
+    n: usize,
+    count: usize,
+    places: &Places,
+    blocks: &[u8],
+    out: &mut [u8],
+) -> usize
+    requires { ⌜ CanWriteFile (now s) n count (now places) (now blocks) ⌝ }
+    ensures { λ r. ⌜ FileWritten (now (s .entry)) (now (blocks .entry)) (now (out .entry)) (now (out .exit)) r ⌝ }
+{
+    let mut records = [0; 4864];
+    let k = block_count(blocks);
+    let kept = write_transitions(s, n, count, places, blocks, k, &mut records[..]);
+    let size = 8 + k + kept.size;
+    if size <= out.len() {
+        write_parts(s, n, blocks, k, &records[..], kept, out);
+    }
+    size
+}

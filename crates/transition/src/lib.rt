@@ -1,0 +1,45 @@
+// A transition of a sound model by its number: its fields, its entries in their order, and a sum with one more term.
+ghost use Prim.Native.Nat.{_+_, _<_};
+ghost use lib.ListN.{length};
+ghost use Rattle.transition.specs.Known.{KnownTransition, FieldsOf};
+ghost use Rattle.transition.specs.Terms.{EntryTaken, Addable, WithTerm};
+use field::Cursor;
+use model::Fields;
+use model::Places;
+
+pub struct Entry {
+    pub state: usize,
+    pub weight: usize,
+    pub next: Cursor,
+}
+
+// The fixed fields of the transition r, and where its entries begin.
+pub fn fields_of(s: &[u8], places: &Places, r: usize) -> Fields
+    requires { ⌜ KnownTransition (now s) (now places) r ⌝ }
+    ensures { λ x. ⌜ FieldsOf (now (s .entry)) r x ⌝ }
+{
+    model::fields_at(s, places[r])
+}
+
+// The entry at a place.
+pub fn entry_at(s: &[u8], place: Cursor) -> Entry
+    requires { ⌜ place .at + 2 < length (now s) ⌝ }
+    ensures { λ r. ⌜ EntryTaken (now (s .entry)) (place .at) r ⌝ }
+{
+    let state = place.byte(s);
+    let weight = state.next.pair(s);
+    let next = weight.next;
+    Entry {
+        state: state.value,
+        weight: weight.value,
+        next,
+    }
+}
+
+// A sum with one more term, weight times factor.
+pub fn with_term(sum: i64, weight: usize, factor: i64) -> i64
+    requires { ⌜ Addable sum weight factor ⌝ }
+    ensures { λ r. ⌜ WithTerm sum weight factor r ⌝ }
+{
+    sum + weight as i64 * factor
+}

@@ -1,0 +1,29 @@
+-- `write_model` meets its contract: each record stands behind the one before it.
+use native.Mathlib.Omega.{arith}
+use mathlib.Core.Path.{refl}
+use Rattle.rules.specs.Bytes.{twoBytes}
+use Rattle.writer.specs.AppendsLaws.{append-model}
+use borrow.Author.Needs.{needs}
+use Rattle.writer.proofs.write_model.Statement.{statement}
+use Rattle.writer.proofs.write_model.Tie as tie
+
+head-requires : tie.Need-head-requires
+head-requires c κs = search needs
+
+part-requires : tie.Need-part-requires
+unfolding twoBytes
+part-requires c κs = omega (arith, c .before .before .before .head .ensures .place, c .before .before .before .head .ensures .size, c .before .before .before .before .before .before .before .before .pre .room)
+
+part-requires-2 : tie.Need-part-requires-2
+unfolding twoBytes
+part-requires-2 c κs = omega (arith, c .before .before .before .part .ensures .place, c .before .before .before .part .ensures .size, c .before .before .before .before .before .before .before .head .ensures .place, c .before .before .before .before .before .before .before .head .ensures .size, c .before .before .before .before .before .before .before .before .before .before .before .before .pre .room)
+
+same-length : tie.Need-same-length
+same-length c = search needs
+
+returns : tie.Need-returns
+returns c = append-model refl (c .before .before .before .before .before .before .before .before .before .before .head .ensures) (c .before .before .before .before .before .before .part .ensures) (c .before .before .part2 .ensures)
+
+pub write-model-spec : {M : Type 1} → statement M
+write-model-spec =
+    tie.close (tie.spec head-requires part-requires part-requires-2 same-length returns)

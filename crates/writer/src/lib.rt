@@ -1,0 +1,85 @@
+// The model writer: the records of a model appended to what stands in a lent buffer. Each function hands back the place after what it
+// wrote.
+ghost use Prim.Native.Nat.{_+_, _≤_, _<_};
+ghost use lib.ListN.{length};
+ghost use mathlib.Core.List.{[], _∷_};
+ghost use Rattle.rules.specs.Bytes.{twoBytes};
+ghost use Rattle.writer.specs.Appends.{Appends, fixedBytes, headBytesOf, CanWriteModel, WritesModel};
+
+// A field of one byte.
+pub fn byte(out: &mut [u8], at: usize, x: usize) -> usize
+    requires { ⌜ (at + 1 ≤ length (now out)) × (x < 256) ⌝ }
+    ensures { λ r. ⌜ Appends (x ∷ []) at (now (out .entry)) (now (out .exit)) r ⌝ }
+{
+    out[at] = x as u8;
+    at + 1
+}
+
+// A field of two bytes, most significant first.
+pub fn pair(out: &mut [u8], at: usize, x: usize) -> usize
+    requires { ⌜ (at + 2 ≤ length (now out)) × (x < 65536) ⌝ }
+    ensures { λ r. ⌜ Appends (twoBytes x) at (now (out .entry)) (now (out .exit)) r ⌝ }
+{
+    let low = byte(out, at, x / 256);
+    byte(out, low, x % 256)
+}
+
+// An entry of a transition.
+pub fn entry(out: &mut [u8], at: usize, state: usize, weight: usize) -> usize
+    requires { ⌜ (at + 3 ≤ length (now out)) × (state < 256) × (weight < 65536) ⌝ }
+    ensures { λ r. ⌜ Appends (state ∷ twoBytes weight) at (now (out .entry)) (now (out .exit)) r ⌝ }
+{
+    let next = byte(out, at, state);
+    pair(out, next, weight)
+}
+
+// The fixed fields of a transition with so many entries.
+pub fn fixed(
+    out: &mut [u8],
+    at: usize,
+    source: usize,
+    action: usize,
+    denominator: usize,
+    count: usize,
+) -> usize
+    requires { ⌜ (at + 7 ≤ length (now out)) × (source < 256) × (action < 256) × (denominator < 65536) × (count < 256) ⌝ }
+    ensures { λ r. ⌜ Appends (fixedBytes source action denominator count) at (now (out .entry)) (now (out .exit)) r ⌝ }
+{
+    let mark = pair(out, at, 0x5452);
+    let first = byte(out, mark, source);
+    let second = byte(out, first, action);
+    let third = pair(out, second, denominator);
+    byte(out, third, count)
+}
+
+// The head, and the mark of the labels.
+pub fn head(out: &mut [u8], n: usize, m: usize, count: usize) -> usize
+    requires { ⌜ (8 ≤ length (now out)) × (n < 256) × (m < 256) × (count < 65536) ⌝ }
+    ensures { λ r. ⌜ Appends (headBytesOf n m count) 0 (now (out .entry)) (now (out .exit)) r ⌝ }
+{
+    let mark = pair(out, 0, 0x5041);
+    let states = byte(out, mark, n);
+    let actions = byte(out, states, m);
+    let transitions = pair(out, actions, count);
+    pair(out, transitions, 0x4C42)
+}
+
+// Bytes that stand elsewhere.
+pub fn part(out: &mut [u8], at: usize, given: &[u8]) -> usize
+    requires { ⌜ at + length (now given) ≤ length (now out) ⌝ }
+    ensures { λ r. ⌜ Appends (now (given .entry)) at (now (out .entry)) (now (out .exit)) r ⌝ }
+{
+    let next = at + given.len();
+    bytes::copy(given, &mut out[at..next]);
+    next
+}
+
+// A model's file, from its labels and its transition records, wherever they stand.
+pub fn write_model(out: &mut [u8], m: usize, labels: &[u8], count: usize, records: &[u8]) -> usize
+    requires { ⌜ CanWriteModel m (now labels) count (now records) (now out) ⌝ }
+    ensures { λ r. ⌜ WritesModel m (now (labels .entry)) count (now (records .entry)) (now (out .entry)) (now (out .exit)) r ⌝ }
+{
+    let at = head(out, labels.len(), m, count);
+    let next = part(out, at, labels);
+    part(out, next, records)
+}

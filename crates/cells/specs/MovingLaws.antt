@@ -20,7 +20,7 @@ use Rattle.rules.specs.Model.{Entry, weightOf}
 use Rattle.rules.specs.Reading.{statesOf, entryCountAt, entriesAt, placeOf}
 use Rattle.rules.specs.SoundModel.{Each, sumOver}
 use Rattle.rules.specs.SoundModelLaws.{From, StatesFrom, no-weight}
-use Rattle.model.specs.declared.Fields.{Fields}
+use Rattle.record.specs.declared.Fields.{Fields}
 use Rattle.transition.specs.declared.Entry as read
 use Rattle.transition.specs.Known.{automatonIn, FieldsOf, entriesOf}
 use Rattle.transition.specs.KnownLaws.{few-states, entries-known}

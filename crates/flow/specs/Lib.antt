@@ -2,9 +2,6 @@ pub mod Judged
 pub mod Differences
 pub mod EntrySums
 pub mod DifferencesLaws
-pub mod Taking
-pub mod KEntriesLaws
-pub mod WEntriesLaws
 pub mod EquationsLaws
 pub mod JudgedLaws
 pub mod FlowLaws

@@ -1,6 +1,2 @@
 pub mod Judged
-pub mod Runs
-pub mod RunsLaws
-pub mod Going
-pub mod GoingLaws
 pub mod Refuting

@@ -26,11 +26,12 @@ use Rattle.transition.specs.KnownLaws.{known-states, known-transitions, few-sta
 use Rattle.blocks.specs.Blocks.{BlocksJudged}
 use Rattle.refutation.specs.Judged.{RefutationJudged, RefutationPassed}
 use Rattle.refutation.specs.JudgedLaws.{refutation-passed}
-use Rattle.judge.specs.declared.Judged.{Judged}
+use Rattle.flows.specs.declared.Judged.{Judged}
 use Rattle.judge.specs.declared.Refuted.{Refuted}
-use Rattle.judge.specs.declared.Judged.the-variants.{Accepted, Rejected}
-use Rattle.judge.specs.Judged.{Refutes, Relates, judgementOf, Judges, JudgesFlows, JudgesBlocks}
-use Rattle.judge.specs.Going.{reject-stops, reject-passes}
+use Rattle.flows.specs.declared.Judged.the-variants.{Accepted, Rejected}
+use Rattle.flows.specs.Judged.{Relates, judgementOf, Judges, JudgesFlows}
+use Rattle.judge.specs.Judged.{Refutes, JudgesBlocks}
+use Rattle.flows.specs.Going.{reject-stops, reject-passes}
 
 -- what a blocks record without fault tells
 blocks-inside : (A : Automaton) (C : List ℕ) (R : Pairs) (at : ℕ) → noFault ≡ blocksFault A C R at → at + 2 + A .states ≤ length C

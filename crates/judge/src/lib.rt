@@ -1,19 +1,19 @@
 // The certificate file judged: head, refutations, blocks, flows.
 ghost use Prim.Native.Nat.{_+_, _≤_, _<_};
 ghost use mathlib.Core.Path.{_≡_};
-ghost use lib.ListN.{length, take, drop};
+ghost use lib.ListN.{length};
 ghost use Rattle.rules.specs.Limits.{limits};
-ghost use Rattle.rules.specs.Reading.{statesOf};
-ghost use Rattle.rules.specs.Certificate.{certificateHeadFault, sameBlock};
+ghost use Rattle.rules.specs.Certificate.{certificateHeadFault};
 ghost use Rattle.rules.specs.PlainRule.{plainRule};
 ghost use Rattle.rules.specs.Judging.{judgeCertificate};
 ghost use Rattle.fault.specs.Faults.{faultOf};
 ghost use Rattle.transition.specs.Known.{automatonIn, Known};
 ghost use Rattle.refutation.specs.Judged.{RefutationPassed};
-ghost use Rattle.judge.specs.Judged.{Relates, Refutes, Judges, JudgesFlows, JudgesBlocks};
-ghost use Rattle.judge.specs.Runs.{IsPast, runEnd};
+ghost use Rattle.flows.specs.Judged.{Relates, Judges};
+ghost use Rattle.judge.specs.Judged.{Refutes, JudgesBlocks};
 use fault::Fault;
 use field::Cursor;
+use flows::Judged;
 use model::Places;
 use pairs::Rows;
 use pairs::STATES;
@@ -21,12 +21,6 @@ use pairs::STATES;
 pub const REFUTATIONS: usize = 2016;
 
 const MARK: usize = 0x4354;
-
-// The certificate is accepted, and its blocks stand at a place; or a record is refused, which begins at a place.
-pub enum Judged {
-    Accepted { blocks: usize },
-    Rejected { number: usize, place: usize },
-}
 
 // Refusals 11 to 13 of the head.
 fn head_fault(cert: &[u8]) -> Fault
@@ -49,115 +43,6 @@ fn head_fault(cert: &[u8]) -> Fault
     fault::none()
 }
 
-// The first of the transitions from r on that does not leave a state.
-fn run_past(s: &[u8], count: usize, places: &Places, state: usize, r: usize) -> usize
-    requires { ⌜ Known (now s) (statesOf (now s)) count (now places) × (r ≤ count) ⌝ }
-    ensures { λ x. ⌜ IsPast (automatonIn (now (s .entry))) count state r x ⌝ }
-{
-    let mut past = r;
-    while past < count {
-        let source = transition::fields_of(s, places, past).source;
-        if source != state {
-            return past;
-        }
-        past += 1;
-    }
-    past
-}
-
-// Two states have the same byte in the n blocks at a place.
-fn same_block(cert: &[u8], blocks: usize, n: usize, v: usize, u: usize) -> bool
-    requires { ⌜ (blocks + n ≤ length (now cert)) × (v < n) × (u < n) ⌝ }
-    ensures { λ r. ⌜ r ≡ sameBlock (take n (drop blocks (now (cert .entry)))) v u ⌝ }
-{
-    cert[blocks + v] == cert[blocks + u]
-}
-
-// Where the run of a state's transitions ends that ask t: its end if the two differ and lie in one block, else its start.
-fn run_end(
-    cert: &[u8],
-    blocks: usize,
-    n: usize,
-    state: usize,
-    t: usize,
-    first: usize,
-    past: usize,
-) -> usize
-    requires { ⌜ (blocks + n ≤ length (now cert)) × (state < n) × (t < n) ⌝ }
-    ensures { λ r. ⌜ r ≡ runEnd (take n (drop blocks (now (cert .entry)))) state t first past ⌝ }
-{
-    if state == t {
-        return first;
-    }
-    if !same_block(cert, blocks, n, state, t) {
-        return first;
-    }
-    past
-}
-
-// The flows from the end of the n blocks on, and 22.
-fn judge_flows(
-    s: &[u8],
-    n: usize,
-    count: usize,
-    places: &Places,
-    rows: &Rows,
-    cert: &[u8],
-    blocks: usize,
-) -> Judged
-    requires { ⌜ Known (now s) n count (now places) × (blocks + n ≤ length (now cert)) × Relates n (now rows) ⌝ }
-    ensures { λ r. ⌜ JudgesFlows (now (s .entry)) (now (cert .entry)) n (now (rows .entry)) blocks r ⌝ }
-{
-    let mut cells = cells::no_cells();
-    let mut target = cells::no_cells();
-    let mut at = blocks + n;
-    let mut number = 0;
-    let mut state = 0;
-    let mut first = 0;
-    'flows: while state < n {
-        let past = run_past(s, count, places, state, first);
-        let mut t = 0;
-        while t < n {
-            let end = run_end(cert, blocks, n, state, t, first, past);
-            let mut r = first;
-            while r < end {
-                let fault = flow::flow_fault(
-                    s,
-                    n,
-                    count,
-                    places,
-                    rows,
-                    r,
-                    t,
-                    cert,
-                    at,
-                    &mut cells,
-                    &mut target,
-                );
-                number = fault.number;
-                if number != 0 {
-                    break 'flows;
-                }
-                at = flow::after_flow(cert, at);
-                r += 1;
-            }
-            t += 1;
-        }
-        first = past;
-        state += 1;
-    }
-    if number != 0 {
-        return Judged::Rejected { number, place: at };
-    }
-    if at < cert.len() {
-        return Judged::Rejected {
-            number: 22,
-            place: at,
-        };
-    }
-    Judged::Accepted { blocks }
-}
-
 // The blocks record at a place, and the flows.
 fn judge_blocks(
     s: &[u8],
@@ -176,7 +61,7 @@ fn judge_blocks(
     if number != 0 {
         return Judged::Rejected { number, place: at };
     }
-    judge_flows(s, n, count, places, rows, cert, at + 2)
+    flows::judge_flows(s, n, count, places, rows, cert, at + 2)
 }
 
 // The pair that a refutation removes, and the place after its record.

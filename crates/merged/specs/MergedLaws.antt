@@ -16,7 +16,7 @@ use Rattle.rules.specs.Reading.{statesOf, countOf, entryCountAt, transitionAt, 
 use Rattle.rules.specs.Quotient.{weightToBlock, blockEntries, mergedTransition, blockCount}
 use Rattle.rules.specs.ModelAutomaton.{automaton-source, automaton-action, automaton-denominator}
 use Rattle.rules.specs.SoundModelLaws.{sound-automaton}
-use Rattle.model.specs.declared.Fields.{Fields}
+use Rattle.record.specs.declared.Fields.{Fields}
 use Rattle.transition.specs.Known.{KnownTransition, FieldsOf, entriesOf}
 use Rattle.transition.specs.KnownLaws.{known-transitions, entries-known}
 use Rattle.writer.specs.Appends.{Appends, fixedBytes}

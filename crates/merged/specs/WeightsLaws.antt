@@ -15,7 +15,7 @@ use Rattle.rules.specs.Reading.{entryCountAt, entriesAt, placeOf}
 use Rattle.rules.specs.ReadBack.{entriesBytes-length}
 use Rattle.rules.specs.Quotient.{weightToBlock, blockEntries}
 use Rattle.rules.specs.SoundModel.{Each, sumOver}
-use Rattle.model.specs.declared.Fields.{Fields}
+use Rattle.record.specs.declared.Fields.{Fields}
 use Rattle.transition.specs.declared.Entry as read
 use Rattle.transition.specs.Known.{FieldsOf, entriesOf}
 use Rattle.transition.specs.KnownLaws.{entries-known}

@@ -1,3 +1,2 @@
 pub mod Scanned
 pub mod Places
-pub mod Fetched

@@ -3,27 +3,9 @@ use Prim.Native.Nat.{ℕ, _+_, _<_}
 use mathlib.Core.Path.{_≡_}
 use mathlib.Core.List.{List}
 use lib.ListN.{length, getD}
-use Rattle.rules.specs.Reading.{Scan, sound, refused, statesOf, actionsOf, countOf, sourceAt, actionAt, denominatorAt, entryCountAt, placeOf}
-use Rattle.model.specs.declared.Head.{Head}
-use Rattle.model.specs.declared.Fields.{Fields}
+use Rattle.rules.specs.Reading.{Scan, sound, refused, placeOf}
 use Rattle.model.specs.declared.Scanned.{Scanned}
 use Rattle.model.specs.declared.Scanned.the-variants.{Sound, Refused}
-
--- the fields of the head
-pub record HeadAt (s : List ℕ) (r : Head) : Type 0 where
-  pub states : r .states ≡ statesOf s
-  pub actions : r .actions ≡ actionsOf s
-  pub transitions : r .transitions ≡ countOf s
-  pub small : r .states < 256
-
--- the fixed fields of the transition record at a place, and where its entries begin
-pub record FieldsAt (s : List ℕ) (at : ℕ) (r : Fields) : Type 0 where
-  pub source : r .source ≡ sourceAt s at
-  pub action : r .action ≡ actionAt s at
-  pub denominator : r .denominator ≡ denominatorAt s at
-  pub count : r .count ≡ entryCountAt s at
-  pub small : r .count < 256
-  pub entries : r .entries .at ≡ at + 7
 
 -- document 01's number and place for each case of the reader's answer
 abbrev pub scanOf : Scanned → Scan

@@ -19,7 +19,7 @@ use Rattle.rules.specs.Limits.{limits}
 use Rattle.rules.specs.Reading.{statesOf, entriesAt}
 use Rattle.rules.specs.PlainRule.{priceCondition, allWithAction, below}
 use Rattle.rules.specs.PlainDecides.{holds-T}
-use Rattle.model.specs.declared.Fields.{Fields}
+use Rattle.record.specs.declared.Fields.{Fields}
 use Rattle.transition.specs.Known.{automatonIn, Known, KnownTransition, FieldsOf}
 use Rattle.transition.specs.KnownLaws.{few-states, known-transitions}
 use Rattle.prices.specs.Prices.{priceIn, SmallPrices, IsSum}

@@ -17,7 +17,7 @@ use Rattle.rules.specs.Model.{Entry}
 use Rattle.rules.specs.Reading.{statesOf, entriesAt}
 use Rattle.rules.specs.SoundModel.{Each, sumOver}
 use Rattle.rules.specs.EntryPrices.{priceOfEntries}
-use Rattle.model.specs.declared.Fields.{Fields}
+use Rattle.record.specs.declared.Fields.{Fields}
 use Rattle.transition.specs.declared.Entry as read
 use Rattle.transition.specs.Known.{automatonIn, KnownTransition, FieldsOf, EntriesKnown}
 use Rattle.transition.specs.KnownLaws.{few-states, entries-known, price-known}

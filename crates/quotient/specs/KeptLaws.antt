@@ -19,7 +19,7 @@ use Rattle.rules.specs.FetchedRun.{length-entriesAt}
 use Rattle.rules.specs.KeyedSums.{each-all, sumOver-most, sumOver-length}
 use Rattle.rules.specs.Quotient.{blockCount, mergedTransition, fromBlock, isAmong, distinct, byBlock}
 use Rattle.rules.specs.QuotientLaws.{merged-few, merged-rules, each-distinct, each-from, transitions-length}
-use Rattle.model.specs.declared.Fields.{Fields}
+use Rattle.record.specs.declared.Fields.{Fields}
 use Rattle.transition.specs.Known.{Known, KnownTransition, FieldsOf}
 use Rattle.transition.specs.KnownLaws.{known-own, known-states, known-transitions, known-transition, few-transitions}
 use Rattle.writer.specs.Appends.{Appends}

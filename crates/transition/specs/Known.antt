@@ -10,7 +10,7 @@ use Rattle.rules.specs.Reading.{statesOf, countOf, entryCountAt, afterTransitio
 use Rattle.rules.specs.SoundModel.{Each, sumOver, SoundModel}
 use Rattle.rules.specs.SoundModelLaws.{StatesFrom}
 use Rattle.model.specs.Scanned.{PlacesHeld}
-use Rattle.model.specs.declared.Fields.{Fields}
+use Rattle.record.specs.declared.Fields.{Fields}
 
 -- the automaton of a model file
 abbrev pub automatonIn : List ℕ → Automaton

@@ -17,8 +17,9 @@ use Rattle.rules.specs.ReadSound.{read-whole-sound}
 use Rattle.rules.specs.AnswerLaws.{labels-length}
 use Rattle.rules.specs.ModelAutomaton.{length-transitionsAt, automaton-states, automaton-transitions, automaton-source, automaton-action, automaton-denominator, automaton-weight, transition-is}
 use Rattle.rules.specs.EntryPrices.{priceOfEntries, price-of-entries}
-use Rattle.model.specs.Scanned.{PlacesHeld, FieldsAt}
-use Rattle.model.specs.declared.Fields.{Fields}
+use Rattle.record.specs.Fields.{FieldsAt}
+use Rattle.model.specs.Scanned.{PlacesHeld}
+use Rattle.record.specs.declared.Fields.{Fields}
 use Rattle.transition.specs.Known.{automatonIn, Known, KnownTransition, FieldsOf, entriesOf, EntriesKnown}
 
 -- what the reader's answer tells

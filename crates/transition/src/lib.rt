@@ -4,8 +4,8 @@ ghost use lib.ListN.{length};
 ghost use Rattle.transition.specs.Known.{KnownTransition, FieldsOf};
 ghost use Rattle.transition.specs.Terms.{EntryTaken, Addable, WithTerm};
 use field::Cursor;
-use model::Fields;
 use model::Places;
+use record::Fields;
 
 pub struct Entry {
     pub state: usize,
@@ -18,7 +18,7 @@ pub fn fields_of(s: &[u8], places: &Places, r: usize) -> Fields
     requires { ⌜ KnownTransition (now s) (now places) r ⌝ }
     ensures { λ x. ⌜ FieldsOf (now (s .entry)) r x ⌝ }
 {
-    model::fields_at(s, places[r])
+    record::fields_at(s, places[r])
 }
 
 // The entry at a place.

@@ -33,9 +33,9 @@ use Rattle.model.specs.Scanned.{Scans}
 use Rattle.model.specs.declared.Model.{Model as Found}
 use Rattle.model.specs.declared.Scanned.{Scanned}
 use Rattle.model.specs.declared.Scanned.the-variants.{Sound, Refused}
-use Rattle.judge.specs.Judged.{Judges}
-use Rattle.judge.specs.declared.Judged.{Judged}
-use Rattle.judge.specs.declared.Judged.the-variants.{Accepted, Rejected}
+use Rattle.flows.specs.Judged.{Judges}
+use Rattle.flows.specs.declared.Judged.{Judged}
+use Rattle.flows.specs.declared.Judged.the-variants.{Accepted, Rejected}
 use Rattle.zolkirta.specs.declared.Answer.{Answer}
 use Rattle.zolkirta.specs.Calls.{answered, FetchHandedBack, StretchInside, OutcomeIs, HandedBack, Demands, JudgeAnswered, JudgeHandedBack, ReduceDemands, ReduceAnswered, ReduceHandedBack}
 use Rattle.zolkirta.specs.declared.Verdict.{Verdict}

@@ -9,10 +9,10 @@ ghost use Rattle.rules.specs.PlainRule.{plainRule};
 ghost use Rattle.zolkirta.specs.Calls.{answered, StretchInside, OutcomeIs, FetchAnswered, FetchHandedBack, JudgeAnswered, JudgeHandedBack, ReduceAnswered, ReduceHandedBack};
 ghost use Rattle.zolkirta.specs.Parts.{ReadsModel, VerdictIs, HandsBack, Reduced};
 ghost use Rattle.quotient.specs.File.{CanWriteFile};
-use judge::Judged;
-use model::Fetched;
+use flows::Judged;
 use model::Places;
 use model::Scanned;
+use runs::Fetched;
 
 // What a call answers: document 01's number, file (1 model, 2 certificate) and place; where the stretch, or the run of a
 // fetch, starts in its file and how long it is; and how many bytes were written into the lent buffer.
@@ -96,7 +96,7 @@ fn hand_back<'a>(
 fn fetch_answer(model: &[u8], state: u32) -> Answer
     ensures { λ r. ⌜ answered r ≡ fetchAnswer limits (now (model .entry)) state ⌝ }
 {
-    let fetched = model::fetch_run(model, state as usize);
+    let fetched = runs::fetch_run(model, state as usize);
     match fetched {
         Fetched::Found { start, end } => run_from(start, end),
         Fetched::NoState => without_place(24, 0),

@@ -97,13 +97,13 @@ arrive-requires c κs =
     let start = c .before .before .before .before .before .before .before .before .before .before .before .before .before .before .before in
     rw (minus-back (c .before .minus .ensures) (start .pre .small)) (can-ask (start .pre))
 
-moved-requires : tie.Need-moved-requires
-moved-requires c κs = search needs
+arrival-requires : tie.Need-arrival-requires
+arrival-requires c κs = search needs
 
 take-ws-requires : tie.Need-take-ws-requires
 take-ws-requires c κs =
     let asked = (rw (minus-back (c .before .before .before .before .before .minus .ensures) (c .before .before .before .before .before .before .before .before .before .before .before .before .before .before .before .before .before .before .before .pre .small)) at (c .before .before .before .arrive .ensures)) in
-    can-take-ws (c .before .before .before .before .before .before .before .before .before .before .before .before .before .before .before .before .before .before .before .pre) (c .before .before .before .before .before .before .before .before .before .before .before .before .before .before .before .before .fields-of .ensures .action) (c .before .before .before .before .before .before .before .before .before .before .before .before .take-ks .ensures) (omega arith) (c .before .before .before .before .before .before .before .before .before .before .before .before .before .before .before .before .fields-of .ensures) (c .before .before .moved .ensures) (omega arith) asked
+    can-take-ws (c .before .before .before .before .before .before .before .before .before .before .before .before .before .before .before .before .before .before .before .pre) (c .before .before .before .before .before .before .before .before .before .before .before .before .before .before .before .before .fields-of .ensures .action) (c .before .before .before .before .before .before .before .before .before .before .before .before .take-ks .ensures) (omega arith) (c .before .before .before .before .before .before .before .before .before .before .before .before .before .before .before .before .fields-of .ensures) (c .before .before .arrival .ensures) (omega arith) asked
 
 refusal-requires-4 : tie.Need-refusal-requires-4
 refusal-requires-4 c κs = search needs
@@ -125,7 +125,7 @@ returns-5 c =
     let w = w-count _ _ (c .before .before .before .before .before .before .before .before .before .before .before .pair .ensures) (c .before .before .before .before .before .before .before .before .before .before .before .before .new .ensures ∙ middle) in
     let end = after-w _ _ w in
     let asked = (rw (minus-back (c .before .before .before .before .before .before .before .before .before .minus .ensures) (c .before .before .before .before .before .before .before .before .before .before .before .before .before .before .before .before .before .before .before .before .before .before .before .pre .small)) at (c .before .before .before .before .before .before .before .arrive .ensures)) in
-    judged (c .before .before .before .before .before .before .before .before .before .before .before .before .before .before .before .before .before .before .before .before .before .before .before .pre) (c .before .before .before .before .before .before .before .before .before .before .before .before .before .before .before .before .before .before .before .before .fields-of .ensures .action) (c .before .before .before .before .before .before .before .before .before .before .before .before .before .before .before .before .take-ks .ensures) (omega arith) (omega arith) w (c .before .before .before .take-ws .ensures) (c .before .before .before .before .before .before .before .before .before .before .before .before .before .before .before .before .before .before .before .before .fields-of .ensures) refl (c .before .before .before .before .before .before .moved .ensures) (c .before .before .before .before .before .before .before .before .before .before .before .before .before .before .before .before .before .before .give .ensures) asked (omega arith) decided (omega arith) (omega arith) (c .verdict .ensures)
+    judged (c .before .before .before .before .before .before .before .before .before .before .before .before .before .before .before .before .before .before .before .before .before .before .before .pre) (c .before .before .before .before .before .before .before .before .before .before .before .before .before .before .before .before .before .before .before .before .fields-of .ensures .action) (c .before .before .before .before .before .before .before .before .before .before .before .before .before .before .before .before .take-ks .ensures) (omega arith) (omega arith) w (c .before .before .before .take-ws .ensures) (c .before .before .before .before .before .before .before .before .before .before .before .before .before .before .before .before .before .before .before .before .fields-of .ensures) refl (c .before .before .before .before .before .before .arrival .ensures) (c .before .before .before .before .before .before .before .before .before .before .before .before .before .before .before .before .before .before .give .ensures) asked (omega arith) decided (omega arith) (omega arith) (c .verdict .ensures)
 
 pub entries-fault-spec : {M : Type 1} → statement M
 entries-fault-spec =
@@ -150,7 +150,7 @@ entries-fault-spec =
     returns-3
     minus-requires
     arrive-requires
-    moved-requires
+    arrival-requires
     take-ws-requires
     refusal-requires-4
     returns-4

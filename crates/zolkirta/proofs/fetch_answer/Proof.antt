@@ -1,5 +1,5 @@
 -- `fetch_answer` meets its contract: each case of the fetch is answered as `answerOf` says.
-use Rattle.model.specs.Fetched.{answerOf}
+use Rattle.runs.specs.Fetched.{answerOf}
 use Rattle.rules.specs.AnswerLaws.{fetch-refusal}
 use Rattle.rules.specs.Limits.{limits}
 use Rattle.rules.specs.Answers.{Answer, fetchAnswer}

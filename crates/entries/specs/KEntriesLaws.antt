@@ -1,0 +1,244 @@
+-- Laws of the k entries taken into the cells.
+use Prim.Native.Nat.{ℕ, zero, suc, _+_, _*_, _-_, _^_, _≤_, _<_}
+use mathlib.Core.Path.{_≡_, refl, sym, _∙_, ap, subst, subst₂}
+use mathlib.Core.Bool.{Bool, true, false}
+use mathlib.Core.List.{List}
+use lib.ListN.{length}
+use lib.IntN.{ℤ, pos, negℤ}
+use native.Mathlib.Omega.{arith}
+use native.Mathlib.Decide.{ℕ-discrete}
+use Rattle.bisimulation.specs.ChoiceLaws.{less, notLess, notSame, isTrue, isFalse, eitherLess, eitherSame, eitherTrue, false-not}
+use Rattle.rules.specs.Bytes.{byteAt, twoAt, threeAt, fourAt}
+use Rattle.rules.specs.Certificate.{Fault, fault, kFault}
+use Rattle.rules.specs.PlainRule.{byKind, plainInQuestion, plainRule}
+use Rattle.field.specs.declared.Field.{Field}
+use Rattle.field.specs.Taken as field
+use Rattle.field.specs.Taken.{taken-at}
+use Rattle.transition.specs.Known.{automatonIn, Known, entriesOf}
+use Rattle.transition.specs.KnownLaws.{few-transitions, known-transition}
+use Rattle.entries.specs.declared.Taken.{Taken}
+use Rattle.cells.specs.Nonzero.{nonzeroIn, Counted, Became}
+use Rattle.cells.specs.Moving.{arrived, departed, Room, CanMove}
+use Rattle.entries.specs.Taking.{arrivalOf, departureOf, inQuestionOf, tookK, tookKs, CanTake, CanTakeKs, TookKs}
+use Rattle.cells.specs.MovingLaws.{minus-small, room-fewer, arrived-length, arrived-room, departed-room}
+
+pub arrival-most : (layer : ℕ) → arrivalOf layer ≤ 64
+unfolding arrivalOf
+arrival-most layer = eitherSame (λ (x : ℕ). x ≤ 64) layer 0 (omega arith) (omega arith)
+
+departure-most : (layer : ℕ) → departureOf layer ≤ 64
+unfolding departureOf
+departure-most layer = eitherSame (λ (x : ℕ). x ≤ 64) layer 2 (omega arith) (omega arith)
+
+-- a k entry's transition arrives, then leaves
+module _ {s places : List ℕ} {r k : ℕ} {cells : List ℤ} {nonzero : ℕ} (c : CanTake s places r k cells nonzero) (layer : ℕ) where
+  pub can-arrive : CanMove s places r (pos k) (arrivalOf layer) cells nonzero
+  can-arrive =
+      record {
+        known = c .known;
+        small = omega (arith, c .small);
+        layer = arrival-most layer;
+        table = c .table;
+        room = room-fewer (omega arith) (c .room);
+      }
+
+  pub can-leave : {after : List ℤ} {now : ℕ} → Became (arrived (entriesOf s r) (pos k) (arrivalOf layer) cells) after now → CanMove s places r (negℤ (pos k)) (departureOf layer) after now
+  can-leave b =
+      record {
+        known = c .known;
+        small = minus-small k _ (omega (arith, c .small));
+        layer = departure-most layer;
+        table = b .counted;
+        room = subst (λ (x : List ℤ). Room x 1) (sym (b .same)) (arrived-room can-arrive (c .room));
+      }
+
+  pub took-k : {between after : List ℤ} {mid now : ℕ} → Became (arrived (entriesOf s r) (pos k) (arrivalOf layer) cells) between mid → Became (departed (automatonIn s) r (negℤ (pos k)) (departureOf layer) between) after now → Became (tookK s layer r k cells) after now
+  unfolding tookK
+  took-k {after = after} {now = now} b e =
+      subst (λ (x : List ℤ). Became (departed (automatonIn s) r (negℤ (pos k)) (departureOf layer) x) after now) (b .same) e
+
+  -- it takes two changes from the room
+  pub took-room : {changes : ℕ} → Room cells (suc (suc changes)) → Room (tookK s layer r k cells) changes
+  unfolding tookK
+  took-room {changes} room =
+      departed-room (can-leave {now = nonzeroIn middle} (record { same = refl; counted = record { size = arrived-length (entriesOf s r) (pos k) (arrivalOf layer) cells ∙ c .table .size; count = refl } }))
+      (arrived-room can-arrive room)
+    where
+      middle : List ℤ
+      middle = arrived (entriesOf s r) (pos k) (arrivalOf layer) cells
+
+-- a k entry as it was read at a place
+pub record KRead (C : List ℕ) (at layer r k : ℕ) : Type 0 where
+  pub layer-is : layer ≡ byteAt C at
+  pub transition-is : r ≡ twoAt C (at + 1)
+  pub k-is : k ≡ fourAt C (at + 3)
+  pub small : k < 2 ^ 32
+
+pub k-read : {C : List ℕ} {at : ℕ} {a b c : Field} → field.Taken C byteAt at 1 256 a → field.Taken C twoAt (a .next .at) 2 65536 b → field.Taken C fourAt (b .next .at) 4 4294967296 c → KRead C at (a .value) (b .value) (c .value)
+k-read x y z =
+    record {
+      layer-is = x .value;
+      transition-is = taken-at y _ (x .next);
+      k-is = taken-at z _ (omega (arith, x .next, y .next));
+      small = z .small;
+    }
+
+-- what is wrong with a k entry, or that nothing is
+pub data WrongK (count action lowest layer r k : ℕ) (asked : Bool) : Type 0 where
+  unordered : layer * 65536 + r < lowest → WrongK count action lowest layer r k asked
+  absent : count ≤ r → WrongK count action lowest layer r k asked
+  unasked : asked ≡ false → WrongK count action lowest layer r k asked
+  nothing : k ≡ 0 → WrongK count action lowest layer r k asked
+
+pub record RightK (count lowest layer r k : ℕ) (asked : Bool) : Type 0 where
+  pub ordered : lowest ≤ layer * 65536 + r
+  pub present : r < count
+  pub asked-is : asked ≡ true
+  pub some : 0 < k
+
+-- the machine's answer to whether it is asked
+pub asked-by : (challenger layer : ℕ) {action other : ℕ} {answer b : Bool} → answer ≡ inQuestionOf challenger layer action → action ≡ other → answer ≡ b → inQuestionOf challenger layer other ≡ b
+asked-by challenger layer e f g = ap (inQuestionOf challenger layer) (sym f) ∙ sym e ∙ g
+
+-- what is asked stands in one of three layers
+layer-of : (challenger layer action : ℕ) → inQuestionOf challenger layer action ≡ true → layer ≤ 2
+unfolding inQuestionOf
+layer-of challenger layer action e = go (ℕ-discrete layer 0) (ℕ-discrete layer 1) (ℕ-discrete layer 2)
+  where
+    go : Dec (layer ≡ 0) → Dec (layer ≡ 1) → Dec (layer ≡ 2) → layer ≤ 2
+    go (yes a) b c = omega arith
+    go (no a) (yes b) c = omega arith
+    go (no a) (no b) (yes c) = omega arith
+    go (no a) (no b) (no c) =
+        absurd (false-not (notSame _ a (eitherSame (λ (x : Bool). false ≡ x) challenger 0 refl (notSame _ b (notSame _ c refl))) ∙ e))
+
+-- before each k entry: the keys before the lowest are those of at most `layer` layers and x transitions, so at most `ahead` entries follow
+pub record TakingKs (s C : List ℕ) (action start entries : ℕ) (before cells : List ℤ) (left at lowest nonzero : ℕ) : Type 0 where
+  pub layer : ℕ
+  pub x : ℕ
+  pub ahead : ℕ
+  pub key : lowest ≡ layer * 65536 + x
+  pub low : layer ≤ 2
+  pub few : x ≤ 256
+  pub follow : ahead + layer * 256 + x ≡ 768
+  pub whole : at + 7 * left ≤ length C
+  pub table : Counted cells nonzero
+  pub room : Room cells (4400 + 2 * ahead)
+  pub number : (q t : ℕ) → action ≡ automatonIn s .action q → kFault plainRule (automatonIn s) C q t left at lowest ≡ kFault plainRule (automatonIn s) C q t entries start 0
+  pub makesUp : tookKs s C left at cells ≡ tookKs s C entries start before
+
+pub ks-start : {s C : List ℕ} {count : ℕ} {places : List ℕ} {at entries : ℕ} {cells : List ℤ} {nonzero : ℕ} → CanTakeKs s C count places at entries cells nonzero → (action : ℕ) {place : ℕ} → place ≡ at → TakingKs s C action at entries cells cells entries place 0 nonzero
+ks-start {s} {C} {count} {places} {at} {entries} {cells} {nonzero} c action e =
+    subst (λ (p : ℕ). TakingKs s C action at entries cells cells entries p 0 nonzero) (sym e)
+    (record {
+      layer = 0;
+      x = 0;
+      ahead = 768;
+      key = refl;
+      low = omega arith;
+      few = omega arith;
+      follow = refl;
+      whole = c .whole;
+      table = c .table;
+      room = room-fewer (omega arith) (c .room);
+      number = λ q t a. refl;
+      makesUp = refl;
+    })
+
+-- the tests of one entry
+module _ (s C : List ℕ) {action count : ℕ} (left : ℕ) {at layer r k : ℕ} (known : automatonIn s .transitions ≡ count) (e : KRead C at layer r k) (q t : ℕ) (same-action : action ≡ automatonIn s .action q) where
+  key-is : layer * 65536 + r ≡ threeAt C at
+  unfolding threeAt
+  key-is = omega (arith, e .layer-is, e .transition-is)
+
+  asked-as : inQuestionOf action layer (automatonIn s .action r) ≡ plainInQuestion (automatonIn s) q (byteAt C at) (twoAt C (at + 1))
+  unfolding inQuestionOf plainInQuestion byKind
+  asked-as =
+      ap (λ (a : ℕ). inQuestionOf a layer (automatonIn s .action r)) same-action
+      ∙ ap (λ (l : ℕ). inQuestionOf (automatonIn s .action q) l (automatonIn s .action r)) (e .layer-is)
+      ∙ ap (λ (i : ℕ). inQuestionOf (automatonIn s .action q) (byteAt C at) (automatonIn s .action i)) (e .transition-is)
+
+  wrong-k : {lowest : ℕ} → WrongK count action lowest layer r k (inQuestionOf action layer (automatonIn s .action r)) → fault 19 ≡ kFault plainRule (automatonIn s) C q t (suc left) at lowest
+  unfolding kFault
+  wrong-k (unordered l) = less _ (omega (arith, key-is)) refl
+  wrong-k (absent l) = eitherLess (λ (f : Fault). fault 19 ≡ f) _ _ refl (notLess _ (omega (arith, known, e .transition-is)) refl)
+  wrong-k (unasked n) =
+      eitherLess (λ (f : Fault). fault 19 ≡ f) _ _ refl
+      (eitherLess (λ (f : Fault). fault 19 ≡ f) _ _ (isFalse _ (sym asked-as ∙ n) refl) refl)
+  wrong-k (nothing n) =
+      eitherLess (λ (f : Fault). fault 19 ≡ f) _ _ refl
+      (eitherLess (λ (f : Fault). fault 19 ≡ f) _ _
+      (eitherTrue (λ (f : Fault). fault 19 ≡ f) _ (notLess _ (omega (arith, e .k-is)) refl) refl)
+      refl)
+
+  right-k : {lowest : ℕ} → RightK count lowest layer r k (inQuestionOf action layer (automatonIn s .action r)) → kFault plainRule (automatonIn s) C q t left (at + 7) (layer * 65536 + r + 1) ≡ kFault plainRule (automatonIn s) C q t (suc left) at lowest
+  unfolding kFault
+  right-k w =
+      notLess _ (omega (arith, key-is, w .ordered))
+      (less _ (omega (arith, known, e .transition-is, w .present))
+      (isTrue _ (sym asked-as ∙ w .asked-is)
+      (less _ (omega (arith, e .k-is, w .some))
+      (ap (λ (key : ℕ). kFault plainRule (automatonIn s) C q t left (at + 7) (key + 1)) key-is))))
+
+module _ {s C : List ℕ} {action start entries : ℕ} {before cells : List ℤ} {count : ℕ} (known : automatonIn s .transitions ≡ count) where
+  -- an entry is refused, or can be taken
+  pub ks-refused : (left : ℕ) {at lowest nonzero layer r k : ℕ} {x : Taken} → TakingKs s C action start entries before cells left at lowest nonzero → 0 < left → KRead C at layer r k → WrongK count action lowest layer r k (inQuestionOf action layer (automatonIn s .action r)) → x .number ≡ 19 → TookKs s C action start entries before cells x
+  ks-refused zero h some e w n = absurd (omega arith)
+  ks-refused (suc left) h some e w n =
+      record {
+        number = λ q t a. ap fault n ∙ wrong-k s C left known e q t a w ∙ h .number q t a;
+        became = λ z. absurd (omega arith);
+        room = λ z. absurd (omega arith);
+      }
+
+  pub ks-asks : {left at lowest nonzero layer r k states : ℕ} {places : List ℕ} → TakingKs s C action start entries before cells left at lowest nonzero → KRead C at layer r k → Known s states count places → RightK count lowest layer r k (inQuestionOf action layer (automatonIn s .action r)) → CanTake s places r k cells nonzero
+  ks-asks {layer = layer} {r = r} h e m w =
+      record {
+        known = known-transition m (w .present);
+        small = e .small;
+        table = h .table;
+        room = room-fewer (omega (arith, h .key, h .low, h .few, h .follow, w .ordered, w .present, few-transitions m, layer-of action layer (automatonIn s .action r) (w .asked-is))) (h .room);
+      }
+
+  one-k : (left : ℕ) {at lowest nonzero layer r k states now : ℕ} {places : List ℕ} {after : List ℤ} → TakingKs s C action start entries before cells (suc left) at lowest nonzero → KRead C at layer r k → Known s states count places → RightK count lowest layer r k (inQuestionOf action layer (automatonIn s .action r)) → Became (tookK s layer r k cells) after now → TakingKs s C action start entries before after left (at + 7) (layer * 65536 + r + 1) now
+  unfolding tookKs
+  one-k left {at} {lowest} {nonzero} {layer} {r} {k} h e m w b =
+      let low = layer-of action layer (automatonIn s .action r) (w .asked-is) in
+      let rest : suc (suc (4400 + 2 * (768 - (layer * 256 + (r + 1))))) ≤ 4400 + 2 * h .ahead = omega (arith, h .key, h .low, h .few, h .follow, w .ordered, w .present, few-transitions m, low) in
+      record {
+        layer = layer;
+        x = r + 1;
+        ahead = 768 - (layer * 256 + (r + 1));
+        key = omega arith;
+        low = low;
+        few = omega (arith, w .present, few-transitions m);
+        follow = omega (arith, low, w .present, few-transitions m);
+        whole = omega (arith, h .whole);
+        table = b .counted;
+        room = subst (λ (x : List ℤ). Room x (4400 + 2 * (768 - (layer * 256 + (r + 1))))) (sym (b .same)) (took-room (ks-asks h e m w) layer (room-fewer rest (h .room)));
+        number = λ q t a. right-k s C left known e q t a w ∙ h .number q t a;
+        makesUp =
+            ap (tookKs s C left (at + 7))
+            (b .same
+            ∙ ap (λ (l : ℕ). tookK s l r k cells) (e .layer-is)
+            ∙ ap (λ (i : ℕ). tookK s (byteAt C at) i k cells) (e .transition-is)
+            ∙ ap (λ (m : ℕ). tookK s (byteAt C at) (twoAt C (at + 1)) m cells) (e .k-is))
+            ∙ h .makesUp;
+      }
+
+  pub ks-turn : (left : ℕ) {at next lowest above nonzero layer r k states now : ℕ} {places : List ℕ} {after : List ℤ} → TakingKs s C action start entries before cells left at lowest nonzero → 0 < left → KRead C at layer r k → Known s states count places → RightK count lowest layer r k (inQuestionOf action layer (automatonIn s .action r)) → Became (tookK s layer r k cells) after now → next ≡ at + 7 → above ≡ layer * 65536 + r + 1 → TakingKs s C action start entries before after (left - 1) next above now
+  ks-turn zero h some e m w b n p = absurd (omega arith)
+  ks-turn (suc left) {next = next} {above = above} {now = now} {after = after} h some e m w b n p =
+      let one : left ≡ suc left - 1 = omega arith in
+      subst (λ (j : ℕ). TakingKs s C action start entries before after j next above now) one
+      (subst₂ (λ (i l : ℕ). TakingKs s C action start entries before after left i l now) (sym n) (sym p) (one-k left h e m w b))
+
+pub ks-end : {s C : List ℕ} {action start entries : ℕ} {before cells : List ℤ} (left : ℕ) {at lowest nonzero : ℕ} {x : Taken} → TakingKs s C action start entries before cells left at lowest nonzero → left ≤ 0 → x .number ≡ 0 → x .nonzero ≡ nonzero → TookKs s C action start entries before cells x
+unfolding kFault tookKs
+ks-end {s} {C} {action} {start} {entries} {before} {cells} zero {x = x} h none z n =
+    record {
+      number = λ q t a. ap fault z ∙ h .number q t a;
+      became = λ y. subst (λ (m : ℕ). Became (tookKs s C entries start before) cells m) (sym n) (record { same = h .makesUp; counted = h .table });
+      room = λ y. room-fewer (omega arith) (h .room);
+    }
+ks-end (suc left) h none z n = absurd (omega arith)

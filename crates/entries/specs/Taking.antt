@@ -1,0 +1,95 @@
+-- What the entries of a flow change in the cells.
+use Prim.Native.Nat.{ℕ, zero, suc, _+_, _*_, _^_, _≤_, _<_}
+use mathlib.Core.Path.{_≡_}
+use mathlib.Core.Bool.{Bool, false}
+use mathlib.Core.List.{List}
+use lib.Dec.{eqb}
+use lib.ListN.{length}
+use lib.IntN.{ℤ, pos, negℤ}
+use Rattle.bisimulation.specs.Choice.{ifSame}
+use Rattle.bisimulation.specs.Automaton.{Automaton}
+use Rattle.bisimulation.specs.Pairs.{Pairs}
+use Rattle.rules.specs.Bytes.{byteAt, twoAt, fourAt}
+use Rattle.rules.specs.Certificate.{fault, kFault, wFault}
+use Rattle.rules.specs.PlainRule.{plainRule}
+use Rattle.pairs.specs.Rows.{HoldsPairs}
+use Rattle.transition.specs.Known.{automatonIn, Known, KnownTransition, entriesOf}
+use Rattle.cells.specs.Nonzero.{Counted, Became}
+use Rattle.cells.specs.Moving.{added, arrived, departed, Room}
+use Rattle.entries.specs.declared.Taken.{Taken}
+
+-- where the cells begin that a layer leads to, or that w leaves by the challenger's action
+unfoldable pub arrivalOf : ℕ → ℕ
+arrivalOf layer = ifSame layer 0 0 64
+
+-- where the cells begin that a layer leaves
+unfoldable pub departureOf : ℕ → ℕ
+departureOf layer = ifSame layer 2 64 0
+
+-- whether an entry is in the question, by the challenger's action, its layer and its action
+unfoldable pub inQuestionOf : (challenger layer action : ℕ) → Bool
+inQuestionOf challenger layer action =
+    ifSame layer 0 (eqb action 0)
+    (ifSame challenger 0 false
+    (ifSame layer 1 (eqb action challenger)
+    (ifSame layer 2 (eqb action 0)
+    false)))
+
+-- one k entry taken, and the entries left at a place
+unfoldable pub tookK : List ℕ → (layer r k : ℕ) → List ℤ → List ℤ
+tookK s layer r k cells =
+    departed (automatonIn s) r (negℤ (pos k)) (departureOf layer) (arrived (entriesOf s r) (pos k) (arrivalOf layer) cells)
+
+unfoldable pub tookKs : (s C : List ℕ) → (left at : ℕ) → List ℤ → List ℤ
+tookKs s C zero at cells = cells
+tookKs s C (suc left) at cells = tookKs s C left (at + 7) (tookK s (byteAt C at) (twoAt C (at + 1)) (fourAt C (at + 3)) cells)
+
+-- the w entries left at a place, each of which changes the cells
+unfoldable pub tookWs : List ℕ → ((v u w : ℕ) → List ℤ → List ℤ) → (left at : ℕ) → List ℤ → List ℤ
+tookWs C change zero at cells = cells
+tookWs C change (suc left) at cells = tookWs C change left (at + 6) (change (byteAt C at) (byteAt C (at + 1)) (fourAt C (at + 2)) cells)
+
+-- taken at v, and at u
+abbrev pub tookVs : List ℕ → (first left at : ℕ) → List ℤ → List ℤ
+tookVs C first = tookWs C (λ v u w cells. added cells (first + v) 1 (negℤ (pos w)))
+
+abbrev pub tookUs : List ℕ → (d left at : ℕ) → List ℤ → List ℤ
+tookUs C d = tookWs C (λ v u w target. added target u d (pos w))
+
+-- cells into which a k entry can be taken
+pub record CanTake (s places : List ℕ) (r k : ℕ) (cells : List ℤ) (nonzero : ℕ) : Type 0 where
+  pub known : KnownTransition s places r
+  pub small : k < 2 ^ 32
+  pub table : Counted cells nonzero
+  pub room : Room cells 2
+
+-- k entries that can be taken: they lie in the file, and the cells have room for every key once
+pub record CanTakeKs (s C : List ℕ) (count : ℕ) (places : List ℕ) (at entries : ℕ) (cells : List ℤ) (nonzero : ℕ) : Type 0 where
+  pub states : ℕ
+  pub known : Known s states count places
+  pub whole : at + 7 * entries ≤ length C
+  pub table : Counted cells nonzero
+  pub room : Room cells 6000
+
+-- the fault of the k entries, for each challenger with this action; where there is none they are taken
+pub record TookKs (s C : List ℕ) (action at entries : ℕ) (before cells : List ℤ) (r : Taken) : Type 0 where
+  pub number : (q t : ℕ) → action ≡ automatonIn s .action q → fault (r .number) ≡ kFault plainRule (automatonIn s) C q t entries at 0
+  pub became : r .number ≡ 0 → Became (tookKs s C entries at before) cells (r .nonzero)
+  pub room : r .number ≡ 0 → Room cells 4400
+
+-- w entries that can be taken
+pub record CanTakeWs (C : List ℕ) (at entries n d first : ℕ) (cells : List ℤ) (nonzero : ℕ) (target : List ℤ) (asked : ℕ) : Type 0 where
+  pub whole : at + 6 * entries ≤ length C
+  pub few : n ≤ 64
+  pub light : d < 65536
+  pub layer : first ≤ 64
+  pub table : Counted cells nonzero
+  pub room : Room cells 4400
+  pub targetTable : Counted target asked
+  pub targetRoom : Room target 4400
+
+-- the fault of the w entries, for the pairs that the rows hold; where there is none they are taken
+pub record TookWs (C : List ℕ) (at entries n : ℕ) (rows : List ℕ) (d first : ℕ) (before cells targetBefore target : List ℤ) (r : Taken) : Type 0 where
+  pub number : (A : Automaton) (R : Pairs) → A .states ≡ n → HoldsPairs n R rows → fault (r .number) ≡ wFault A C R entries at 0
+  pub became : r .number ≡ 0 → Became (tookVs C first entries at before) cells (r .nonzero)
+  pub targetBecame : r .number ≡ 0 → Became (tookUs C d entries at targetBefore) target (r .target)

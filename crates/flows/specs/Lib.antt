@@ -1,0 +1,5 @@
+pub mod Judged
+pub mod Runs
+pub mod RunsLaws
+pub mod Going
+pub mod GoingLaws

@@ -123,6 +123,16 @@ pastSame {z = z} r y a b n = go (eqb a b) refl
 pub false-not : false ≡ true → ⊥
 false-not e = subst (λ (t : Bool). cond t ⊥ (Unit {0})) e tt
 
+-- both tests hold exactly where each does
+pub both-true : (a b : Bool) → both a b ≡ true → (a ≡ true) × (b ≡ true)
+unfolding both
+both-true true b e = (refl, e)
+both-true false b e = absurd (false-not e)
+
+pub true-both : {a b : Bool} → a ≡ true → b ≡ true → both a b ≡ true
+unfolding both
+true-both p q = ap₂ (λ (x y : Bool). cond x y false) p q
+
 -- what holds of every number below n holds of each, and the other way round
 pub all-below : (n : ℕ) (f : ℕ → Bool) → allBelow n f ≡ true → (i : ℕ) → i < n → f i ≡ true
 unfolding allBelow

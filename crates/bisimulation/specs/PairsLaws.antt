@@ -5,15 +5,9 @@ use mathlib.Core.Bool.{Bool, true, false, cond}
 use lib.Dec.{eqb}
 use borrow.Author.Tests.{eq-eqb, eqb-true}
 use native.Mathlib.Omega.{arith}
-use Rattle.bisimulation.specs.Choice.{both}
+use Rattle.bisimulation.specs.ChoiceLaws.{both-true, true-both}
 use Rattle.bisimulation.specs.Automaton.{Automaton}
 use Rattle.bisimulation.specs.Pairs.{Pairs, equalLabels, isPair, removed}
-
--- both tests hold
-bothTrue : (a b : Bool) → both a b ≡ true → (a ≡ true) × (b ≡ true)
-unfolding both
-bothTrue true b e = (refl, e)
-bothTrue false b e = (e, cc)
 
 -- equal labels
 pub equalLabelsOf : (A : Automaton) (v u : ℕ) → A .label v ≡ A .label u → equalLabels A v u ≡ true
@@ -27,11 +21,11 @@ labelsEqual A v u e = eqb-true (A .label v) (A .label u) e
 -- what the test of a pair tells, and when it holds
 pub isPairTrue : (s t v u : ℕ) → isPair s t v u ≡ true → (v ≡ s) × (u ≡ t)
 unfolding isPair
-isPairTrue s t v u e = let b = bothTrue (eqb v s) (eqb u t) e in (eqb-true v s (b .0), eqb-true u t (b .1))
+isPairTrue s t v u e = let b = both-true (eqb v s) (eqb u t) e in (eqb-true v s (b .0), eqb-true u t (b .1))
 
 pub isPairOf : (s t v u : ℕ) → v ≡ s → u ≡ t → isPair s t v u ≡ true
-unfolding isPair both
-isPairOf s t v u e f = rw (eq-eqb v s e, eq-eqb u t f)
+unfolding isPair
+isPairOf s t v u e f = true-both (eq-eqb v s e) (eq-eqb u t f)
 
 -- (v,u) is neither (s,t) nor (t,s)
 pub record OtherPair (s t v u : ℕ) : Type 0 where

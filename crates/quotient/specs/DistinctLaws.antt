@@ -1,46 +1,17 @@
 -- Laws of the merged transitions, one more at a time.
 use Prim.Native.Nat.{ℕ, zero, suc, _+_, _≤_, _<_}
-use mathlib.Core.Path.{_≡_, refl, sym, _∙_, ap, ap₂, subst}
+use mathlib.Core.Path.{_≡_, refl, sym, _∙_, ap}
 use mathlib.Core.Bool.{Bool, true, false, cond}
 use mathlib.Core.List.{List, [], _∷_, _++_, append-assoc, append-nil}
-use lib.Dec.{eqb}
 use lib.ListN.{length, getD, take}
 use lib.Seq.{take-suc}
 use borrow.Author.Tests.{eqb-true, eq-eqb}
 use native.Mathlib.Omega.{arith}
-use Rattle.bisimulation.specs.Choice.{ifSame, ifTrue, both}
-use Rattle.bisimulation.specs.ChoiceLaws.{false-not}
-use Rattle.rules.specs.Model.{Entry, Transition, noTransition}
+use Rattle.bisimulation.specs.Choice.{ifSame, ifTrue}
+use Rattle.bisimulation.specs.ChoiceLaws.{false-not, both-true, true-both}
+use Rattle.rules.specs.Model.{Transition, noTransition}
 use Rattle.rules.specs.Quotient.{mergedTransition, fromBlock, sameEntries, sameTransition, isAmong, distinct, byBlock}
-
--- tests that hold
-both-true : (a b : Bool) → both a b ≡ true → (a ≡ true) × (b ≡ true)
-unfolding both
-both-true true true e = (refl, refl)
-both-true true false e = absurd (false-not e)
-both-true false b e = absurd (false-not e)
-
-true-both : {a b : Bool} → a ≡ true → b ≡ true → both a b ≡ true
-unfolding both
-true-both p q = ap₂ (λ (x y : Bool). cond x y false) p q
-
--- 'equal field by field'
-entries-same : (es fs : List Entry) → sameEntries es fs ≡ true → es ≡ fs
-unfolding sameEntries
-entries-same [] [] e = refl
-entries-same [] (f ∷ fs) e = absurd (false-not e)
-entries-same (x ∷ es) [] e = absurd (false-not e)
-entries-same (x ∷ es) (f ∷ fs) e =
-    let a = both-true _ _ e in
-    let b = both-true _ _ (a .1) in
-    ap₂ (λ (v : ℕ) (l : List Entry). record { state = v; weight = x .weight } ∷ l) (eqb-true _ _ (a .0)) (entries-same es fs (b .1))
-    ∙ ap (λ (w : ℕ). record { state = f .state; weight = w } ∷ fs) (eqb-true _ _ (b .0))
-
-same-entries : (es : List Entry) → sameEntries es es ≡ true
-unfolding sameEntries
-same-entries [] = refl
-same-entries (x ∷ es) =
-    true-both (eq-eqb (x .state) (x .state) refl) (true-both (eq-eqb (x .weight) (x .weight) refl) (same-entries es))
+use Rattle.repeated.specs.RepeatedLaws.{same-entries-one, one-same-entries}
 
 -- what is the same as the same is the same
 same-same : (t u v : Transition) → sameTransition t u ≡ true → sameTransition u v ≡ true → sameTransition t v ≡ true
@@ -52,7 +23,7 @@ same-same t u v p q =
     let d = both-true _ _ (c .1) in
     true-both (eq-eqb (t .action) (v .action) (eqb-true _ _ (a .0) ∙ eqb-true _ _ (c .0)))
     (true-both (eq-eqb (t .denominator) (v .denominator) (eqb-true _ _ (b .0) ∙ eqb-true _ _ (d .0)))
-    (ap (sameEntries (t .entries)) (sym (entries-same _ _ (b .1) ∙ entries-same _ _ (d .1))) ∙ same-entries (t .entries)))
+    (ap (sameEntries (t .entries)) (sym (same-entries-one _ _ (b .1) ∙ same-entries-one _ _ (d .1))) ∙ one-same-entries (t .entries)))
 
 among-same : (t x : Transition) (us : List Transition) → sameTransition t x ≡ true → isAmong x us ≡ true → isAmong t us ≡ true
 unfolding isAmong ifTrue

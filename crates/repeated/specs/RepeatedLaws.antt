@@ -7,8 +7,8 @@ use lib.ListN.{length, getD, take, drop, length-drop, length-append, take-append
 use lib.Seq.{length-take-le, getD-take, getD-drop, drop-drop, take-at, ext-getD}
 use borrow.Author.Tests.{eqb-true, eq-eqb, ne-eqb}
 use native.Mathlib.Omega.{arith}
-use Rattle.bisimulation.specs.Choice.{ifTrue, both}
-use Rattle.bisimulation.specs.ChoiceLaws.{isTrue, isFalse, keptTrue, false-not, all-below, below-all, not-all}
+use Rattle.bisimulation.specs.Choice.{ifTrue}
+use Rattle.bisimulation.specs.ChoiceLaws.{isTrue, isFalse, false-not, both-true, true-both, all-below, below-all, not-all}
 use Rattle.rules.specs.Bytes.{byteAt, twoBytes}
 use Rattle.rules.specs.BytesLaws.{past, past-all, first-byte, first-two}
 use Rattle.rules.specs.Model.{Entry, Transition, entriesBytes, transitionBytes, transitionsBytes}
@@ -46,52 +46,43 @@ module _ (s : List ℕ) (first second size : ℕ) where
   slices-same e =
       same-all (λ i less. sym (slice-byte first i less) ∙ ap (λ (l : List ℕ). getD l i 0) e ∙ slice-byte second i less)
 
--- tests that both hold
-both-hold : (a b : Bool) → both a b ≡ true → (a ≡ true) × (true ≡ b)
-unfolding both ifTrue
-both-hold a b e = keptTrue b false a (λ q. false-not (sym q)) (sym e)
-
-hold-both : {a b : Bool} → a ≡ true → b ≡ true → both a b ≡ true
-unfolding both ifTrue
-hold-both p q = sym (isTrue false p (sym q))
-
 -- entries that are the same field by field are one list, and the other way round
-same-entries-one : (es fs : List Entry) → sameEntries es fs ≡ true → es ≡ fs
+pub same-entries-one : (es fs : List Entry) → sameEntries es fs ≡ true → es ≡ fs
 unfolding sameEntries
 same-entries-one [] [] e = refl
 same-entries-one [] (f ∷ fs) e = absurd (false-not e)
 same-entries-one (x ∷ es) [] e = absurd (false-not e)
 same-entries-one (x ∷ es) (f ∷ fs) e =
-    let h = both-hold _ _ e in
-    let k = both-hold _ _ (sym (h .1)) in
+    let h = both-true _ _ e in
+    let k = both-true _ _ (h .1) in
     let state = eqb-true _ _ (h .0) in
     let weight = eqb-true _ _ (k .0) in
-    let rest = same-entries-one es fs (sym (k .1)) in
+    let rest = same-entries-one es fs (k .1) in
     λ i. record { state = state i; weight = weight i } ∷ rest i
 
-one-same-entries : (es : List Entry) → sameEntries es es ≡ true
+pub one-same-entries : (es : List Entry) → sameEntries es es ≡ true
 unfolding sameEntries
 one-same-entries [] = refl
 one-same-entries (e ∷ es) =
-    hold-both (eq-eqb (e .state) (e .state) refl) (hold-both (eq-eqb (e .weight) (e .weight) refl) (one-same-entries es))
+    true-both (eq-eqb (e .state) (e .state) refl) (true-both (eq-eqb (e .weight) (e .weight) refl) (one-same-entries es))
 
 -- so are transitions of one source
 same-one : (t u : Transition) → u .source ≡ t .source → sameTransition t u ≡ true → t ≡ u
 unfolding sameTransition
 same-one t u from e =
-    let h = both-hold _ _ e in
-    let k = both-hold _ _ (sym (h .1)) in
+    let h = both-true _ _ e in
+    let k = both-true _ _ (h .1) in
     let action = eqb-true _ _ (h .0) in
     let denominator = eqb-true _ _ (k .0) in
-    let entries = same-entries-one (t .entries) (u .entries) (sym (k .1)) in
+    let entries = same-entries-one (t .entries) (u .entries) (k .1) in
     λ i. record { source = sym from i; action = action i; denominator = denominator i; entries = entries i }
 
 one-same : {t u : Transition} → t ≡ u → sameTransition t u ≡ true
 unfolding sameTransition
 one-same {t} e =
     subst (λ (u : Transition). sameTransition t u ≡ true) e
-    (hold-both (eq-eqb (t .action) (t .action) refl)
-    (hold-both (eq-eqb (t .denominator) (t .denominator) refl) (one-same-entries (t .entries))))
+    (true-both (eq-eqb (t .action) (t .action) refl)
+    (true-both (eq-eqb (t .denominator) (t .denominator) refl) (one-same-entries (t .entries))))
 
 -- the transition whose record stands at a place is the one that is read there
 module _ (s : List ℕ) where

@@ -1,7 +1,6 @@
 -- Demand 3 holds, for every step rule whose tests decide what it says and whose theory covers it; so for document 01's own.
 use Prim.Native.Nat.{ℕ}
-use mathlib.Core.Path.{_≡_, refl, sym, _∙_, ap₂, subst}
-use mathlib.Core.Bool.{Bool, true, false, cond}
+use mathlib.Core.Path.{_≡_, sym, _∙_, subst}
 use mathlib.Core.Logic.{_↔_}
 use mathlib.Core.List.{List}
 use lib.Dec.{ltb, eqb}
@@ -9,7 +8,7 @@ use lib.ListN.{length, getD}
 use borrow.Author.Tests.{lt-ltb, ltb-true, eq-eqb, eqb-true}
 use native.Mathlib.Omega.{arith}
 use Rattle.bisimulation.specs.Choice.{both}
-use Rattle.bisimulation.specs.ChoiceLaws.{false-not}
+use Rattle.bisimulation.specs.ChoiceLaws.{both-true, true-both}
 use Rattle.bisimulation.specs.StepRule.{Met}
 use Rattle.bisimulation.specs.Pairs.{Pairs}
 use Rattle.bisimulation.specs.Largest.{LargestBisimulation, Links}
@@ -118,16 +117,6 @@ plain-whole bytes C blocks b c a =
 -- lying in one block as a set of pairs
 abbrev inOneBlock : List ℕ → Pairs
 inOneBlock blocks s t = both (both (ltb s (length blocks)) (ltb t (length blocks))) (eqb (getD blocks s 0) (getD blocks t 0))
-
-both-true : (a b : Bool) → both a b ≡ true → (a ≡ true) × (b ≡ true)
-unfolding both
-both-true true true e = (refl, refl)
-both-true true false e = absurd (false-not e)
-both-true false b e = absurd (false-not e)
-
-true-both : {a b : Bool} → a ≡ true → b ≡ true → both a b ≡ true
-unfolding both
-true-both {a} {b} p q = ap₂ (λ (x y : Bool). cond x y false) p q
 
 in-one-block : (blocks : List ℕ) (s t : ℕ) → Links (inOneBlock blocks) s t ↔ InOneBlock blocks s t
 in-one-block blocks s t = (

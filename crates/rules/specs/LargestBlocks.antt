@@ -11,7 +11,7 @@ use borrow.Author.Tests.{eqb-true}
 use native.Mathlib.Omega.{arith}
 use native.Mathlib.Decide.{decLt}
 use Rattle.bisimulation.specs.Choice.{ifTrue, both}
-use Rattle.bisimulation.specs.ChoiceLaws.{same, false-not}
+use Rattle.bisimulation.specs.ChoiceLaws.{same, both-true}
 use Rattle.bisimulation.specs.Automaton.{Automaton, SoundAutomaton}
 use Rattle.bisimulation.specs.Pairs.{Pairs, equalLabels}
 use Rattle.bisimulation.specs.Largest.{LargestBisimulation}
@@ -82,11 +82,6 @@ module _ (rule : Rule) (says : RuleSays) (theory : Covers rule says) (A : Automa
           theory .meets A (k .left) (InOneBlock (K .blocks)) (ask q t) (a .f) (a .good) (shared .shared)
 
 -- an entry whose k or w is not 0 is in the record, and so is good
-both-true : (a b : Bool) → both a b ≡ true → (a ≡ true) × (b ≡ true)
-unfolding both
-both-true true b e = (refl, e)
-both-true false b e = absurd (false-not e)
-
 pub k-allowed : (says : RuleSays) (A : Automaton) (q t : ℕ) (es : List KEntry) → Each (GoodK says A q t) es → (layer r : ℕ) → 0 < kIn es layer r → says .inQuestion A q t layer r
 unfolding kIn Each ifTrue
 k-allowed says A q t [] g layer r h = absurd (omega arith)

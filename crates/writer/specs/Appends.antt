@@ -13,6 +13,10 @@ pub record Appends (bytes : List ℕ) (at : ℕ) (before after : List ℕ) (next
   pub size : length after ≡ length before
   pub written : after ≡ take at before ++ (bytes ++ drop next before)
 
+-- a mark, two fields of one byte and one of two
+abbrev pub startBytes : (mark first second third : ℕ) → List ℕ
+startBytes mark first second third = twoBytes mark ++ (first ∷ second ∷ twoBytes third)
+
 -- 'transition, 54 52, source 1, action 1, d 2, entry count c 1'
 abbrev pub fixedBytes : (source action denominator count : ℕ) → List ℕ
 fixedBytes source action denominator count = 0x54 ∷ 0x52 ∷ source ∷ action ∷ (twoBytes denominator ++ (count ∷ []))

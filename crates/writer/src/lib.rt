@@ -4,7 +4,7 @@ ghost use Prim.Native.Nat.{_+_, _≤_, _<_};
 ghost use lib.ListN.{length};
 ghost use mathlib.Core.List.{[], _∷_};
 ghost use Rattle.rules.specs.Bytes.{twoBytes};
-ghost use Rattle.writer.specs.Appends.{Appends, fixedBytes, headBytesOf, CanWriteModel, WritesModel};
+ghost use Rattle.writer.specs.Appends.{Appends, startBytes, fixedBytes, headBytesOf, CanWriteModel, WritesModel};
 
 // A field of one byte.
 pub fn byte(out: &mut [u8], at: usize, x: usize) -> usize
@@ -33,6 +33,17 @@ pub fn entry(out: &mut [u8], at: usize, state: usize, weight: usize) -> usize
     pair(out, next, weight)
 }
 
+// What a head and a transition start with: the mark, two fields of one byte and one of two.
+fn start(out: &mut [u8], at: usize, mark: usize, first: usize, second: usize, third: usize) -> usize
+    requires { ⌜ (at + 6 ≤ length (now out)) × (mark < 65536) × (first < 256) × (second < 256) × (third < 65536) ⌝ }
+    ensures { λ r. ⌜ Appends (startBytes mark first second third) at (now (out .entry)) (now (out .exit)) r ⌝ }
+{
+    let fields = pair(out, at, mark);
+    let middle = byte(out, fields, first);
+    let last = byte(out, middle, second);
+    pair(out, last, third)
+}
+
 // The fixed fields of a transition with so many entries.
 pub fn fixed(
     out: &mut [u8],
@@ -45,11 +56,8 @@ pub fn fixed(
     requires { ⌜ (at + 7 ≤ length (now out)) × (source < 256) × (action < 256) × (denominator < 65536) × (count < 256) ⌝ }
     ensures { λ r. ⌜ Appends (fixedBytes source action denominator count) at (now (out .entry)) (now (out .exit)) r ⌝ }
 {
-    let mark = pair(out, at, 0x5452);
-    let first = byte(out, mark, source);
-    let second = byte(out, first, action);
-    let third = pair(out, second, denominator);
-    byte(out, third, count)
+    let next = start(out, at, 0x5452, source, action, denominator);
+    byte(out, next, count)
 }
 
 // The head, and the mark of the labels.
@@ -57,11 +65,8 @@ pub fn head(out: &mut [u8], n: usize, m: usize, count: usize) -> usize
     requires { ⌜ (8 ≤ length (now out)) × (n < 256) × (m < 256) × (count < 65536) ⌝ }
     ensures { λ r. ⌜ Appends (headBytesOf n m count) 0 (now (out .entry)) (now (out .exit)) r ⌝ }
 {
-    let mark = pair(out, 0, 0x5041);
-    let states = byte(out, mark, n);
-    let actions = byte(out, states, m);
-    let transitions = pair(out, actions, count);
-    pair(out, transitions, 0x4C42)
+    let next = start(out, 0, 0x5041, n, m, count);
+    pair(out, next, 0x4C42)
 }
 
 // Bytes that stand elsewhere.

@@ -1,49 +1,23 @@
--- `head` meets its contract: each field stands behind the one before it.
-use native.Mathlib.Omega.{arith}
+-- `head` meets its contract.
 use Rattle.rules.specs.Bytes.{twoBytes}
 use Rattle.writer.specs.AppendsLaws.{append-more}
 use borrow.Author.Needs.{needs}
 use Rattle.writer.proofs.head.Statement.{statement}
 use Rattle.writer.proofs.head.Tie as tie
 
+start-requires : tie.Need-start-requires
+start-requires c κs = search needs
+
 pair-requires : tie.Need-pair-requires
+unfolding twoBytes
 pair-requires c κs = search needs
-
-byte-requires : tie.Need-byte-requires
-unfolding twoBytes
-byte-requires c κs =
-    (omega (arith, c .before .before .before .pair .ensures), omega (arith, c .before .before .before .before .before .before .pre))
-
-byte-requires-2 : tie.Need-byte-requires-2
-unfolding twoBytes
-byte-requires-2 c κs =
-    (omega (arith, c .before .before .before .byte .ensures, c .before .before .before .before .before .before .before .pair .ensures), omega (arith, c .before .before .before .before .before .before .before .before .before .before .pre))
-
-pair-requires-2 : tie.Need-pair-requires-2
-unfolding twoBytes
-pair-requires-2 c κs =
-    (omega (arith, c .before .before .before .byte2 .ensures, c .before .before .before .before .before .before .before .byte .ensures, c .before .before .before .before .before .before .before .before .before .before .before .pair .ensures), omega (arith, c .before .before .before .before .before .before .before .before .before .before .before .before .before .before .pre))
-
-pair-requires-3 : tie.Need-pair-requires-3
-unfolding twoBytes
-pair-requires-3 c κs =
-    (omega (arith, c .before .before .before .pair2 .ensures, c .before .before .before .before .before .before .before .byte2 .ensures, c .before .before .before .before .before .before .before .before .before .before .before .byte .ensures, c .before .before .before .before .before .before .before .before .before .before .before .before .before .before .before .pair .ensures), omega (arith, c .before .before .before .before .before .before .before .before .before .before .before .before .before .before .before .before .before .before .pre))
 
 same-length : tie.Need-same-length
 same-length c = search needs
 
 returns : tie.Need-returns
 unfolding twoBytes
-returns c = append-more (c .before .before .before .before .before .before .before .before .before .before .before .before .before .before .before .before .before .before .pair .ensures) (append-more (c .before .before .before .before .before .before .before .before .before .before .before .before .before .before .byte .ensures) (append-more (c .before .before .before .before .before .before .before .before .before .before .byte2 .ensures) (append-more (c .before .before .before .before .before .before .pair2 .ensures) (c .before .before .pair3 .ensures))))
+returns c = append-more (c .before .before .before .before .before .before .start .ensures) (c .before .before .pair .ensures)
 
 pub head-spec : {M : Type 1} → statement M
-head-spec =
-    tie.close
-    (tie.spec
-    pair-requires
-    byte-requires
-    byte-requires-2
-    pair-requires-2
-    pair-requires-3
-    same-length
-    returns)
+head-spec = tie.close (tie.spec start-requires pair-requires same-length returns)

@@ -1,5 +1,4 @@
 -- `write_model` meets its contract: each record stands behind the one before it.
-use native.Mathlib.Omega.{arith}
 use mathlib.Core.Path.{refl}
 use Rattle.rules.specs.Bytes.{twoBytes}
 use Rattle.writer.specs.AppendsLaws.{append-model}
@@ -12,11 +11,11 @@ head-requires c κs = search needs
 
 part-requires : tie.Need-part-requires
 unfolding twoBytes
-part-requires c κs = omega (arith, c .before .before .before .head .ensures .place, c .before .before .before .head .ensures .size, c .before .before .before .before .before .before .before .before .pre .room)
+part-requires c κs = search needs
 
 part-requires-2 : tie.Need-part-requires-2
 unfolding twoBytes
-part-requires-2 c κs = omega (arith, c .before .before .before .part .ensures .place, c .before .before .before .part .ensures .size, c .before .before .before .before .before .before .before .head .ensures .place, c .before .before .before .before .before .before .before .head .ensures .size, c .before .before .before .before .before .before .before .before .before .before .before .before .pre .room)
+part-requires-2 c κs = search needs
 
 same-length : tie.Need-same-length
 same-length c = search needs

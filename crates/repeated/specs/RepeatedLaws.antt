@@ -6,6 +6,7 @@ use mathlib.Core.List.{List, [], _∷_, _++_, append-assoc}
 use lib.ListN.{length, getD, take, drop, length-drop, length-append, take-append-drop}
 use lib.Seq.{length-take-le, getD-take, getD-drop, drop-drop, take-at, ext-getD}
 use borrow.Author.Tests.{eqb-true, eq-eqb, ne-eqb}
+use native.Mathlib.Decide.{ℕ-discrete}
 use native.Mathlib.Omega.{arith}
 use Rattle.bisimulation.specs.Choice.{ifTrue}
 use Rattle.bisimulation.specs.ChoiceLaws.{isTrue, isFalse, false-not, both-true, true-both, all-below, below-all, not-all}
@@ -18,7 +19,15 @@ use Rattle.rules.specs.Quotient.{sameEntries, sameTransition, isAmong}
 use Rattle.rules.specs.ReadBack.{transitionBytes-length}
 use Rattle.repeated.specs.Repeated.{Fits, FitsFrom, StandAs, Stand, IsRepeated, sameBytes}
 
--- bytes are compared up to the first two that differ
+-- what holds from a number on, and at the number before it, holds from there on
+pub from-more : {P : ℕ → Type 0} (left size i : ℕ) → i + 1 ≡ left → ((j : ℕ) → left ≤ j → j < size → P j) → P i → (j : ℕ) → i ≤ j → j < size → P j
+from-more {P} left size i e h p j from less = go (ℕ-discrete j i)
+  where
+    go : Dec (j ≡ i) → P j
+    go (yes q) = subst P (sym q) p
+    go (no q) = h j (omega arith) less
+
+-- bytes are compared until two differ
 module _ (s : List ℕ) (first second size : ℕ) where
   pub same-all : ((i : ℕ) → i < size → getD s (first + i) 0 ≡ getD s (second + i) 0) → true ≡ sameBytes s first second size
   unfolding sameBytes byteAt

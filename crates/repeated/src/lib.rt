@@ -5,17 +5,18 @@ ghost use mathlib.Core.Path.{_≡_};
 ghost use Rattle.rules.specs.Reading.{afterTransition};
 ghost use Rattle.repeated.specs.Repeated.{Stand, IsRepeated, sameBytes};
 
-// The bytes at two places are the same, so many of them.
+// The bytes at two places are the same, so many of them. Compared from the last on: records with one d that differ do so in a weight
+// or a state near their end.
 fn same_bytes(s: &[u8], first: usize, second: usize, size: usize) -> bool
     requires { ⌜ (first + size ≤ length (now s)) × (second + size ≤ length (now s)) ⌝ }
     ensures { λ r. ⌜ r ≡ sameBytes (now (s .entry)) first second size ⌝ }
 {
-    let mut i = 0;
-    while i < size {
-        if s[first + i] != s[second + i] {
+    let mut left = size;
+    while 0 < left {
+        left -= 1;
+        if s[first + left] != s[second + left] {
             return false;
         }
-        i += 1;
     }
     true
 }

@@ -3,7 +3,7 @@ ghost use Prim.Native.Nat.{_+_, _≤_};
 ghost use lib.ListN.{length};
 ghost use mathlib.Core.Path.{_≡_};
 ghost use Rattle.rules.specs.Limits.{limits};
-ghost use Rattle.rules.specs.Reading.{statesOf, scanTransitions, scanModel, scanWhole};
+ghost use Rattle.rules.specs.Reading.{headFault, statesOf, scanTransitions, scanModel, scanWhole};
 ghost use Rattle.model.specs.Scanned.{Scans};
 
 // The place of each transition in the model file, and after them the place where the records end.
@@ -59,18 +59,12 @@ fn scan_transitions(s: &[u8], n: usize, m: usize, count: usize, places: &mut Pla
     })
 }
 
-// Refusals 1 to 8, or a sound model with the place of each of its transitions.
+// Refusals 1 to 8 from the labels on, or a sound model with the place of each of its transitions. The caller has judged the head, before
+// it makes the table: most of what a refusal at the head costs is a cleared table.
 pub fn scan_model(s: &[u8], places: &mut Places) -> Scanned
-    requires { ⌜ length (now places) ≡ 257 ⌝ }
+    requires { ⌜ (length (now places) ≡ 257) × (headFault limits (now s) ≡ 0) ⌝ }
     ensures { λ r. ⌜ Scans (now (s .entry)) (scanModel limits (now (s .entry))) r (now (places .exit)) ⌝ }
 {
-    let fault = record::head_fault(s);
-    if fault != 0 {
-        return Scanned::Refused {
-            number: fault,
-            place: 0,
-        };
-    }
     let head = record::head_at(s);
     let labels = record::labels_fault(s, head.states);
     if labels != 0 {
@@ -82,9 +76,9 @@ pub fn scan_model(s: &[u8], places: &mut Places) -> Scanned
     scan_transitions(s, head.states, head.actions, head.transitions, places)
 }
 
-// Refusals 1 to 9, or a sound model that fills the file.
+// Refusals 1 to 9 from the labels on, or a sound model that fills the file.
 pub fn scan_whole(s: &[u8], places: &mut Places) -> Scanned
-    requires { ⌜ length (now places) ≡ 257 ⌝ }
+    requires { ⌜ (length (now places) ≡ 257) × (headFault limits (now s) ≡ 0) ⌝ }
     ensures { λ r. ⌜ Scans (now (s .entry)) (scanWhole limits (now (s .entry))) r (now (places .exit)) ⌝ }
 {
     let scanned = scan_model(s, places);

@@ -84,6 +84,20 @@ module _ (M C buffer : List ℕ) where
       go (model N end) j h = eitherLess (λ (o : Outcome). numberOf o ≤ 22) (length buffer) (length (N .labels)) short (small j h)
       go (noModel k place) j h = small j h
 
+  -- a refusal leaves the buffer as it was
+  pub outcome-unwritten : (numberOf (judgeOutcome limits plainRule M C buffer) ≡ 0 → ⊥) → judgeOutcome limits plainRule M C buffer .buffer ≡ buffer
+  unfolding judgeOutcome judgeReadingOutcome blocksOutcome unwritten filled answerWithoutPlace
+  outcome-unwritten n = by-reading-kept (readWhole limits M) (judge limits plainRule M C) n
+    where
+      stays : (j : Judgement) → (numberOf (blocksOutcome M C buffer j) ≡ 0 → ⊥) → blocksOutcome M C buffer j .buffer ≡ buffer
+      stays (accepted blocks) n = absurd (n refl)
+      stays (rejected f k place) n = refl
+
+      by-reading-kept : (r : Reading) (j : Judgement) → (numberOf (judgeReadingOutcome M C buffer r j) ≡ 0 → ⊥) → judgeReadingOutcome M C buffer r j .buffer ≡ buffer
+      by-reading-kept (model N end) j n =
+          eitherLess (λ (o : Outcome). (numberOf o ≡ 0 → ⊥) → o .buffer ≡ buffer) (length buffer) (length (N .labels)) (λ _. refl) (stays j) n
+      by-reading-kept (noModel k place) j n = stays j n
+
   ten-not : numberOf (unwritten (answerWithoutPlace 10 0) buffer) ≡ 0 → ⊥
   unfolding unwritten answerWithoutPlace
   ten-not e = omega arith

@@ -41,5 +41,6 @@ pub mod EntryPrices
 pub mod FetchedRun
 pub mod Cases
 pub mod MoreCases
+pub mod MergedCases
 pub mod JudgeOutcome
 pub mod ReduceOutcome

@@ -108,6 +108,11 @@ pub refuse-passes : {x f : ℕ} (place : ℕ) {z next : Scan} → x ≡ f → x 
 unfolding refuseAt
 refuse-passes {f = f} place e h q = same (refused f place) (sym e ∙ h) q
 
+-- a fault of the head is the file's
+pub head-stops : (L : Limits) (s : List ℕ) {x : ℕ} → x ≡ headFault L s → (x ≡ 0 → ⊥) → refused x 0 ≡ scanWhole L s
+unfolding scanWhole scanModel refuseBytesLeft
+head-stops L s {x} e h = subst (λ (scan : Scan). refused x 0 ≡ refuseBytesLeft s scan) (refuse-stops _ 0 _ e h) refl
+
 -- no first fault: neither of the two is one
 pub firstFault-none : (f next : ℕ) → 0 ≡ firstFault f next → (0 ≡ f) × (0 ≡ next)
 unfolding firstFault ifSame

@@ -102,6 +102,16 @@ module _ (M C buffer : List ℕ) where
           unfold quotientOutcome unwritten rejection refusalIn ReduceNumber in
           ⊎-elim (λ (x : (1 ≤ f .number) × (f .number ≤ 9)). inl (x .1)) (λ (x : (11 ≤ f .number) × (f .number ≤ 22)). inr (x .0, omega (arith, x .1))) (h .number)
 
+  -- a refusal leaves the buffer as it was
+  pub reduce-unwritten : (numberOf (reduceOutcome limits plainRule M C buffer) ≡ 0 → ⊥) → reduceOutcome limits plainRule M C buffer .buffer ≡ buffer
+  unfolding reduceOutcome quotientOutcome mergedOutcome unwritten filled answerWithoutPlace
+  reduce-unwritten n = stays (judge limits plainRule M C) n
+    where
+      stays : (j : Judgement) → (numberOf (quotientOutcome M C buffer (modelAt M) j) ≡ 0 → ⊥) → quotientOutcome M C buffer (modelAt M) j .buffer ≡ buffer
+      stays (accepted blocks) n =
+          eitherLess (λ (o : Outcome). (numberOf o ≡ 0 → ⊥) → o .buffer ≡ buffer) (length buffer) (length (mergedFile (modelAt M) blocks)) (λ _. refl) (λ m. absurd (m refl)) n
+      stays (rejected f k place) n = refl
+
   -- where it is 0 or 23 the certificate is accepted
   pub reduce-found : (numberOf (reduceOutcome limits plainRule M C buffer) ≡ 0) ⊎ (numberOf (reduceOutcome limits plainRule M C buffer) ≡ 23) → AcceptedModel limits plainRule M C
   reduce-found z = by-reading (readWhole limits M) refl

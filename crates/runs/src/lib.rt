@@ -55,6 +55,13 @@ pub enum Fetched {
 pub fn fetch_run(s: &[u8], state: usize) -> Fetched
     ensures { λ r. ⌜ answerOf (now (s .entry)) r ≡ fetchAnswer limits (now (s .entry)) state ⌝ }
 {
+    let wrong = record::head_fault(s);
+    if wrong != 0 {
+        return Fetched::Unsound {
+            number: wrong,
+            place: 0,
+        };
+    }
     let mut places = model::no_places();
     let scanned = model::scan_whole(s, &mut places);
     match scanned {

@@ -37,12 +37,17 @@ pub record FetchAnswered (model : List ℕ) (state : ℕ) (r : Answer) : Type 0 
   pub answer : answered r ≡ fetchAnswer limits model state
   pub number : FetchNumber (r .number)
 
--- the same with the run or stretch handed back as a part of the model
-pub record FetchHandedBack (model : List ℕ) (state : ℕ) (number file place : ℕ) (part : List ℕ) : Type 0 where
+-- where the part of a slice lies in memory that begins so many bytes after the slice: a block and an offset
+abbrev pub partFrom : ℕ × ℕ → ℕ → ℕ × ℕ
+partFrom slice start = (slice .0, start + slice .1)
+
+-- the same with the run or stretch handed back as a part of the model, which lies where `slice` says
+pub record FetchHandedBack (model : List ℕ) (slice : ℕ × ℕ) (state : ℕ) (number file place : ℕ) (part : List ℕ) (lying : ℕ × ℕ) : Type 0 where
   pub numbered : number ≡ fetchAnswer limits model state .number
   pub filed : file ≡ fetchAnswer limits model state .file
   pub placed : place ≡ fetchAnswer limits model state .place
   pub handed : part ≡ stretchIn model (fetchAnswer limits model state)
+  pub lies : lying ≡ partFrom slice (fetchAnswer limits model state .stretchStart)
   pub known : FetchNumber number
 
 -- the stretch of an answer lies in its file
@@ -55,12 +60,17 @@ pub record OutcomeIs (o : Outcome) (model certificate after : List ℕ) (r : Ans
   pub buffer : after ≡ o .buffer
   pub inside : StretchInside model certificate r
 
--- the same with the stretch handed back as a part of the file that holds the record at fault
-pub record HandedBack (o : Outcome) (model certificate after : List ℕ) (number file place : ℕ) (part : List ℕ) : Type 0 where
+-- where a file lies, and there the model where no file is at fault
+abbrev pub sliceOf : ℕ × ℕ → ℕ × ℕ → ℕ → ℕ × ℕ
+sliceOf modelSlice certificateSlice file = ifSame file 2 certificateSlice modelSlice
+
+-- the same with the stretch handed back as a part of the file that holds the record at fault; the files lie where the slices say
+pub record HandedBack (o : Outcome) (model certificate after : List ℕ) (modelSlice certificateSlice : ℕ × ℕ) (number file place : ℕ) (part : List ℕ) (lying : ℕ × ℕ) : Type 0 where
   pub numbered : number ≡ o .answer .number
   pub filed : file ≡ o .answer .file
   pub placed : place ≡ o .answer .place
   pub handed : part ≡ stretchOf model certificate (o .answer)
+  pub lies : lying ≡ partFrom (sliceOf modelSlice certificateSlice (o .answer .file)) (o .answer .stretchStart)
   pub buffer : after ≡ o .buffer
 
 -- demand 3 of blocks: lying in one of them is the largest relation, and a certificate accepted for a model file that holds the same
@@ -75,7 +85,11 @@ pub record Demands (model certificate before after : List ℕ) (number : ℕ) : 
   pub known : JudgeNumber number
   -- demand 2: it is 0 exactly when the certificate keeps every rule on a sound model and the buffer is long enough
   pub accepts : (number ≡ 0) ↔ ((blocks : List ℕ) × Accepted limits plainSays 0x4354 model certificate blocks × (length blocks ≤ length before))
-  -- demand 3: then it holds of the bytes now in the buffer
+  -- then the buffer begins with the blocks, and is as before behind them
+  pub blocks : number ≡ 0 → (blocks : List ℕ) → Accepted limits plainSays 0x4354 model certificate blocks → after ≡ blocks ++ drop (length blocks) before
+  -- demand 1: a refusal leaves the buffer as it was
+  pub unwritten : (number ≡ 0 → ⊥) → after ≡ before
+  -- demand 3: where it is 0 it holds of the bytes now in the buffer
   pub largest : number ≡ 0 → LargestOf model (take (statesOf model) after)
 
 -- judging answers what document 01 says, number, file, place and stretch, and leaves in the block buffer what it says
@@ -84,8 +98,8 @@ pub record JudgeAnswered (model certificate before after : List ℕ) (r : Answer
   pub demands : Demands model certificate before after (r .number)
 
 -- the same with the stretch handed back as a part of its file
-pub record JudgeHandedBack (model certificate before after : List ℕ) (number file place : ℕ) (part : List ℕ) : Type 0 where
-  pub outcome : HandedBack (judgeOutcome limits plainRule model certificate before) model certificate after number file place part
+pub record JudgeHandedBack (model certificate before after : List ℕ) (modelSlice certificateSlice : ℕ × ℕ) (number file place : ℕ) (part : List ℕ) (lying : ℕ × ℕ) : Type 0 where
+  pub outcome : HandedBack (judgeOutcome limits plainRule model certificate before) model certificate after modelSlice certificateSlice number file place part lying
   pub demands : Demands model certificate before after number
 
 -- the certificate keeps every rule on the sound model M of these bytes, with these blocks
@@ -103,6 +117,8 @@ pub record ReduceDemands (model certificate before after : List ℕ) (number : �
   pub short : (number ≡ 23) ↔ ((M : Model) × (blocks : List ℕ) × KeepsRulesOn model certificate M blocks × (length before < length (mergedFile M blocks)))
   -- where it is 0 the buffer begins with that file, and is as before behind it
   pub file : number ≡ 0 → (M : Model) (blocks : List ℕ) → KeepsRulesOn model certificate M blocks → after ≡ mergedFile M blocks ++ drop (length (mergedFile M blocks)) before
+  -- demand 1: a refusal leaves the buffer as it was
+  pub unwritten : (number ≡ 0 → ⊥) → after ≡ before
   -- demand 3, where it is 0 and where it is 23
   pub largest : (number ≡ 0) ⊎ (number ≡ 23) → (M : Model) (blocks : List ℕ) → KeepsRulesOn model certificate M blocks → LargestOf model blocks
 
@@ -112,7 +128,7 @@ pub record ReduceAnswered (model certificate before after : List ℕ) (r : Answe
   pub demands : ReduceDemands model certificate before after (r .number)
 
 -- the same with the stretch handed back as a part of its file
-pub record ReduceHandedBack (model certificate before after : List ℕ) (number file place written : ℕ) (part : List ℕ) : Type 0 where
-  pub outcome : HandedBack (reduceOutcome limits plainRule model certificate before) model certificate after number file place part
+pub record ReduceHandedBack (model certificate before after : List ℕ) (modelSlice certificateSlice : ℕ × ℕ) (number file place written : ℕ) (part : List ℕ) (lying : ℕ × ℕ) : Type 0 where
+  pub outcome : HandedBack (reduceOutcome limits plainRule model certificate before) model certificate after modelSlice certificateSlice number file place part lying
   pub wrote : written ≡ reduceOutcome limits plainRule model certificate before .answer .written
   pub demands : ReduceDemands model certificate before after number

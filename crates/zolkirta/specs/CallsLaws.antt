@@ -13,7 +13,7 @@ use Rattle.rules.specs.Reading.{statesOf}
 use Rattle.rules.specs.SoundModel.{Bytes}
 use Rattle.rules.specs.PlainRule.{plainRule}
 use Rattle.rules.specs.PlainSays.{plainSays}
-use Rattle.rules.specs.Judging.{AcceptedFor, NameSameBlocks}
+use Rattle.rules.specs.Judging.{AcceptedFor, NameSameBlocks, accepted}
 use Rattle.rules.specs.Accepted.{Accepted}
 use Rattle.rules.specs.Demand3.{HoldsModel, LargestBlocks, LargestBlockPairs}
 use Rattle.rules.specs.Demand3Holds.{plain-accepted, plain-demand3, plain-largest-pairs, plain-whole}
@@ -21,9 +21,13 @@ use Rattle.rules.specs.AnswerLaws.{read-states}
 use Rattle.rules.specs.Quotient.{mergedFile}
 use Rattle.rules.specs.QuotientHolds.{plain-holds, itself}
 use Rattle.rules.specs.Answers.{Answer, Outcome, filled, mergedOutcome, JudgeNumber, ReduceNumber, judgeOutcome, reduceOutcome}
-use Rattle.rules.specs.JudgeOutcome.{AcceptedModel, AnsweredZero, outcome-number, answered-zero, zero-answered}
-use Rattle.rules.specs.ReduceOutcome.{file-fits, fits-zero, short-told, zero-fits, told-short, reduce-told, reduce-number, reduce-found}
+use Rattle.rules.specs.JudgeOutcome.{AcceptedModel, AnsweredZero, outcome-number, outcome-unwritten, answered-zero, zero-answered}
+use Rattle.rules.specs.ReduceOutcome.{reduce-unwritten, file-fits, fits-zero, short-told, zero-fits, told-short, reduce-told, reduce-number, reduce-found}
 use Rattle.zolkirta.specs.Calls.{Demands, KeepsRulesOn, LargestOf, ReduceDemands}
+
+-- a judgement accepts one list of blocks
+accepted-one : {first second : List ℕ} → accepted first ≡ accepted second → first ≡ second
+accepted-one e = cc
 
 -- demand 3 of the blocks of an accepted certificate
 largest-of : (model certificate blocks : List ℕ) → Bytes model → Bytes certificate → AcceptedFor limits plainRule model certificate blocks → LargestOf model blocks
@@ -66,6 +70,11 @@ module _ (model certificate before after : List ℕ) (number : ℕ) (b : Bytes m
               let read = plain-demand3 .largest model certificate (x .0) b c a .holds .reads in
               e ∙ zero-answered model certificate before (x .0) read (a .answers) (omega (arith, x .2, plain-whole model certificate (x .0) b c a, read-states limits model read)),
         );
+        blocks = λ z blocks x.
+            let told = zero-told z in
+            let one : told .found .blocks ≡ blocks = accepted-one (sym (told .found .judged) ∙ plain-accepted model certificate blocks b c .1 x .answers) in
+            left ∙ told .left ∙ ap (λ (bs : List ℕ). bs ++ drop (length bs) before) one;
+        unwritten = λ n. left ∙ outcome-unwritten model certificate before (λ z. n (e ∙ z));
         largest = λ z. subst (LargestOf model) (first-bytes z) (largest-of model certificate (zero-told z .found .blocks) b c (accepted-told z));
       }
 
@@ -112,6 +121,7 @@ module _ (model certificate before after : List ℕ) (number : ℕ) (b : Bytes m
               (f .N, f .blocks, found-kept (inr z), told-short (mergedFile (f .N) (f .blocks)) before (number-told (f .N) (f .blocks) (found-kept (inr z)) ∙ z)),
           λ x. sym (number-told (x .0) (x .1) (x .2)) ∙ short-told (mergedFile (x .0) (x .1)) before (x .3),
         );
+        unwritten = λ n. left ∙ reduce-unwritten model certificate before (λ z. n (e ∙ z));
         largest = λ z M blocks k. largest-of model certificate blocks b c (plain-accepted model certificate blocks b c .1 (k .accepted));
       }
     where

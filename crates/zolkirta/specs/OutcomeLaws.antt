@@ -11,8 +11,8 @@ use Rattle.bisimulation.specs.Choice.{ifSame}
 use Rattle.bisimulation.specs.ChoiceLaws.{same, notSame, eitherSame, eitherLess}
 use Rattle.rules.specs.Limits.{limits}
 use Rattle.rules.specs.Model.{automatonOf}
-use Rattle.rules.specs.Reading.{Reading, modelAt, scanWhole, readingOf, readWhole, noModel}
-use Rattle.rules.specs.ReadingLaws.{Tells, whole-tells}
+use Rattle.rules.specs.Reading.{Reading, modelAt, headFault, refused, scanWhole, readingOf, readWhole, noModel}
+use Rattle.rules.specs.ReadingLaws.{Tells, whole-tells, head-stops}
 use Rattle.rules.specs.SoundModel.{Bytes}
 use Rattle.rules.specs.Certificate.{fault}
 use Rattle.rules.specs.PlainRule.{plainRule}
@@ -37,7 +37,7 @@ use Rattle.flows.specs.Judged.{Judges}
 use Rattle.flows.specs.declared.Judged.{Judged}
 use Rattle.flows.specs.declared.Judged.the-variants.{Accepted, Rejected}
 use Rattle.zolkirta.specs.declared.Answer.{Answer}
-use Rattle.zolkirta.specs.Calls.{answered, FetchHandedBack, StretchInside, OutcomeIs, HandedBack, Demands, JudgeAnswered, JudgeHandedBack, ReduceDemands, ReduceAnswered, ReduceHandedBack}
+use Rattle.zolkirta.specs.Calls.{answered, partFrom, sliceOf, FetchHandedBack, StretchInside, OutcomeIs, HandedBack, Demands, JudgeAnswered, JudgeHandedBack, ReduceDemands, ReduceAnswered, ReduceHandedBack}
 use Rattle.zolkirta.specs.declared.Verdict.{Verdict}
 use Rattle.zolkirta.specs.declared.Verdict.the-variants as verdicts
 use Rattle.zolkirta.specs.Parts.{ReadsModel, AcceptedAt, RefusedAs, VerdictSays, VerdictIs, HandsBack, Reduced}
@@ -215,6 +215,13 @@ module _ {M C table : List ℕ} {room n count at : ℕ} (a : AcceptedAt M C tabl
         inside = record { fits = omega (arith, empty-stretch (mergedFile (modelAt M) (take (at + n - at) (drop at C))) before, ap (λ (x : rules.Answer). x .stretchStart) (d .answer), ap (λ (x : rules.Answer). x .stretchLength) (d .answer)) };
       }
 
+-- a model refused: document 01's reading, with a number and a place of it
+scan-told : (s : List ℕ) {number place : ℕ} → refused number place ≡ scanWhole limits s → (readWhole limits s ≡ noModel number place) × (number ≤ 24) × (place ≤ length s)
+unfolding readWhole readingOf
+scan-told s e =
+    let placed = subst (Tells limits s) (sym e) (whole-tells limits s) in
+    (ap (readingOf s) (sym e), omega (arith, placed .known), placed .inside)
+
 -- what the reader's answer tells of the model
 module _ (s : List ℕ) {table : List ℕ} {r : Scanned} (g : Scans s (scanWhole limits s) r table) where
   pub sound-known : {m : Found} → r ≡ Sound m → Bytes s → Known s (m .states) (m .transitions) table × ReadsModel s
@@ -226,11 +233,11 @@ module _ (s : List ℕ) {table : List ℕ} {r : Scanned} (g : Scans s (scanWhole
       )
 
   pub refused-told : {number place : ℕ} → r ≡ Refused number place → (readWhole limits s ≡ noModel number place) × (number ≤ 24) × (place ≤ length s)
-  unfolding readWhole readingOf
-  refused-told {number} {place} e =
-      let told = subst (λ (x : Scanned). Scans s (scanWhole limits s) x table) e g in
-      let placed = subst (Tells limits s) (sym (told .answer)) (whole-tells limits s) in
-      (ap (readingOf s) (sym (told .answer)), omega (arith, placed .known), placed .inside)
+  refused-told {number} {place} e = scan-told s (subst (λ (x : Scanned). Scans s (scanWhole limits s) x table) e g .answer)
+
+-- and what the fault of the head tells
+pub head-told : (s : List ℕ) {x : ℕ} → x ≡ headFault limits s → (x ≡ 0 → ⊥) → (readWhole limits s ≡ noModel x 0) × (x ≤ 24) × (0 ≤ length s)
+head-told s e n = scan-told s (head-stops limits s e n)
 
 -- the stretch as a part of its file
 module _ {M C : List ℕ} {r : Answer} (i : StretchInside M C r) where
@@ -244,30 +251,33 @@ part-of : (r : Answer) (s : List ℕ) → take (r .«stretch_start» + r .«stre
 unfolding stretchIn
 part-of r s = ap (λ (k : ℕ). take k (drop (r .«stretch_start») s)) (add-sub-cancel-left (r .«stretch_start») (r .«stretch_length»))
 
-module _ (M C : List ℕ) (r : Answer) where
-  pub from-certificate : r .file ≡ 2 → HandsBack M C r (r .number) (r .file) (r .place) (take (r .«stretch_start» + r .«stretch_length» - r .«stretch_start») (drop (r .«stretch_start») C))
+module _ (M C : List ℕ) (m c : ℕ × ℕ) (r : Answer) where
+  pub from-certificate : r .file ≡ 2 → HandsBack M C m c r (r .number) (r .file) (r .place) (take (r .«stretch_start» + r .«stretch_length» - r .«stretch_start») (drop (r .«stretch_start») C)) (partFrom c (r .«stretch_start»))
   unfolding stretchOf
-  from-certificate e = record { numbered = refl; filed = refl; placed = refl; handed = same _ e (part-of r C) }
+  from-certificate e =
+      record { numbered = refl; filed = refl; placed = refl; handed = same _ e (part-of r C); lies = ap (λ (s : ℕ × ℕ). partFrom s (r .«stretch_start»)) (same m e refl) }
 
-  pub from-model : (r .file ≡ 2 → ⊥) → HandsBack M C r (r .number) (r .file) (r .place) (take (r .«stretch_start» + r .«stretch_length» - r .«stretch_start») (drop (r .«stretch_start») M))
+  pub from-model : (r .file ≡ 2 → ⊥) → HandsBack M C m c r (r .number) (r .file) (r .place) (take (r .«stretch_start» + r .«stretch_length» - r .«stretch_start») (drop (r .«stretch_start») M)) (partFrom m (r .«stretch_start»))
   unfolding stretchOf
-  from-model n = record { numbered = refl; filed = refl; placed = refl; handed = notSame _ n (part-of r M) }
+  from-model n =
+      record { numbered = refl; filed = refl; placed = refl; handed = notSame _ n (part-of r M); lies = ap (λ (s : ℕ × ℕ). partFrom s (r .«stretch_start»)) (notSame c n refl) }
 
 -- an outcome's answer handed back
-pub handed-back : {o : Outcome} {M C after : List ℕ} {r : Answer} {number file place : ℕ} {part : List ℕ} → OutcomeIs o M C after r → HandsBack M C r number file place part → HandedBack o M C after number file place part
-handed-back {M = M} {C} i h =
+pub handed-back : {o : Outcome} {M C after : List ℕ} {m c : ℕ × ℕ} {r : Answer} {number file place : ℕ} {part : List ℕ} {lying : ℕ × ℕ} → OutcomeIs o M C after r → HandsBack M C m c r number file place part lying → HandedBack o M C after m c number file place part lying
+handed-back {M = M} {C} {m = m} {c} i h =
     record {
       numbered = h .numbered ∙ ap (λ (a : rules.Answer). a .number) (i .answer);
       filed = h .filed ∙ ap (λ (a : rules.Answer). a .file) (i .answer);
       placed = h .placed ∙ ap (λ (a : rules.Answer). a .place) (i .answer);
       handed = h .handed ∙ ap (stretchOf M C) (i .answer);
+      lies = h .lies ∙ ap (λ (a : rules.Answer). partFrom (sliceOf m c (a .file)) (a .stretchStart)) (i .answer);
       buffer = i .buffer;
     }
 
-pub judge-handed : {M C before after : List ℕ} {r : Answer} {number file place : ℕ} {part : List ℕ} → JudgeAnswered M C before after r → HandsBack M C r number file place part → JudgeHandedBack M C before after number file place part
+pub judge-handed : {M C before after : List ℕ} {m c : ℕ × ℕ} {r : Answer} {number file place : ℕ} {part : List ℕ} {lying : ℕ × ℕ} → JudgeAnswered M C before after r → HandsBack M C m c r number file place part lying → JudgeHandedBack M C before after m c number file place part lying
 judge-handed {M} {C} {before} {after} j h = record { outcome = handed-back (j .outcome) h; demands = subst (Demands M C before after) (sym (h .numbered)) (j .demands) }
 
-pub reduce-handed : {M C before after : List ℕ} {r : Answer} {number file place written : ℕ} {part : List ℕ} → ReduceAnswered M C before after r → HandsBack M C r number file place part → written ≡ r .written → ReduceHandedBack M C before after number file place written part
+pub reduce-handed : {M C before after : List ℕ} {m c : ℕ × ℕ} {r : Answer} {number file place written : ℕ} {part : List ℕ} {lying : ℕ × ℕ} → ReduceAnswered M C before after r → HandsBack M C m c r number file place part lying → written ≡ r .written → ReduceHandedBack M C before after m c number file place written part lying
 reduce-handed {M} {C} {before} {after} j h w =
     record {
       outcome = handed-back (j .outcome) h;
@@ -283,13 +293,14 @@ module _ (s : List ℕ) (state : ℕ) {r : Answer} (e : answered r ≡ fetchAnsw
   pub fetch-stretch : StretchInside s s r
   fetch-stretch = record { fits = omega (arith, ap (λ (a : rules.Answer). a .stretchStart) e, ap (λ (a : rules.Answer). a .stretchLength) e, fetch-inside limits s state, once (r .file) 2 (length s)) }
 
-  pub fetch-handed : {number file place : ℕ} {part : List ℕ} → HandsBack s s r number file place part → FetchHandedBack s state number file place part
+  pub fetch-handed : {m : ℕ × ℕ} {number file place : ℕ} {part : List ℕ} {lying : ℕ × ℕ} → HandsBack s s m m r number file place part lying → FetchHandedBack s m state number file place part lying
   unfolding stretchOf
-  fetch-handed h =
+  fetch-handed {m} h =
       record {
         numbered = h .numbered ∙ ap (λ (a : rules.Answer). a .number) e;
         filed = h .filed ∙ ap (λ (a : rules.Answer). a .file) e;
         placed = h .placed ∙ ap (λ (a : rules.Answer). a .place) e;
         handed = h .handed ∙ once (r .file) 2 (stretchIn s (answered r)) ∙ ap (stretchIn s) e;
+        lies = h .lies ∙ ap (λ (x : ℕ × ℕ). partFrom x (r .«stretch_start»)) (once (r .file) 2 m) ∙ ap (λ (a : rules.Answer). partFrom m (a .stretchStart)) e;
         known = subst FetchNumber (sym (h .numbered ∙ ap (λ (a : rules.Answer). a .number) e)) (fetch-number limits s state);
       }

@@ -13,7 +13,7 @@ use Rattle.transition.specs.Known.{Known}
 use Rattle.zolkirta.specs.declared.Answer.{Answer}
 use Rattle.zolkirta.specs.declared.Verdict.{Verdict}
 use Rattle.zolkirta.specs.declared.Verdict.the-variants.{Accepted, Refused}
-use Rattle.zolkirta.specs.Calls.{answered, OutcomeIs}
+use Rattle.zolkirta.specs.Calls.{answered, OutcomeIs, partFrom, sliceOf}
 
 -- the model file is read as sound
 pub record ReadsModel (s : List ℕ) : Type 0 where
@@ -41,11 +41,12 @@ pub record VerdictIs (M C table : List ℕ) (room : ℕ) (r : Verdict) : Type 0 
   pub says : VerdictSays M C table room r
 
 -- an answer handed back: its numbers, and its stretch as a part of its file
-pub record HandsBack (model certificate : List ℕ) (r : Answer) (number file place : ℕ) (part : List ℕ) : Type 0 where
+pub record HandsBack (model certificate : List ℕ) (modelSlice certificateSlice : ℕ × ℕ) (r : Answer) (number file place : ℕ) (part : List ℕ) (lying : ℕ × ℕ) : Type 0 where
   pub numbered : number ≡ r .number
   pub filed : file ≡ r .file
   pub placed : place ≡ r .place
   pub handed : part ≡ stretchOf model certificate (answered r)
+  pub lies : lying ≡ partFrom (sliceOf modelSlice certificateSlice (r .file)) (r .«stretch_start»)
 
 -- the merged model of these blocks, as document 01's answer and buffer
 pub record Reduced (s blocks before after : List ℕ) (r : Answer) : Type 0 where

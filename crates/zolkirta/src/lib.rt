@@ -2,11 +2,12 @@
 ghost use Prim.Native.Nat.{_≤_};
 ghost use mathlib.Core.Path.{_≡_};
 ghost use lib.ListN.{length};
+ghost use denote.Ref.{ptr};
 ghost use Rattle.rules.specs.Limits.{limits};
-ghost use Rattle.rules.specs.Answers.{refusalIn, answerWithoutPlace, runAnswer, fetchAnswer, judgeOutcome, reduceOutcome};
+ghost use Rattle.rules.specs.Answers.{refusalIn, answerWithoutPlace, runAnswer, fetchAnswer};
+ghost use Rattle.rules.specs.Reading.{headFault};
 ghost use Rattle.transition.specs.Known.{Known};
-ghost use Rattle.rules.specs.PlainRule.{plainRule};
-ghost use Rattle.zolkirta.specs.Calls.{answered, StretchInside, OutcomeIs, FetchAnswered, FetchHandedBack, JudgeAnswered, JudgeHandedBack, ReduceAnswered, ReduceHandedBack};
+ghost use Rattle.zolkirta.specs.Calls.{answered, StretchInside, FetchAnswered, FetchHandedBack, JudgeAnswered, JudgeHandedBack, ReduceAnswered, ReduceHandedBack};
 ghost use Rattle.zolkirta.specs.Parts.{ReadsModel, VerdictIs, HandsBack, Reduced};
 ghost use Rattle.quotient.specs.File.{CanWriteFile};
 use flows::Judged;
@@ -80,7 +81,7 @@ fn hand_back<'a>(
     place: &mut usize,
 ) -> &'a [u8]
     requires { ⌜ StretchInside (now model) (now certificate) answer ⌝ }
-    ensures { λ r. ⌜ HandsBack (now (model .entry)) (now (certificate .entry)) answer (now (number .exit)) (now (file .exit)) (now (place .exit)) (now r) ⌝ }
+    ensures { λ r. ⌜ HandsBack (now (model .entry)) (now (certificate .entry)) (ptr (model .entry)) (ptr (certificate .entry)) answer (now (number .exit)) (now (file .exit)) (now (place .exit)) (now r) (ptr r) ⌝ }
 {
     let start = answer.stretch_start;
     let size = answer.stretch_length;
@@ -113,7 +114,7 @@ pub fn fetch<'a>(
     file: &mut u32,
     place: &mut usize,
 ) -> &'a [u8]
-    ensures { λ r. ⌜ FetchHandedBack (now (model .entry)) state (now (number .exit)) (now (file .exit)) (now (place .exit)) (now r) ⌝ }
+    ensures { λ r. ⌜ FetchHandedBack (now (model .entry)) (ptr (model .entry)) state (now (number .exit)) (now (file .exit)) (now (place .exit)) (now r) (ptr r) ⌝ }
 {
     let answer = fetch_answer(model, state);
     hand_back(model, model, answer, number, file, place)
@@ -165,9 +166,9 @@ fn judge_sound(
     }
 }
 
-// The model read, then its certificate judged. A call without a block buffer gives the most states that a model has.
+// The model read from its labels on, then its certificate judged. A call without a block buffer gives the most states that a model has.
 fn judge_files(model: &[u8], certificate: &[u8], places: &mut Places, room: usize) -> Verdict
-    requires { ⌜ length (now places) ≡ 257 ⌝ }
+    requires { ⌜ (length (now places) ≡ 257) × (headFault limits (now model) ≡ 0) ⌝ }
     ensures { λ r. ⌜ VerdictIs (now (model .entry)) (now (certificate .entry)) (now (places .exit)) room r ⌝ }
 {
     let scanned = model::scan_whole(model, places);
@@ -184,6 +185,10 @@ fn judge_files(model: &[u8], certificate: &[u8], places: &mut Places, room: usiz
 fn judge_answer(model: &[u8], certificate: &[u8], blocks: &mut [u8]) -> Answer
     ensures { λ r. ⌜ JudgeAnswered (now (model .entry)) (now (certificate .entry)) (now (blocks .entry)) (now (blocks .exit)) r ⌝ }
 {
+    let wrong = record::head_fault(model);
+    if wrong != 0 {
+        return refusal_in(wrong, 1, 0, model.len());
+    }
     let mut places = model::no_places();
     let found = judge_files(model, certificate, &mut places, blocks.len());
     match found {
@@ -209,7 +214,7 @@ pub fn judge<'a>(
     file: &mut u32,
     place: &mut usize,
 ) -> &'a [u8]
-    ensures { λ r. ⌜ JudgeHandedBack (now (model .entry)) (now (certificate .entry)) (now (blocks .entry)) (now (blocks .exit)) (now (number .exit)) (now (file .exit)) (now (place .exit)) (now r) ⌝ }
+    ensures { λ r. ⌜ JudgeHandedBack (now (model .entry)) (now (certificate .entry)) (now (blocks .entry)) (now (blocks .exit)) (ptr (model .entry)) (ptr (certificate .entry)) (now (number .exit)) (now (file .exit)) (now (place .exit)) (now r) (ptr r) ⌝ }
 {
     let answer = judge_answer(model, certificate, blocks);
     hand_back(model, certificate, answer, number, file, place)
@@ -246,6 +251,10 @@ fn reduce_accepted(
 fn reduce_answer(model: &[u8], certificate: &[u8], out: &mut [u8]) -> Answer
     ensures { λ r. ⌜ ReduceAnswered (now (model .entry)) (now (certificate .entry)) (now (out .entry)) (now (out .exit)) r ⌝ }
 {
+    let wrong = record::head_fault(model);
+    if wrong != 0 {
+        return refusal_in(wrong, 1, 0, model.len());
+    }
     let mut places = model::no_places();
     let found = judge_files(model, certificate, &mut places, 64);
     match found {
@@ -276,7 +285,7 @@ pub fn reduce<'a>(
     place: &mut usize,
     written: &mut usize,
 ) -> &'a [u8]
-    ensures { λ r. ⌜ ReduceHandedBack (now (model .entry)) (now (certificate .entry)) (now (out .entry)) (now (out .exit)) (now (number .exit)) (now (file .exit)) (now (place .exit)) (now (written .exit)) (now r) ⌝ }
+    ensures { λ r. ⌜ ReduceHandedBack (now (model .entry)) (now (certificate .entry)) (now (out .entry)) (now (out .exit)) (ptr (model .entry)) (ptr (certificate .entry)) (now (number .exit)) (now (file .exit)) (now (place .exit)) (now (written .exit)) (now r) (ptr r) ⌝ }
 {
     let answer = reduce_answer(model, certificate, out);
     *written = answer.written;

@@ -18,7 +18,7 @@ part-result-end : tie.Need-part-result-end
 part-result-end c = omega (arith, in-certificate (c .before .before .pre) (omega (arith, c .if1 .taken)))
 
 returns : tie.Need-returns
-returns c = from-certificate _ _ _ (omega (arith, c .before .if1 .taken))
+returns c = from-certificate _ _ _ _ _ (omega (arith, c .before .if1 .taken))
 
 add-result-2 : tie.Need-add-result-2
 add-result-2 c = omega (arith, in-model (c .before .before .pre) (λ z. omega (arith, z, c .if1 .left)), c .before .before .good .0 .0)
@@ -33,7 +33,7 @@ part-result-end-2 : tie.Need-part-result-end-2
 part-result-end-2 c = omega (arith, in-model (c .before .before .pre) (λ z. omega (arith, z, c .if1 .left)))
 
 returns-2 : tie.Need-returns-2
-returns-2 c = from-model _ _ _ (λ z. omega (arith, z, c .before .if1 .left))
+returns-2 c = from-model _ _ _ _ _ (λ z. omega (arith, z, c .before .if1 .left))
 
 pub hand-back-spec : {M : Type 1} → statement M
 hand-back-spec =

@@ -1,0 +1,205 @@
+//! The library beside the plain judge: the same answer and the same bytes in every lent buffer and around it, or the pair in hex.
+#![allow(dead_code)] // each test file uses its own part
+
+use crate::plain::{self, Answer};
+use std::fmt;
+use zolkirta::raw;
+
+/// Guard bytes before and after every lent buffer.
+const GUARD: usize = 16;
+
+/// The most bytes that a sound model has, merged or not: head, labels, 256 transitions, 1,024 entries.
+pub const MODEL_BYTES: usize = 6 + 66 + 256 * 7 + 1024 * 3;
+
+pub fn hex(bytes: &[u8]) -> String {
+    match bytes {
+        [] => "-".into(),
+        _ => bytes.iter().map(|byte| format!("{byte:02x}")).collect(),
+    }
+}
+
+/// The bytes of a vector's field, `-` for none.
+pub fn bytes(hex: &str) -> Vec<u8> {
+    match hex {
+        "-" => Vec::new(),
+        _ => (0..hex.len()).step_by(2).map(|i| u8::from_str_radix(&hex[i..i + 2], 16).unwrap()).collect(),
+    }
+}
+
+pub fn told(answer: raw::Answer) -> Answer {
+    let raw::Answer { number, file, place, stretch_start, stretch_length, written } = answer;
+    Answer { number, file, place, stretch_start, stretch_length, written }
+}
+
+/// Fetches by both and compares.
+pub fn fetch(model: &[u8], state: u32) -> Answer {
+    let library = told(unsafe { raw::zolkirta_fetch(model.as_ptr(), model.len(), state) });
+    let plain = plain::fetch(model, state);
+    assert!(library == plain, "fetch of state {state}\nlibrary {library:?}\nplain   {plain:?}\nmodel {}", hex(model));
+    plain
+}
+
+type Lent = unsafe extern "C" fn(*const u8, usize, *const u8, usize, *mut u8, usize) -> raw::Answer;
+type PlainLent = fn(&[u8], &[u8], &mut [u8]) -> Answer;
+
+/// Calls both with a lent buffer of this length and compares answers, buffers and guard bytes. Hands back what was written.
+fn lent(name: &str, call: Lent, plain_call: PlainLent, model: &[u8], certificate: &[u8], length: usize) -> (Answer, Vec<u8>) {
+    let before: Vec<u8> = (0..length + 2 * GUARD).map(|i| (i * 89 + 165) as u8).collect();
+    let (mut left, mut right) = (before.clone(), before.clone());
+    let library = told(unsafe {
+        call(model.as_ptr(), model.len(), certificate.as_ptr(), certificate.len(), left[GUARD..].as_mut_ptr(), length)
+    });
+    let plain = plain_call(model, certificate, &mut right[GUARD..GUARD + length]);
+    let silent = plain.number == 0 || right == before;
+    assert!(
+        library == plain && left == right && silent,
+        "{name} with {length} bytes lent\nlibrary {library:?}\nplain   {plain:?}\nlibrary's buffer {}\nplain's buffer   {}\nmodel {}\ncertificate {}",
+        hex(&left),
+        hex(&right),
+        hex(model),
+        hex(certificate)
+    );
+    right.truncate(GUARD + plain.written);
+    (plain, right.split_off(GUARD))
+}
+
+/// Judges by both and compares.
+pub fn judge(model: &[u8], certificate: &[u8], length: usize) -> (Answer, Vec<u8>) {
+    lent("judge", raw::zolkirta_judge, plain::judge, model, certificate, length)
+}
+
+/// Reduces by both and compares.
+pub fn reduce(model: &[u8], certificate: &[u8], length: usize) -> (Answer, Vec<u8>) {
+    lent("reduce", raw::zolkirta_reduce, plain::reduce, model, certificate, length)
+}
+
+/// How many answers had each number, and how many pairs were sent through.
+#[derive(Default)]
+pub struct Counts {
+    pub answers: [u64; 25],
+    pub pairs: u64,
+}
+
+impl Counts {
+    pub fn count(&mut self, answer: Answer) -> Answer {
+        self.answers[answer.number as usize] += 1;
+        answer
+    }
+
+    /// Sends a pair through the three calls, with these buffer lengths and this state.
+    pub fn pair_with(&mut self, model: &[u8], certificate: &[u8], blocks: usize, out: usize, state: u32) -> Answer {
+        self.pairs += 1;
+        self.count(fetch(model, state));
+        self.count(reduce(model, certificate, out).0);
+        self.count(judge(model, certificate, blocks).0)
+    }
+
+    /// Sends a pair through the three calls, with buffers that are long enough. Hands back what judging answers.
+    pub fn pair(&mut self, model: &[u8], certificate: &[u8]) -> Answer {
+        self.pair_with(model, certificate, 64, MODEL_BYTES, 0)
+    }
+}
+
+impl fmt::Display for Counts {
+    fn fmt(&self, out: &mut fmt::Formatter) -> fmt::Result {
+        write!(out, "{} pairs; answers by number:", self.pairs)?;
+        self.answers.iter().enumerate().try_for_each(|(number, count)| write!(out, " {number}: {count}"))
+    }
+}
+
+/// One line of the vectors.
+pub struct Vector {
+    pub line: String,
+    pub call: String,
+    pub argument: usize,
+    pub model: Vec<u8>,
+    pub certificate: Vec<u8>,
+    pub answer: Answer,
+    pub out: Vec<u8>,
+}
+
+pub fn vectors() -> Vec<Vector> {
+    let text = std::fs::read_to_string(concat!(env!("CARGO_MANIFEST_DIR"), "/../../vectors/base.txt")).unwrap();
+    text.lines()
+        .map(|line| {
+            let field: Vec<&str> = line.split(' ').collect();
+            let number = |i: usize| field[i].parse::<usize>().unwrap();
+            let out = bytes(field[9]);
+            // A run's start stands in its own field; a stretch starts at its place, and one without a file at 0.
+            let stretch_start = if field[0] == "fetch" && number(4) == 0 { number(8) } else { number(6) };
+            Vector {
+                line: line.into(),
+                call: field[0].into(),
+                argument: number(1),
+                model: bytes(field[2]),
+                certificate: bytes(field[3]),
+                answer: Answer {
+                    number: number(4) as u32,
+                    file: number(5) as u32,
+                    place: number(6),
+                    stretch_start,
+                    stretch_length: number(7),
+                    written: out.len(),
+                },
+                out,
+            }
+        })
+        .collect()
+}
+
+/// The accepted pairs of the vectors, each once, shorter ones first.
+pub fn accepted() -> Vec<(Vec<u8>, Vec<u8>)> {
+    let accepted = vectors().into_iter().filter(|v| v.call != "fetch" && matches!(v.answer.number, 0 | 23));
+    let mut pairs: Vec<_> = accepted.map(|v| (v.model, v.certificate)).collect();
+    pairs.sort_by_key(|(model, certificate)| (model.len() + certificate.len(), model.clone(), certificate.clone()));
+    pairs.dedup();
+    pairs
+}
+
+/// A seeded generator of numbers; a test that fails says its seed.
+pub struct Numbers {
+    seed: u64,
+    state: u64,
+}
+
+impl Numbers {
+    pub fn new(seed: u64) -> Numbers {
+        Numbers { seed, state: seed }
+    }
+
+    pub fn any(&mut self) -> u64 {
+        // splitmix64
+        self.state = self.state.wrapping_add(0x9e3779b97f4a7c15);
+        let x = (self.state ^ self.state >> 30).wrapping_mul(0xbf58476d1ce4e5b9);
+        let x = (x ^ x >> 27).wrapping_mul(0x94d049bb133111eb);
+        x ^ x >> 31
+    }
+
+    pub fn below(&mut self, n: usize) -> usize {
+        (self.any() % n as u64) as usize
+    }
+
+    pub fn of<'a, T>(&mut self, all: &'a [T]) -> &'a T {
+        &all[self.below(all.len())]
+    }
+
+    pub fn bytes(&mut self, size: usize) -> Vec<u8> {
+        (0..size).map(|_| self.any() as u8).collect()
+    }
+}
+
+impl Drop for Numbers {
+    fn drop(&mut self) {
+        if std::thread::panicking() {
+            eprintln!("seed {}", self.seed);
+        }
+    }
+}
+
+/// How often a random test is repeated: twenty times as often with ZOLKIRTA_LONG=1.
+pub fn rounds(times: u64) -> u64 {
+    match std::env::var("ZOLKIRTA_LONG") {
+        Ok(long) if long == "1" => 20 * times,
+        _ => times,
+    }
+}

@@ -1,0 +1,408 @@
+//! Document 01's judge, reduce and fetch in plain Rust, written from the document alone: what the library is compared with.
+//!
+//! Every sum fits an i64. Weights of a transition add up to at most 65,535, so weights times prices stay below 2^47 and a difference
+//! of two such sums below 2^48. k times d is below 2^48, and a state's equation has at most 768 of them (each layer and transition
+//! once), 64 w and one D: below 2^58. d0 times the at most 64 w onto a state is below 2^54.
+
+/// What a call answers: the fields of the header's answer.
+#[derive(Clone, Copy, Debug, Default, PartialEq, Eq)]
+pub struct Answer {
+    pub number: u32,
+    pub file: u32,
+    pub place: usize,
+    pub stretch_start: usize,
+    pub stretch_length: usize,
+    pub written: usize,
+}
+
+/// A refusal's number and the place of the record at fault.
+type Fault = (u32, usize);
+
+pub struct Transition<'a> {
+    pub place: usize,
+    pub source: usize,
+    pub action: u8,
+    pub d: i64,
+    entries: &'a [u8],
+}
+
+impl Transition<'_> {
+    /// The states that the transition leads to, with their weights.
+    pub fn weights(&self) -> impl Iterator<Item = (usize, i64)> + '_ {
+        self.entries.chunks_exact(3).map(|e| (usize::from(e[0]), i64::from(two(e, 1))))
+    }
+
+    /// The sum of p(v) times the price of v.
+    fn price(&self, prices: &[i64]) -> i64 {
+        self.weights().map(|(v, p)| p * prices[v]).sum()
+    }
+}
+
+pub struct Model<'a> {
+    pub m: u8,
+    pub labels: &'a [u8],
+    pub transitions: Vec<Transition<'a>>,
+}
+
+impl<'a> Model<'a> {
+    pub fn n(&self) -> usize {
+        self.labels.len()
+    }
+
+    /// The transitions that leave a state.
+    pub fn leaving(&self, state: usize) -> &[Transition<'a>] {
+        let first = self.transitions.partition_point(|r| r.source < state);
+        let past = self.transitions.partition_point(|r| r.source <= state);
+        &self.transitions[first..past]
+    }
+}
+
+/// The related pairs: a row of one bit for each state.
+struct Related([u64; 64]);
+
+impl Related {
+    fn new(labels: &[u8]) -> Related {
+        let mut rows = [0; 64];
+        for (v, label) in labels.iter().enumerate() {
+            for (u, other) in labels.iter().enumerate() {
+                rows[v] |= u64::from(label == other) << u;
+            }
+        }
+        Related(rows)
+    }
+
+    fn holds(&self, v: usize, u: usize) -> bool {
+        self.0[v] >> u & 1 == 1
+    }
+
+    fn remove(&mut self, s: usize, t: usize) {
+        self.0[s] &= !(1 << t);
+        self.0[t] &= !(1 << s);
+    }
+}
+
+fn two(s: &[u8], at: usize) -> u16 {
+    u16::from_be_bytes([s[at], s[at + 1]])
+}
+
+fn four(s: &[u8], at: usize) -> u32 {
+    u32::from_be_bytes([s[at], s[at + 1], s[at + 2], s[at + 3]])
+}
+
+/// The file from a record's place on, once its mark is right and its fixed part is whole. `ends` is the number for a file that ends
+/// inside a record; the next number is that of a wrong mark.
+fn record<'a>(file: &'a [u8], at: usize, mark: &[u8; 2], fixed: usize, ends: u32) -> Result<&'a [u8], Fault> {
+    let bytes = &file[at..];
+    if bytes.len() < 2 {
+        return Err((ends, at));
+    }
+    if bytes[..2] != *mark {
+        return Err((ends + 1, at));
+    }
+    if bytes.len() < fixed {
+        return Err((ends, at));
+    }
+    Ok(bytes)
+}
+
+/// Reads a model: refusals 1 to 9.
+pub fn read(file: &[u8]) -> Result<Model<'_>, Fault> {
+    let head = record(file, 0, b"PA", 6, 1)?;
+    let (n, m, count) = (usize::from(head[2]), head[3], usize::from(two(head, 4)));
+    if !(1..=64).contains(&n) || !(1..=32).contains(&m) || count > 256 {
+        return Err((3, 0));
+    }
+    let labels = &record(file, 6, b"LB", 2 + n, 1)?[2..2 + n];
+    if labels.iter().any(|&label| label > 63) {
+        return Err((4, 6));
+    }
+    let mut transitions: Vec<Transition> = Vec::with_capacity(count);
+    let (mut at, mut last_source, mut total) = (8 + n, 0, 0);
+    for _ in 0..count {
+        let bytes = record(file, at, b"TR", 7, 1)?;
+        let (source, action, d, c) = (usize::from(bytes[2]), bytes[3], i64::from(two(bytes, 4)), usize::from(bytes[6]));
+        if source < last_source || source >= n || action >= m || d == 0 || c == 0 || c > n {
+            return Err((5, at));
+        }
+        total += c;
+        if total > 1024 {
+            return Err((8, at));
+        }
+        let size = 7 + 3 * c;
+        if bytes.len() < size {
+            return Err((1, at));
+        }
+        let transition = Transition { place: at, source, action, d, entries: &bytes[7..size] };
+        let (mut lowest, mut sum) = (0, 0);
+        for (state, weight) in transition.weights() {
+            if state < lowest || state >= n || weight == 0 {
+                return Err((6, at));
+            }
+            lowest = state + 1;
+            sum += weight;
+        }
+        if sum != d {
+            return Err((7, at));
+        }
+        transitions.push(transition);
+        last_source = source;
+        at += size;
+    }
+    if at < file.len() {
+        return Err((9, at));
+    }
+    Ok(Model { m, labels, transitions })
+}
+
+/// Judges the refutation at a place, refusals 11, 12 and 14 to 16: the pair that it removes, and the place after it.
+fn refutation(model: &Model, related: &Related, file: &[u8], at: usize) -> Result<(usize, usize, usize), Fault> {
+    let n = model.n();
+    let bytes = record(file, at, b"PX", 5, 11)?;
+    let (challenger, t) = (usize::from(two(bytes, 2)), usize::from(bytes[4]));
+    if challenger >= model.transitions.len() || t >= n {
+        return Err((14, at));
+    }
+    let challenger = &model.transitions[challenger];
+    let s = challenger.source;
+    if t == s || !related.holds(s, t) {
+        return Err((14, at));
+    }
+    let external = challenger.action != 0;
+    let count = if external { 3 * n } else { 2 * n };
+    let size = 5 + 4 * count;
+    if bytes.len() < size {
+        return Err((11, at));
+    }
+    let mut prices = [0; 3 * 64];
+    for (price, field) in prices.iter_mut().zip(bytes[5..size].chunks_exact(4)) {
+        *price = i64::from(four(field, 0) as i32);
+    }
+    // For an internal challenger A stands where B would.
+    let (a, b, g) = (&prices[..n], &prices[count - 2 * n..count - n], &prices[count - n..count]);
+    for r in &model.transitions {
+        if r.action == 0 && (r.d * a[r.source] < r.price(a) || external && r.d * b[r.source] < r.price(b)) {
+            return Err((15, at));
+        }
+        if external && r.action == challenger.action && r.d * a[r.source] < r.price(b) {
+            return Err((15, at));
+        }
+    }
+    for v in 0..n {
+        for u in 0..n {
+            if related.holds(v, u) && b[v] < g[u] {
+                return Err((15, at));
+            }
+        }
+    }
+    if challenger.d * a[t] >= challenger.price(g) {
+        return Err((16, at));
+    }
+    Ok((s, t, at + size))
+}
+
+/// Judges the flow at a place for a challenger and its defender, refusals 11, 12 and 19 to 21: the place after it.
+fn flow(model: &Model, related: &Related, file: &[u8], challenger: &Transition, t: usize, at: usize) -> Result<usize, Fault> {
+    let n = model.n();
+    let bytes = record(file, at, b"FL", 8, 11)?;
+    let (big, k_count) = (i64::from(four(bytes, 2)), usize::from(two(bytes, 6)));
+    if big == 0 {
+        return Err((19, at));
+    }
+    let middle = 8 + 7 * k_count;
+    if bytes.len() < middle {
+        return Err((11, at));
+    }
+    let external = challenger.action != 0;
+    // What arrives at each state less what leaves it: [0] before the move, [1] after it.
+    let mut left = [[0; 64]; 2];
+    left[0][t] = big;
+    let mut last = None;
+    for e in bytes[8..middle].chunks_exact(7) {
+        let (layer, r, k) = (e[0], usize::from(two(e, 1)), i64::from(four(e, 3)));
+        if last >= Some((layer, r)) || r >= model.transitions.len() || k == 0 {
+            return Err((19, at));
+        }
+        last = Some((layer, r));
+        let r = &model.transitions[r];
+        let (from, to) = match layer {
+            0 if r.action == 0 => (0, 0),
+            1 if external && r.action == challenger.action => (0, 1),
+            2 if external && r.action == 0 => (1, 1),
+            _ => return Err((19, at)),
+        };
+        left[from][r.source] -= k * r.d;
+        for (v, p) in r.weights() {
+            left[to][v] += k * p;
+        }
+    }
+    if bytes.len() < middle + 2 {
+        return Err((11, at));
+    }
+    let size = middle + 2 + 6 * usize::from(two(bytes, middle));
+    if bytes.len() < size {
+        return Err((11, at));
+    }
+    let stays = usize::from(external);
+    let mut onto = [0; 64];
+    let mut last = None;
+    for e in bytes[middle + 2..size].chunks_exact(6) {
+        let (v, u, w) = (usize::from(e[0]), usize::from(e[1]), i64::from(four(e, 2)));
+        if last >= Some((v, u)) || v >= n || u >= n || !related.holds(v, u) || w == 0 {
+            return Err((19, at));
+        }
+        last = Some((v, u));
+        left[stays][v] -= w;
+        onto[u] += w;
+    }
+    if left.as_flattened().iter().any(|&x| x != 0) {
+        return Err((20, at));
+    }
+    let mut wanted = [0; 64];
+    for (u, p) in challenger.weights() {
+        wanted[u] = p * big;
+    }
+    if onto.iter().zip(&wanted).any(|(w, wanted)| challenger.d * w != *wanted) {
+        return Err((21, at));
+    }
+    Ok(at + size)
+}
+
+/// Judges a certificate for a sound model, refusals 11 to 22: the bytes of its blocks.
+fn certificate<'a>(model: &Model, file: &'a [u8]) -> Result<&'a [u8], Fault> {
+    let n = model.n();
+    let count = two(record(file, 0, b"CT", 4, 11)?, 2);
+    if count > 2016 {
+        return Err((13, 0));
+    }
+    let mut related = Related::new(model.labels);
+    let mut at = 4;
+    for _ in 0..count {
+        let (s, t, next) = refutation(model, &related, file, at)?;
+        related.remove(s, t);
+        at = next;
+    }
+    let blocks = &record(file, at, b"BK", 2 + n, 11)?[2..2 + n];
+    let mut seen = 0;
+    for &block in blocks {
+        if block > seen {
+            return Err((17, at));
+        }
+        if block == seen {
+            seen += 1;
+        }
+    }
+    for v in 0..n {
+        for u in 0..n {
+            if (blocks[v] == blocks[u]) != related.holds(v, u) {
+                return Err((18, at));
+            }
+        }
+    }
+    at += 2 + n;
+    for s in 0..n {
+        let leaving = model.leaving(s);
+        for t in (0..n).filter(|&t| t != s && blocks[t] == blocks[s]) {
+            for challenger in leaving {
+                at = flow(model, &related, file, challenger, t, at)?;
+            }
+        }
+    }
+    if at < file.len() {
+        return Err((22, at));
+    }
+    Ok(blocks)
+}
+
+/// The merged model's file.
+fn merged(model: &Model, blocks: &[u8]) -> Vec<u8> {
+    let count = usize::from(*blocks.iter().max().unwrap()) + 1;
+    let mut out = vec![b'P', b'A', count as u8, model.m, 0, 0, b'L', b'B'];
+    for block in 0..count {
+        let member = blocks.iter().position(|&b| usize::from(b) == block).unwrap();
+        out.push(model.labels[member]);
+    }
+    let mut places = Vec::with_capacity(model.transitions.len());
+    for block in 0..count {
+        let of_block = places.len();
+        for r in model.transitions.iter().filter(|r| usize::from(blocks[r.source]) == block) {
+            let mut weights = [0; 64];
+            for (v, p) in r.weights() {
+                weights[usize::from(blocks[v])] += p as u16;
+            }
+            let at = out.len();
+            out.extend([b'T', b'R', block as u8, r.action]);
+            out.extend((r.d as u16).to_be_bytes());
+            out.push(weights.iter().filter(|&&p| p > 0).count() as u8);
+            for (target, p) in weights.iter().enumerate().filter(|(_, &p)| p > 0) {
+                out.push(target as u8);
+                out.extend(p.to_be_bytes());
+            }
+            // Two records of one block are the same bytes where action, d and weights are equal.
+            let size = out.len() - at;
+            if places[of_block..].iter().any(|&earlier: &usize| out[earlier..earlier + size] == out[at..]) {
+                out.truncate(at);
+            } else {
+                places.push(at);
+            }
+        }
+    }
+    out[4..6].copy_from_slice(&(places.len() as u16).to_be_bytes());
+    out
+}
+
+/// A refusal in a file, with the stretch from its place to the file's end.
+fn refused(file: u32, bytes: &[u8], (number, place): Fault) -> Answer {
+    Answer { number, file, place, stretch_start: place, stretch_length: bytes.len() - place, written: 0 }
+}
+
+/// The transitions that leave a state, as a run of the model's bytes.
+pub fn fetch(model: &[u8], state: u32) -> Answer {
+    let sound = match read(model) {
+        Ok(sound) => sound,
+        Err(fault) => return refused(1, model, fault),
+    };
+    if state as usize >= sound.n() {
+        return Answer { number: 24, ..Answer::default() };
+    }
+    let run = sound.leaving(state as usize);
+    let (Some(first), Some(last)) = (run.first(), run.last()) else {
+        return Answer::default();
+    };
+    let end = last.place + 7 + last.entries.len();
+    Answer { stretch_start: first.place, stretch_length: end - first.place, ..Answer::default() }
+}
+
+/// The model and the blocks of an accepted certificate, judged with room for so many blocks.
+fn judged<'a>(model: &'a [u8], certificate_file: &'a [u8], room: usize) -> Result<(Model<'a>, &'a [u8]), Answer> {
+    let sound = read(model).map_err(|fault| refused(1, model, fault))?;
+    if room < sound.n() {
+        return Err(Answer { number: 10, ..Answer::default() });
+    }
+    let blocks = certificate(&sound, certificate_file).map_err(|fault| refused(2, certificate_file, fault))?;
+    Ok((sound, blocks))
+}
+
+/// Judges a certificate for a model; on acceptance the blocks stand first in the buffer.
+pub fn judge(model: &[u8], certificate: &[u8], buffer: &mut [u8]) -> Answer {
+    match judged(model, certificate, buffer.len()) {
+        Ok((_, blocks)) => {
+            buffer[..blocks.len()].copy_from_slice(blocks);
+            Answer { written: blocks.len(), ..Answer::default() }
+        }
+        Err(answer) => answer,
+    }
+}
+
+/// Judges a certificate for a model; on acceptance the merged model's file stands first in the buffer.
+pub fn reduce(model: &[u8], certificate: &[u8], buffer: &mut [u8]) -> Answer {
+    let (model, blocks) = match judged(model, certificate, usize::MAX) {
+        Ok(both) => both,
+        Err(answer) => return answer,
+    };
+    let file = merged(&model, blocks);
+    if buffer.len() < file.len() {
+        return Answer { number: 23, ..Answer::default() };
+    }
+    buffer[..file.len()].copy_from_slice(&file);
+    Answer { written: file.len(), ..Answer::default() }
+}

@@ -1,1 +1,205 @@
+//! Judges certificates of weak bisimulation for probabilistic automata: safe calls of the proved library.
+//!
+//! A model file holds an automaton, a certificate file the reasons for which of its states are weakly bisimilar. [`judge`] accepts
+//! the certificate and names the block of each state, [`reduce`] writes the model with each block merged into one state, [`fetch`]
+//! finds the transitions that leave a state. What is not accepted gets one numbered [`Refusal`].
+//!
+//! The small pair S of document 01: state 0 moves to state 2 by action 1, state 1 moves to state 0 internally.
+//!
+//! ```
+//! let model = b"PA\x03\x02\0\x02LB\0\0\0\
+//!     TR\0\x01\0\x01\x01\x02\0\x01\
+//!     TR\x01\0\0\x01\x01\0\0\x01";
+//! let certificate = b"CT\0\x02\
+//!     PX\0\0\x02\0\0\0\x01\0\0\0\x01\0\0\0\0\0\0\0\x01\0\0\0\x01\0\0\0\x01\0\0\0\x01\0\0\0\x01\0\0\0\x01\
+//!     PX\0\x01\x02\0\0\0\x01\0\0\0\x01\0\0\0\0\0\0\0\x01\0\0\0\0\0\0\0\0\
+//!     BK\0\0\x01\
+//!     FL\0\0\0\x01\0\x02\0\0\x01\0\0\0\x01\x01\0\0\0\0\0\x01\0\x01\x02\x02\0\0\0\x01\
+//!     FL\0\0\0\x01\0\0\0\x01\0\0\0\0\0\x01";
+//! assert_eq!((model.len(), certificate.len()), (31, 125));
+//!
+//! let mut buffer = [0; zolkirta::STATES];
+//! let blocks = zolkirta::judge(model, certificate, &mut buffer).expect("accepted");
+//! assert_eq!(blocks, [0, 0, 1]); // states 0 and 1 are weakly bisimilar
+//! ```
+
+use std::fmt;
+
 pub mod raw;
+
+/// The most states that a model has. A block buffer of this length is always long enough.
+pub const STATES: usize = 64;
+
+/// A file that was handed to a call.
+#[derive(Clone, Copy, Debug, PartialEq, Eq, Hash)]
+#[non_exhaustive]
+pub enum File {
+    Model,
+    Certificate,
+}
+
+/// Why a call did not accept. A refusal writes no byte of any lent buffer.
+#[derive(Clone, Copy, PartialEq, Eq)]
+#[non_exhaustive]
+pub struct Refusal<'a> {
+    /// 1 to 24: [`meaning`](Refusal::meaning) says it in words.
+    pub number: u32,
+    /// The file at fault, if one is.
+    pub file: Option<File>,
+    /// The byte of that file where the record at fault begins; for bytes left (9 and 22), the first of them. 0 without a file.
+    pub place: usize,
+    /// The caller's own bytes of that file from the place to its end. Empty without a file.
+    pub stretch: &'a [u8],
+}
+
+const MEANINGS: [&str; 25] = [
+    "accepted",
+    "the file ends inside a record",
+    "a record has a wrong mark",
+    "the state, action or transition count is outside its range",
+    "a label is above 63",
+    "a source descends or is absent, an action is absent, d is 0, or a bad entry count",
+    "an entry's state is absent or does not ascend, or its weight is 0",
+    "a transition's weights do not add up to d",
+    "the entries so far pass 1,024",
+    "bytes are left after the last transition",
+    "the block buffer is shorter than the state count",
+    "the file ends inside a record",
+    "a record has a wrong mark",
+    "the refutation count is above 2,016",
+    "a refutation's transition or state is absent, t is s, or the pair is not related",
+    "a price condition other than the last breaks",
+    "the last price condition breaks",
+    "the blocks are not numbered by first appearance",
+    "the blocks differ from the pairs left",
+    "a flow's D is 0, or an entry is out of order, zero, absent or not in the question",
+    "an equation at some v breaks",
+    "an equation at some u breaks",
+    "bytes are left after the last flow",
+    "the certificate is accepted, and the buffer is shorter than the merged model's file",
+    "the state to fetch is not below the state count",
+];
+
+impl Refusal<'_> {
+    /// What the number means, in the words of the C header.
+    ///
+    /// ```
+    /// let refusal = zolkirta::fetch(b"PA\0", 0).unwrap_err();
+    /// assert_eq!(refusal.meaning(), "the file ends inside a record");
+    /// ```
+    pub fn meaning(&self) -> &'static str {
+        MEANINGS[self.number as usize]
+    }
+}
+
+/// ```
+/// let refusal = zolkirta::fetch(b"PA\x03\x02\0\x02XX", 0).unwrap_err();
+/// assert_eq!(refusal.to_string(), "refusal 2: a record has a wrong mark (model, byte 6)");
+/// ```
+impl fmt::Display for Refusal<'_> {
+    fn fmt(&self, out: &mut fmt::Formatter) -> fmt::Result {
+        write!(out, "refusal {}: {}", self.number, self.meaning())?;
+        match self.file {
+            Some(File::Model) => write!(out, " (model, byte {})", self.place),
+            Some(File::Certificate) => write!(out, " (certificate, byte {})", self.place),
+            None => Ok(()),
+        }
+    }
+}
+
+/// Says the stretch's length in place of its bytes.
+impl fmt::Debug for Refusal<'_> {
+    fn fmt(&self, out: &mut fmt::Formatter) -> fmt::Result {
+        out.debug_struct("Refusal")
+            .field("number", &self.number)
+            .field("file", &self.file)
+            .field("place", &self.place)
+            .field("stretch", &format_args!("{} bytes", self.stretch.len()))
+            .finish()
+    }
+}
+
+impl std::error::Error for Refusal<'_> {}
+
+/// The refusal that an answer tells, or the answer where it tells none.
+fn accepted<'a>(answer: raw::Answer, model: &'a [u8], certificate: &'a [u8]) -> Result<raw::Answer, Refusal<'a>> {
+    if answer.number == 0 {
+        return Ok(answer);
+    }
+    let (file, bytes) = match answer.file {
+        0 => (None, &[][..]),
+        1 => (Some(File::Model), model),
+        _ => (Some(File::Certificate), certificate),
+    };
+    Err(Refusal { number: answer.number, file, place: answer.place, stretch: &bytes[answer.place..] })
+}
+
+/// The run of the model's own bytes that holds the transitions that leave `state`, empty where none leave.
+///
+/// Refusals: 1 to 9 in the model, and 24 where the model has no such state.
+///
+/// ```
+/// let model = b"PA\x02\x01\0\x01LB\0\0TR\x01\0\0\x01\x01\0\0\x01"; // state 1 moves to state 0
+/// assert_eq!(zolkirta::fetch(model, 1).unwrap(), b"TR\x01\0\0\x01\x01\0\0\x01");
+/// assert_eq!(zolkirta::fetch(model, 0).unwrap(), b"");
+/// assert_eq!(zolkirta::fetch(model, 2).unwrap_err().number, 24);
+/// ```
+pub fn fetch(model: &[u8], state: u32) -> Result<&[u8], Refusal<'_>> {
+    // SAFETY: pointer and length are those of the slice.
+    let answer = accepted(unsafe { raw::zolkirta_fetch(model.as_ptr(), model.len(), state) }, model, &[])?;
+    Ok(&model[answer.stretch_start..answer.stretch_start + answer.stretch_length])
+}
+
+/// Judges a certificate for a model. On acceptance the first bytes of `buffer`, one for each state, are the states' blocks, and they
+/// are what is handed back; the buffer's later bytes stay.
+///
+/// Refusals: 1 to 9 in the model, 10 where the buffer is shorter than the state count ([`STATES`] is always enough), 11 to 22 in the
+/// certificate.
+///
+/// ```
+/// // Two states with one label and no transitions.
+/// let (model, certificate) = (b"PA\x02\x01\0\0LB\0\0", b"CT\0\0BK\0\0");
+/// let mut buffer = [0xff; zolkirta::STATES];
+/// assert_eq!(zolkirta::judge(model, certificate, &mut buffer).unwrap(), [0, 0]);
+/// assert_eq!(buffer[2], 0xff);
+/// ```
+///
+/// A refusal says where it is, and hands the rest of the file back from there:
+///
+/// ```
+/// # let model = b"PA\x02\x01\0\0LB\0\0";
+/// let certificate = b"CT\0\0BK\0\x01"; // tells two states apart without a refutation
+/// let refusal = zolkirta::judge(model, certificate, &mut [0; 2]).unwrap_err();
+/// assert_eq!(refusal.number, 18);
+/// assert_eq!(refusal.file, Some(zolkirta::File::Certificate));
+/// assert_eq!(refusal.place, 4);
+/// assert_eq!(refusal.stretch, b"BK\0\x01");
+/// assert_eq!(refusal.stretch.as_ptr(), certificate[4..].as_ptr());
+/// ```
+pub fn judge<'a, 'b>(model: &'a [u8], certificate: &'a [u8], buffer: &'b mut [u8]) -> Result<&'b [u8], Refusal<'a>> {
+    lend(raw::zolkirta_judge, model, certificate, buffer)
+}
+
+/// Judges a certificate for a model and writes the merged model: each block is one state. On acceptance the first bytes of `buffer`
+/// are the merged model's file, and they are what is handed back; the buffer's later bytes stay.
+///
+/// Refusals: 1 to 9 in the model, 11 to 22 in the certificate, and 23 where the certificate is accepted and the buffer is shorter
+/// than the file. A buffer as long as the model is always enough.
+///
+/// ```
+/// let (model, certificate) = (b"PA\x02\x01\0\0LB\0\0", b"CT\0\0BK\0\0");
+/// let mut buffer = vec![0; model.len()];
+/// assert_eq!(zolkirta::reduce(model, certificate, &mut buffer).unwrap(), b"PA\x01\x01\0\0LB\0");
+/// assert_eq!(zolkirta::reduce(model, certificate, &mut [0; 8]).unwrap_err().number, 23);
+/// ```
+pub fn reduce<'a, 'b>(model: &'a [u8], certificate: &'a [u8], buffer: &'b mut [u8]) -> Result<&'b [u8], Refusal<'a>> {
+    lend(raw::zolkirta_reduce, model, certificate, buffer)
+}
+
+/// Makes a call that lends a buffer, and hands back the part of it that was written.
+fn lend<'a, 'b>(call: raw::Lending, model: &'a [u8], certificate: &'a [u8], buffer: &'b mut [u8]) -> Result<&'b [u8], Refusal<'a>> {
+    // SAFETY: pointers and lengths are those of the slices, and a `&mut` overlaps no other slice.
+    let answer =
+        unsafe { call(model.as_ptr(), model.len(), certificate.as_ptr(), certificate.len(), buffer.as_mut_ptr(), buffer.len()) };
+    Ok(&buffer[..accepted(answer, model, certificate)?.written])
+}

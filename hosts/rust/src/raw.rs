@@ -18,6 +18,9 @@ pub struct Answer {
     pub written: usize,
 }
 
+/// A call that lends a buffer: model, certificate and buffer, each a pointer and a length.
+pub type Lending = unsafe extern "C" fn(*const u8, usize, *const u8, usize, *mut u8, usize) -> Answer;
+
 // Each pointer is to as many readable (for a lent buffer: writable) bytes as the length after it says, and may be null where that
 // is 0. A lent buffer overlaps no other. The library keeps no pointer.
 extern "C" {

@@ -39,11 +39,10 @@ pub fn fetch(model: &[u8], state: u32) -> Answer {
     plain
 }
 
-type Lent = unsafe extern "C" fn(*const u8, usize, *const u8, usize, *mut u8, usize) -> raw::Answer;
-type PlainLent = fn(&[u8], &[u8], &mut [u8]) -> Answer;
+type PlainLending = fn(&[u8], &[u8], &mut [u8]) -> Answer;
 
 /// Calls both with a lent buffer of this length and compares answers, buffers and guard bytes. Hands back what was written.
-fn lent(name: &str, call: Lent, plain_call: PlainLent, model: &[u8], certificate: &[u8], length: usize) -> (Answer, Vec<u8>) {
+fn lent(name: &str, call: raw::Lending, plain_call: PlainLending, model: &[u8], certificate: &[u8], length: usize) -> (Answer, Vec<u8>) {
     let before: Vec<u8> = (0..length + 2 * GUARD).map(|i| (i * 89 + 165) as u8).collect();
     let (mut left, mut right) = (before.clone(), before.clone());
     let library = told(unsafe {

@@ -203,3 +203,24 @@ fn lend<'a, 'b>(call: raw::Lending, model: &'a [u8], certificate: &'a [u8], buff
         unsafe { call(model.as_ptr(), model.len(), certificate.as_ptr(), certificate.len(), buffer.as_mut_ptr(), buffer.len()) };
     Ok(&buffer[..accepted(answer, model, certificate)?.written])
 }
+
+#[cfg(test)]
+mod tests {
+    /// Every number has the words that its line of the C header has.
+    #[test]
+    fn meanings_are_those_of_the_header() {
+        let header = std::fs::read_to_string(concat!(env!("CARGO_MANIFEST_DIR"), "/../../include/zolkirta.h")).unwrap();
+        let (_, list) = header.split_once("enum zolkirta_number {").unwrap();
+        let (list, _) = list.split_once('}').unwrap();
+        let mut said = 0;
+        for line in list.lines().filter(|line| line.contains(" = ")) {
+            let (_, value) = line.split_once(" = ").unwrap();
+            let number: usize = value.split(|c: char| !c.is_ascii_digit()).next().unwrap().parse().unwrap();
+            if let Some((_, words)) = value.split_once("/* ") {
+                assert_eq!(words.trim_end_matches(" */"), super::MEANINGS[number]);
+                said += 1;
+            }
+        }
+        assert_eq!(said, super::MEANINGS.len() - 1);
+    }
+}

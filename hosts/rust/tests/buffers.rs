@@ -1,0 +1,120 @@
+//! Buffers of every length, null pointers, states of every size, and long files.
+mod compare;
+mod large;
+mod plain;
+
+use compare::{accepted, fetch, judge, reduce, told, vectors, Counts, Numbers};
+use large::{flow_heavy, largest_model, refutation_heavy};
+use std::ptr::{null, null_mut};
+use zolkirta::raw::{zolkirta_fetch, zolkirta_judge, zolkirta_reduce};
+
+#[test]
+fn buffers_of_every_length() {
+    for (model, certificate) in accepted() {
+        let n = usize::from(model[2]);
+        for length in (0..=n + 1).chain([64, 65, 255, 256, 257]) {
+            let (answer, blocks) = judge(&model, &certificate, length);
+            let expected = if length < n { (10, 0) } else { (0, n) };
+            assert_eq!((answer.number, blocks.len()), expected);
+        }
+        let merged = reduce(&model, &certificate, model.len()).1;
+        for length in (0..=merged.len() + 1).chain([model.len() + 1]) {
+            let (answer, file) = reduce(&model, &certificate, length);
+            let expected = if length < merged.len() { (23, &[][..]) } else { (0, &merged[..]) };
+            assert_eq!((answer.number, &file[..]), expected);
+        }
+    }
+}
+
+#[test]
+fn a_refusal_writes_nothing_whatever_the_length() {
+    let mut refused = 0;
+    for v in vectors().into_iter().filter(|v| v.call != "fetch" && v.answer.file != 0) {
+        for length in 0..=66 {
+            judge(&v.model, &v.certificate, length);
+            assert_eq!(reduce(&v.model, &v.certificate, length).0.number, v.answer.number);
+            refused += 1;
+        }
+    }
+    assert!(refused > 10_000);
+}
+
+#[test]
+fn null_pointers_at_length_0() {
+    let (model, certificate) = &vectors().into_iter().map(|v| (v.model, v.certificate)).next().unwrap();
+    let (m, m_length, c, c_length) = (model.as_ptr(), model.len(), certificate.as_ptr(), certificate.len());
+    let mut blocks = [7; 64];
+    let b = blocks.as_mut_ptr();
+    // The same call with an empty slice for every null pointer.
+    unsafe {
+        assert_eq!(told(zolkirta_fetch(null(), 0, 0)), fetch(&[], 0));
+        assert_eq!(told(zolkirta_judge(null(), 0, null(), 0, null_mut(), 0)), judge(&[], &[], 0).0);
+        assert_eq!(told(zolkirta_judge(null(), 0, c, c_length, b, 64)), judge(&[], certificate, 64).0);
+        assert_eq!(told(zolkirta_judge(m, m_length, null(), 0, b, 64)), judge(model, &[], 64).0);
+        assert_eq!(told(zolkirta_judge(m, m_length, c, c_length, null_mut(), 0)), judge(model, certificate, 0).0);
+        assert_eq!(told(zolkirta_judge(m, m_length, null(), 0, null_mut(), 0)), judge(model, &[], 0).0);
+        assert_eq!(told(zolkirta_reduce(null(), 0, null(), 0, null_mut(), 0)), reduce(&[], &[], 0).0);
+        assert_eq!(told(zolkirta_reduce(m, m_length, null(), 0, b, 64)), reduce(model, &[], 64).0);
+        assert_eq!(told(zolkirta_reduce(m, m_length, c, c_length, null_mut(), 0)), reduce(model, certificate, 0).0);
+    }
+    assert_eq!(blocks, [7; 64]);
+}
+
+#[test]
+fn states_of_every_size() {
+    let mut models: Vec<_> = vectors().into_iter().map(|v| v.model).collect();
+    models.push(largest_model());
+    models.sort();
+    models.dedup();
+    for model in models {
+        let low = 0..66;
+        let wide = low.clone().flat_map(|state| [8, 16, 24, 31].map(|bit| state + (1 << bit)));
+        for state in low.chain([127, 128, 255, 65_535, u32::MAX]).chain(wide) {
+            let answer = fetch(&model, state);
+            assert_eq!(answer.number == 24, answer.file == 0 && state >= model[2].into());
+        }
+    }
+}
+
+#[test]
+fn long_certificates() {
+    let mut counts = Counts::default();
+    let mut numbers = Numbers::new(5);
+    for ((model, certificate), record) in [(flow_heavy(3), 37), (refutation_heavy(), 773)] {
+        let size = certificate.len();
+        assert!(size > 300_000 && counts.pair(&model, &certificate).number == 0);
+        for end in [65_534, 65_535, 65_536, 65_537, 262_143, 262_144, 262_145, size - 1] {
+            counts.pair(&model, &certificate[..end]);
+        }
+        let longer = [&certificate[..], &[0; 70_000]].concat();
+        assert_eq!(counts.pair(&model, &longer).place, size);
+        // Bytes changed after 2^18, and in the last records.
+        let last = (size - 2 * record..size).step_by(record / 40 | 1);
+        for at in (1 << 18..size).step_by(size / 60).chain(last) {
+            let mut damaged = certificate.clone();
+            damaged[at] = match numbers.below(3) {
+                0 => damaged[at] ^ 1,
+                1 => damaged[at].wrapping_add(1),
+                _ => numbers.any() as u8,
+            };
+            let answer = counts.pair(&model, &damaged);
+            assert!(answer.number == 0 || answer.place > 0xffff && answer.file == 2);
+        }
+    }
+    println!("long certificates: {counts}");
+    for number in [0, 11, 12, 14, 15, 16, 17, 19, 20, 21, 22] {
+        assert!(counts.answers[number] > 0, "no long certificate was answered with {number}");
+    }
+}
+
+#[test]
+fn long_models() {
+    let mut counts = Counts::default();
+    let largest = largest_model();
+    assert_eq!(fetch(&largest, 63).stretch_length, 4 * 19);
+    for more in [1, 65_535, 300_000] {
+        let long = [&largest[..], &vec![0; more]].concat();
+        let answer = counts.pair(&long, &long);
+        assert_eq!((answer.number, answer.place, answer.stretch_length), (9, largest.len(), more));
+    }
+}

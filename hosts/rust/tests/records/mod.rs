@@ -1,0 +1,241 @@
+//! Damage by records and fields: a sound pair is split into its records, some are changed, and the rest stays right.
+use crate::compare::{Counts, Numbers};
+use std::iter::once;
+use std::ops::Range;
+
+/// The records of model and certificate.
+pub type Records = [Vec<Vec<u8>>; 2];
+
+fn value(record: &[u8], field: Range<usize>) -> u64 {
+    record[field].iter().fold(0, |value, &byte| value << 8 | u64::from(byte))
+}
+
+fn put(record: &mut [u8], field: Range<usize>, value: u64) {
+    let bytes = value.to_be_bytes();
+    record[field.clone()].copy_from_slice(&bytes[8 - field.len()..]);
+}
+
+/// A sound pair as its records.
+pub fn split((model, certificate): &(Vec<u8>, Vec<u8>)) -> Records {
+    let n = usize::from(model[2]);
+    let cut = |mut file: &[u8], size: &dyn Fn(&[u8]) -> usize| {
+        let mut records = Vec::new();
+        while !file.is_empty() {
+            let (record, rest) = file.split_at(size(file));
+            records.push(record.to_vec());
+            file = rest;
+        }
+        records
+    };
+    let model = cut(model, &|r| match &r[..2] {
+        b"PA" => 6,
+        b"LB" => 2 + n,
+        _ => 7 + 3 * usize::from(r[6]),
+    });
+    let certificate = cut(certificate, &|r| match &r[..2] {
+        b"CT" => 4,
+        b"BK" => 2 + n,
+        b"PX" if model[2 + value(r, 2..4) as usize][3] == 0 => 5 + 8 * n,
+        b"PX" => 5 + 12 * n,
+        _ => w_count(r) + 2 + 6 * value(r, w_count(r)..w_count(r) + 2) as usize,
+    });
+    [model, certificate]
+}
+
+/// Where a flow's w count stands.
+fn w_count(flow: &[u8]) -> usize {
+    8 + 7 * value(flow, 6..8) as usize
+}
+
+/// The fields of a record, as far as it is whole.
+fn fields(record: &[u8]) -> Vec<Range<usize>> {
+    let widths: Box<dyn Iterator<Item = &usize>> = match record {
+        [b'P', b'A', ..] => Box::new([1, 1, 2].iter()),
+        [b'C', b'T', ..] => Box::new([2].iter()),
+        [b'T', b'R', ..] => Box::new([1, 1, 2, 1].iter().chain([1, 2].iter().cycle())),
+        [b'P', b'X', ..] => Box::new([2, 1].iter().chain([4].iter().cycle())),
+        [b'F', b'L', _, _, _, _, high, low, ..] => {
+            let k_fields = 3 * (usize::from(*high) << 8 | usize::from(*low));
+            Box::new([4, 2].iter().chain([1, 2, 4].iter().cycle().take(k_fields)).chain(&[2]).chain([1, 1, 4].iter().cycle()))
+        }
+        _ => Box::new([1].iter().cycle()),
+    };
+    let mut end = 0;
+    let fields = once(&2).chain(widths).map(|width| {
+        end += width;
+        end - width..end
+    });
+    fields.take_while(|field| field.end <= record.len()).collect()
+}
+
+/// A list of entries in a record: where its count stands, where it starts and the size of an entry.
+fn entries(record: &[u8]) -> Vec<(Range<usize>, usize, usize)> {
+    let lists = match record {
+        [b'T', b'R', _, _, _, _, _, ..] => vec![(6..7, 7, 3)],
+        [b'F', b'L', _, _, _, _, _, _, ..] => vec![(6..8, 8, 7), (w_count(record)..w_count(record) + 2, w_count(record) + 2, 6)],
+        _ => Vec::new(),
+    };
+    let whole = |count: &Range<usize>, start: usize, size: usize| {
+        start <= record.len() && start + size * value(record, count.clone()) as usize <= record.len()
+    };
+    lists.into_iter().filter(|(count, start, size)| whole(count, *start, *size)).collect()
+}
+
+/// Drops, doubles or swaps entries of a list in a record; the count stays right.
+fn damage_entries(record: &mut Vec<u8>, numbers: &mut Numbers) {
+    let lists = entries(record);
+    if lists.is_empty() {
+        return;
+    }
+    let (count, start, size) = numbers.of(&lists).clone();
+    let number = value(record, count.clone()) as usize;
+    if number == 0 {
+        return;
+    }
+    let at = start + size * numbers.below(number);
+    let entry = record[at..at + size].to_vec();
+    match numbers.below(3) {
+        0 => {
+            record.drain(at..at + size);
+            put(record, count, number as u64 - 1);
+        }
+        1 => {
+            record.splice(at..at, entry);
+            put(record, count, number as u64 + 1);
+        }
+        _ => {
+            let with = start + size * numbers.below(number);
+            record.copy_within(with..with + size, at);
+            record[with..with + size].copy_from_slice(&entry);
+        }
+    }
+}
+
+/// A value on an edge, or near the one that is there.
+fn edge(old: u64, width: usize, n: u64, numbers: &mut Numbers) -> u64 {
+    let top = 1u64 << (8 * width - 1);
+    let bit = 1 << numbers.below(8 * width);
+    let near = [old.wrapping_add(1), old.wrapping_sub(1), old ^ bit, old ^ top, old << 1, old >> 1];
+    let edges = [0, 1, 2, n - 1, n, n + 1, 31, 32, 33, 63, 64, 65, 255, 256, 257, 1024, 2016, 2017, 65535, top - 1, top, top + 1, u64::MAX];
+    if numbers.below(2) == 0 { *numbers.of(&near) } else { *numbers.of(&edges) }
+}
+
+/// Spells a record otherwise, so that what is accepted stays so: D, k and w of a flow or the prices of a refutation times a factor, and
+/// the prices moved by one amount; d and the weights of a transition times a factor, which only flows that use it notice.
+fn respell(record: &mut [u8], numbers: &mut Numbers) {
+    let (width, most) = match &record[..2] {
+        b"TR" => (2, i64::from(u16::MAX)),
+        b"FL" => (4, i64::from(u32::MAX)),
+        b"PX" => (4, i64::from(i32::MAX)),
+        _ => return,
+    };
+    let prices = record.starts_with(b"PX");
+    let amounts: Vec<_> = fields(record).into_iter().skip(1).filter(|field| field.len() == width).collect();
+    let read = |field: &Range<usize>| match value(record, field.clone()) {
+        price if prices => i64::from(price as u32 as i32),
+        amount => amount as i64,
+    };
+    let old: Vec<i64> = amounts.iter().map(read).collect();
+    let largest = old.iter().map(|x| x.abs()).max().unwrap_or(0).max(1);
+    let room = (most / largest).max(1);
+    let factor = [1, room, room.min(2), 1 + numbers.below(room as usize) as i64][numbers.below(4)];
+    let space = (most - largest * factor).max(0);
+    let moved = if prices { [0, space, -space][numbers.below(3)] } else { 0 };
+    for (field, x) in amounts.into_iter().zip(old) {
+        put(record, field, x.wrapping_mul(factor).wrapping_add(moved) as u64);
+    }
+}
+
+/// One damage to one file; `other` is another pair, which lends a record or a whole file.
+fn damage(pair: &mut Records, other: &Records, n: u64, numbers: &mut Numbers) {
+    let which = usize::from(numbers.below(4) > 0);
+    let file = &mut pair[which];
+    let (at, several) = (numbers.below(file.len()), file.len() > 1);
+    let record = &mut file[at];
+    match numbers.below(20) {
+        0 if several => drop(file.remove(at)),
+        1 => {
+            let copy = record.clone();
+            file.insert(at, copy);
+        }
+        2 => {
+            let with = numbers.below(file.len());
+            file.swap(at, with);
+        }
+        3 => *record = numbers.of(&other[which]).clone(),
+        4 => *file = other[which].clone(),
+        5 => {
+            let mark = numbers.of(&[b"PA", b"LB", b"TR", b"CT", b"PX", b"BK", b"FL", b"pa", b"AP"]);
+            record[..2].copy_from_slice(*mark);
+        }
+        6 => damage_entries(record, numbers),
+        7 => {
+            // Blocks or labels under other numbers.
+            if let Some(named) = file.iter_mut().find(|record| matches!(&record[..2], b"BK" | b"LB")) {
+                let (one, two) = (numbers.below(4) as u8, numbers.below(4) as u8);
+                for byte in &mut named[2..] {
+                    *byte = if *byte == one { two } else if *byte == two { one } else { *byte };
+                }
+            }
+        }
+        8 => {
+            // One weight, price or amount more and another one less.
+            let all = fields(record);
+            let (from, to) = (numbers.of(&all).clone(), numbers.of(&all).clone());
+            if from.len() == to.len() && from != to {
+                let (less, more) = (value(record, from.clone()).wrapping_sub(1), value(record, to.clone()).wrapping_add(1));
+                put(record, from, less);
+                put(record, to, more);
+            }
+        }
+        9 => {
+            let size = 1 + numbers.below(9);
+            record.extend(numbers.bytes(size));
+        }
+        10 => respell(record, numbers),
+        _ => {
+            let field = numbers.of(&fields(record)).clone();
+            let new = edge(value(record, field.clone()), field.len(), n, numbers);
+            put(record, field, new);
+        }
+    }
+    // Half of the time the head's count follows.
+    if numbers.below(2) == 0 {
+        let (mark, field) = [(b"TR", 4..6), (b"PX", 2..4)][which].clone();
+        let count = pair[which].iter().filter(|record| record.starts_with(mark)).count();
+        if pair[which][0].len() >= field.end {
+            put(&mut pair[which][0], field, count as u64);
+        }
+    }
+}
+
+/// Sends so many damaged pairs through the three calls: each is one of these pairs, respelled and then damaged.
+pub fn damaged(pairs: &[(Vec<u8>, Vec<u8>)], times: u64, seed: u64) -> Counts {
+    let pairs: Vec<Records> = pairs.iter().map(split).collect();
+    let mut counts = Counts::default();
+    let mut numbers = Numbers::new(seed);
+    for _ in 0..times {
+        let mut pair = numbers.of(&pairs).clone();
+        let n = pair[0][1].len() - 2;
+        for record in &mut pair[1] {
+            if numbers.below(4) == 0 {
+                respell(record, &mut numbers);
+            }
+        }
+        for _ in 0..1 + numbers.below(4) / 2 + numbers.below(8) / 7 {
+            damage(&mut pair, numbers.of(&pairs), n as u64, &mut numbers);
+        }
+        let [mut model, mut certificate] = pair.map(|records| records.concat());
+        match numbers.below(24) {
+            0 => model.truncate(numbers.below(model.len() + 1)),
+            1 => certificate.truncate(numbers.below(certificate.len() + 1)),
+            _ => {}
+        }
+        let (blocks, out, state) = match numbers.below(4) {
+            0 => (numbers.below(n + 2), numbers.below(model.len() + 2), numbers.below(n + 2)),
+            _ => (64, model.len(), numbers.below(n)),
+        };
+        counts.pair_with(&model, &certificate, blocks, out, state as u32);
+    }
+    counts
+}

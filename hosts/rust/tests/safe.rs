@@ -1,0 +1,90 @@
+//! The safe calls say what the raw ones say, and hand back the caller's own bytes.
+mod compare;
+mod plain;
+
+use compare::{accepted, fetch, judge, reduce, vectors, Counts, Numbers};
+use plain::Answer;
+use zolkirta::{File, Refusal};
+
+/// The slice lies in this file from this place on: the same bytes at the same address.
+fn same_bytes(slice: &[u8], file: &[u8], from: usize, length: usize) {
+    assert_eq!(slice.len(), length);
+    assert!(length == 0 || std::ptr::eq(slice, &file[from..from + length]));
+}
+
+fn same_refusal(refusal: Refusal, answer: Answer, model: &[u8], certificate: &[u8]) {
+    let (file, name, bytes) = match answer.file {
+        0 => (None, "", &[][..]),
+        1 => (Some(File::Model), "model", model),
+        _ => (Some(File::Certificate), "certificate", certificate),
+    };
+    assert_eq!((refusal.number, refusal.file, refusal.place), (answer.number, file, answer.place));
+    same_bytes(refusal.stretch, bytes, answer.stretch_start, answer.stretch_length);
+    let place = file.map_or(String::new(), |_| format!(" ({name}, byte {})", answer.place));
+    assert_eq!(refusal.to_string(), format!("refusal {}: {}{place}", answer.number, refusal.meaning()));
+}
+
+type Call = for<'a, 'b> fn(&'a [u8], &'a [u8], &'b mut [u8]) -> Result<&'b [u8], Refusal<'a>>;
+
+/// Makes a safe call that lends a buffer and compares it with the answer of the raw one.
+fn same_lent(call: Call, told: (Answer, Vec<u8>), model: &[u8], certificate: &[u8], length: usize) {
+    let mut buffer = vec![0x3c; length];
+    let start = buffer.as_ptr();
+    match call(model, certificate, &mut buffer) {
+        Ok(written) => {
+            assert!(told.0.number == 0 && written == told.1 && written.as_ptr() == start);
+            let size = written.len();
+            assert!(buffer[size..].iter().all(|&byte| byte == 0x3c));
+        }
+        Err(refusal) => {
+            same_refusal(refusal, told.0, model, certificate);
+            assert!(buffer.iter().all(|&byte| byte == 0x3c));
+        }
+    }
+}
+
+fn same(counts: &mut Counts, model: &[u8], certificate: &[u8], state: u32, blocks: usize, out: usize) {
+    let answer = counts.count(fetch(model, state));
+    match zolkirta::fetch(model, state) {
+        Ok(run) => {
+            assert_eq!(answer.number, 0);
+            same_bytes(run, model, answer.stretch_start, answer.stretch_length);
+        }
+        Err(refusal) => same_refusal(refusal, answer, model, &[]),
+    }
+    let judged = judge(model, certificate, blocks);
+    counts.count(judged.0);
+    same_lent(zolkirta::judge, judged, model, certificate, blocks);
+    let reduced = reduce(model, certificate, out);
+    counts.count(reduced.0);
+    same_lent(zolkirta::reduce, reduced, model, certificate, out);
+}
+
+#[test]
+fn safe_calls_say_what_the_raw_ones_say() {
+    let mut counts = Counts::default();
+    for v in vectors() {
+        same(&mut counts, &v.model, &v.certificate, v.argument as u32, v.argument, v.argument);
+    }
+    let mut numbers = Numbers::new(13);
+    let pairs = accepted();
+    for _ in 0..20_000 {
+        let (mut model, mut certificate) = numbers.of(&pairs).clone();
+        let file = if numbers.below(5) == 0 { &mut model } else { &mut certificate };
+        let at = numbers.below(file.len());
+        file[at] ^= 1 << numbers.below(8);
+        same(&mut counts, &model, &certificate, numbers.below(9) as u32, 64, model.len());
+    }
+    for (number, count) in counts.answers.iter().enumerate() {
+        assert!(*count > 0, "no safe call was answered with {number}");
+    }
+}
+
+#[test]
+fn a_refusal_is_an_error_of_few_words() {
+    let model = [&b"PA\x01\x01\0\0LB\0"[..], &[0; 10_000]].concat();
+    let refusal = zolkirta::fetch(&model, 0).unwrap_err();
+    assert_eq!(format!("{refusal:?}"), "Refusal { number: 9, file: Some(Model), place: 9, stretch: 10000 bytes }");
+    let error: &dyn std::error::Error = &refusal;
+    assert_eq!(error.to_string(), "refusal 9: bytes are left after the last transition (model, byte 9)");
+}

@@ -3,7 +3,7 @@ mod compare;
 mod large;
 mod plain;
 
-use compare::{accepted, fetch, judge, reduce, told, vectors, Counts, Numbers};
+use compare::{accepted, fetch, judge, reduce, told, vectors, Counts};
 use large::{flow_heavy, largest_model, refutation_heavy};
 use std::ptr::{null, null_mut};
 use zolkirta::raw::{zolkirta_fetch, zolkirta_judge, zolkirta_reduce};
@@ -79,8 +79,12 @@ fn states_of_every_size() {
 #[test]
 fn long_certificates() {
     let mut counts = Counts::default();
-    let mut numbers = Numbers::new(5);
-    for ((model, certificate), record) in [(flow_heavy(3), 37), (refutation_heavy(), 773)] {
+    let (flows, refutations) = (flow_heavy(3), refutation_heavy());
+    // Bytes of the last flow; fields and every second price of the last refutation, and the blocks.
+    let last_flow: Vec<usize> = (flows.1.len() - 37..flows.1.len()).collect();
+    let (start, blocks) = (refutations.1.len() - 66 - 773, refutations.1.len() - 66);
+    let last_refutation = (start..start + 5).chain((start + 8..blocks).step_by(8)).chain(blocks..blocks + 66).collect();
+    for ((model, certificate), last) in [(flows, last_flow), (refutations, last_refutation)] {
         let size = certificate.len();
         assert!(size > 300_000 && counts.pair(&model, &certificate).number == 0);
         for end in [65_534, 65_535, 65_536, 65_537, 262_143, 262_144, 262_145, size - 1] {
@@ -88,21 +92,16 @@ fn long_certificates() {
         }
         let longer = [&certificate[..], &[0; 70_000]].concat();
         assert_eq!(counts.pair(&model, &longer).place, size);
-        // Bytes changed after 2^18, and in the last records.
-        let last = (size - 2 * record..size).step_by(record / 40 | 1);
-        for at in (1 << 18..size).step_by(size / 60).chain(last) {
-            let mut damaged = certificate.clone();
-            damaged[at] = match numbers.below(3) {
-                0 => damaged[at] ^ 1,
-                1 => damaged[at].wrapping_add(1),
-                _ => numbers.any() as u8,
-            };
+        let mut damaged = certificate.clone();
+        for at in (1 << 18..size).step_by(size / 30).chain(last) {
+            damaged[at] ^= 1;
             let answer = counts.pair(&model, &damaged);
-            assert!(answer.number == 0 || answer.place > 0xffff && answer.file == 2);
+            assert!(answer.number == 0 || answer.file == 2 && answer.place > 1 << 17);
+            damaged[at] = certificate[at];
         }
     }
     println!("long certificates: {counts}");
-    for number in [0, 11, 12, 14, 15, 16, 17, 19, 20, 21, 22] {
+    for number in [0, 11, 12, 14, 15, 16, 17, 18, 19, 20, 21, 22] {
         assert!(counts.answers[number] > 0, "no long certificate was answered with {number}");
     }
 }

@@ -2,7 +2,7 @@
 
 /// What a call answers.
 #[repr(C)]
-#[derive(Clone, Copy, Debug, PartialEq, Eq)]
+#[derive(Clone, Copy, Debug, Default, PartialEq, Eq)]
 pub struct Answer {
     /// 0, or the number of the refusal.
     pub number: u32,

@@ -3,7 +3,7 @@ mod compare;
 mod large;
 mod plain;
 
-use compare::{accepted, fetch, judge, reduce, told, vectors, Counts};
+use compare::{accepted, fetch, judge, reduce, vectors, Counts};
 use large::{flow_heavy, largest_model, refutation_heavy};
 use std::ptr::{null, null_mut};
 use zolkirta::raw::{zolkirta_fetch, zolkirta_judge, zolkirta_reduce};
@@ -41,23 +41,24 @@ fn a_refusal_writes_nothing_whatever_the_length() {
 
 #[test]
 fn null_pointers_at_length_0() {
-    let (model, certificate) = &vectors().into_iter().map(|v| (v.model, v.certificate)).next().unwrap();
+    let (model, certificate) = &accepted()[0];
     let (m, m_length, c, c_length) = (model.as_ptr(), model.len(), certificate.as_ptr(), certificate.len());
     let mut blocks = [7; 64];
     let b = blocks.as_mut_ptr();
     // The same call with an empty slice for every null pointer.
     unsafe {
-        assert_eq!(told(zolkirta_fetch(null(), 0, 0)), fetch(&[], 0));
-        assert_eq!(told(zolkirta_judge(null(), 0, null(), 0, null_mut(), 0)), judge(&[], &[], 0).0);
-        assert_eq!(told(zolkirta_judge(null(), 0, c, c_length, b, 64)), judge(&[], certificate, 64).0);
-        assert_eq!(told(zolkirta_judge(m, m_length, null(), 0, b, 64)), judge(model, &[], 64).0);
-        assert_eq!(told(zolkirta_judge(m, m_length, c, c_length, null_mut(), 0)), judge(model, certificate, 0).0);
-        assert_eq!(told(zolkirta_judge(m, m_length, null(), 0, null_mut(), 0)), judge(model, &[], 0).0);
-        assert_eq!(told(zolkirta_reduce(null(), 0, null(), 0, null_mut(), 0)), reduce(&[], &[], 0).0);
-        assert_eq!(told(zolkirta_reduce(m, m_length, null(), 0, b, 64)), reduce(model, &[], 64).0);
-        assert_eq!(told(zolkirta_reduce(m, m_length, c, c_length, null_mut(), 0)), reduce(model, certificate, 0).0);
+        assert_eq!(zolkirta_fetch(null(), 0, 0), fetch(&[], 0));
+        assert_eq!(zolkirta_judge(null(), 0, null(), 0, null_mut(), 0), judge(&[], &[], 0).0);
+        assert_eq!(zolkirta_judge(null(), 0, c, c_length, b, 64), judge(&[], certificate, 64).0);
+        assert_eq!(zolkirta_judge(m, m_length, null(), 0, b, 64), judge(model, &[], 64).0);
+        assert_eq!(zolkirta_judge(m, m_length, c, c_length, null_mut(), 0), judge(model, certificate, 0).0);
+        assert_eq!(zolkirta_judge(m, m_length, null(), 0, null_mut(), 0), judge(model, &[], 0).0);
+        assert_eq!(zolkirta_reduce(null(), 0, null(), 0, null_mut(), 0), reduce(&[], &[], 0).0);
+        assert_eq!(zolkirta_reduce(m, m_length, null(), 0, b, 64), reduce(model, &[], 64).0);
+        assert_eq!(zolkirta_reduce(m, m_length, c, c_length, null_mut(), 0), reduce(model, certificate, 0).0);
     }
     assert_eq!(blocks, [7; 64]);
+    assert_eq!([judge(model, certificate, 0).0.number, reduce(model, certificate, 0).0.number], [10, 23]);
 }
 
 #[test]

@@ -23,14 +23,9 @@ pub fn bytes(hex: &str) -> Vec<u8> {
     }
 }
 
-pub fn told(answer: raw::Answer) -> Answer {
-    let raw::Answer { number, file, place, stretch_start, stretch_length, written } = answer;
-    Answer { number, file, place, stretch_start, stretch_length, written }
-}
-
 /// Fetches by both and compares.
 pub fn fetch(model: &[u8], state: u32) -> Answer {
-    let library = told(unsafe { raw::zolkirta_fetch(model.as_ptr(), model.len(), state) });
+    let library = unsafe { raw::zolkirta_fetch(model.as_ptr(), model.len(), state) };
     let plain = plain::fetch(model, state);
     assert!(library == plain, "fetch of state {state}\nlibrary {library:?}\nplain   {plain:?}\nmodel {}", hex(model));
     plain
@@ -42,9 +37,8 @@ type PlainLending = fn(&[u8], &[u8], &mut [u8]) -> Answer;
 fn lent(name: &str, call: raw::Lending, plain_call: PlainLending, model: &[u8], certificate: &[u8], length: usize) -> (Answer, Vec<u8>) {
     let before: Vec<u8> = (0..length + 2 * GUARD).map(|i| (i * 89 + 165) as u8).collect();
     let (mut left, mut right) = (before.clone(), before.clone());
-    let library = told(unsafe {
-        call(model.as_ptr(), model.len(), certificate.as_ptr(), certificate.len(), left[GUARD..].as_mut_ptr(), length)
-    });
+    let library =
+        unsafe { call(model.as_ptr(), model.len(), certificate.as_ptr(), certificate.len(), left[GUARD..].as_mut_ptr(), length) };
     let plain = plain_call(model, certificate, &mut right[GUARD..GUARD + length]);
     let silent = plain.number == 0 || right == before;
     assert!(

@@ -4,16 +4,7 @@
 //! of two such sums below 2^48. k times d is below 2^48, and a state's equation has at most 768 of them (each layer and transition
 //! once), 64 w and one D: below 2^58. d0 times the at most 64 w onto a state is below 2^54.
 
-/// What a call answers: the fields of the header's answer.
-#[derive(Clone, Copy, Debug, Default, PartialEq, Eq)]
-pub struct Answer {
-    pub number: u32,
-    pub file: u32,
-    pub place: usize,
-    pub stretch_start: usize,
-    pub stretch_length: usize,
-    pub written: usize,
-}
+pub use zolkirta::raw::Answer;
 
 /// A refusal's number and the place of the record at fault.
 type Fault = (u32, usize);

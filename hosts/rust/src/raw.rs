@@ -1,4 +1,9 @@
-//! The calls of `include/zolkirta.h` as they are.
+//! The calls of `include/zolkirta.h` as they are, for hosts that keep to pointers and lengths.
+//!
+//! # Safety
+//!
+//! Each pointer is to as many readable bytes as the length after it says, for a lent buffer writable ones, and may be null where that
+//! is 0. A lent buffer overlaps no other one and no input. The library keeps no pointer.
 
 /// What a call answers.
 #[repr(C)]
@@ -21,10 +26,10 @@ pub struct Answer {
 /// A call that lends a buffer: model, certificate and buffer, each a pointer and a length.
 pub type Lending = unsafe extern "C" fn(*const u8, usize, *const u8, usize, *mut u8, usize) -> Answer;
 
-// Each pointer is to as many readable (for a lent buffer: writable) bytes as the length after it says, and may be null where that
-// is 0. A lent buffer overlaps no other. The library keeps no pointer.
 extern "C" {
+    /// [`fetch`](crate::fetch): the run is in `stretch_start` and `stretch_length`.
     pub fn zolkirta_fetch(model: *const u8, model_length: usize, state: u32) -> Answer;
+    /// [`judge`](crate::judge)
     pub fn zolkirta_judge(
         model: *const u8,
         model_length: usize,
@@ -33,6 +38,7 @@ extern "C" {
         blocks: *mut u8,
         blocks_length: usize,
     ) -> Answer;
+    /// [`reduce`](crate::reduce)
     pub fn zolkirta_reduce(
         model: *const u8,
         model_length: usize,

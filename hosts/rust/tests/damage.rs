@@ -4,7 +4,8 @@ mod compare;
 mod plain;
 mod records;
 
-use compare::{accepted, rounds, Counts, Numbers};
+use compare::{accepted, judge, rounds, Counts, Numbers};
+use records::{damaged, respelled};
 
 #[test]
 fn every_truncation() {
@@ -62,8 +63,34 @@ fn random_bytes() {
 }
 
 #[test]
+fn respelled_certificates_name_the_same_blocks() {
+    let mut numbers = Numbers::new(3);
+    for pair in accepted() {
+        let blocks = judge(&pair.0, &pair.1, 64).1;
+        for _ in 0..100 {
+            let (answer, same) = judge(&pair.0, &respelled(&pair, &mut numbers), 64);
+            assert_eq!((answer.number, &same), (0, &blocks));
+        }
+    }
+}
+
+/// 64 states, each a block, and 1,024 entries, 40 of them alone in their transition: one of these doubled is one entry too many.
+fn crowded() -> (Vec<u8>, Vec<u8>) {
+    let sizes = [vec![1; 40], vec![8; 27], vec![64; 12]].concat();
+    let mut model = [&b"PA\x40\x01\0\x4fLB"[..], &(0..64).collect::<Vec<u8>>()].concat();
+    for (size, source) in sizes.into_iter().zip(0..) {
+        model.extend([b'T', b'R', source / 2, 0, 0, size, size]);
+        model.extend((0..size).flat_map(|state| [state, 0, 1]));
+    }
+    (model, [&b"CT\0\0BK"[..], &(0..64).collect::<Vec<u8>>()].concat())
+}
+
+#[test]
 fn damage_by_records_and_fields() {
-    let counts = records::damaged(&accepted(), rounds(600_000), 7);
+    let mut pairs = accepted();
+    pairs.push(crowded());
+    assert_eq!(judge(&pairs.last().unwrap().0, &pairs.last().unwrap().1, 64).0.number, 0);
+    let counts = damaged(&pairs, rounds(600_000), 7);
     println!("damage by records and fields: {counts}");
     for (number, count) in counts.answers.iter().enumerate() {
         assert!(*count > 0, "no damaged pair was answered with {number}");

@@ -4,7 +4,7 @@ use std::iter::once;
 use std::ops::Range;
 
 /// The records of model and certificate.
-pub type Records = [Vec<Vec<u8>>; 2];
+type Records = [Vec<Vec<u8>>; 2];
 
 fn value(record: &[u8], field: Range<usize>) -> u64 {
     record[field].iter().fold(0, |value, &byte| value << 8 | u64::from(byte))
@@ -16,7 +16,7 @@ fn put(record: &mut [u8], field: Range<usize>, value: u64) {
 }
 
 /// A sound pair as its records.
-pub fn split((model, certificate): &(Vec<u8>, Vec<u8>)) -> Records {
+fn split((model, certificate): &(Vec<u8>, Vec<u8>)) -> Records {
     let n = usize::from(model[2]);
     let cut = |mut file: &[u8], size: &dyn Fn(&[u8]) -> usize| {
         let mut records = Vec::new();
@@ -209,6 +209,22 @@ fn damage(pair: &mut Records, other: &Records, n: u64, numbers: &mut Numbers) {
     }
 }
 
+/// Some of a certificate's records spelled otherwise.
+fn respell_some(certificate: &mut [Vec<u8>], numbers: &mut Numbers) {
+    for record in certificate {
+        if numbers.below(4) == 0 {
+            respell(record, numbers);
+        }
+    }
+}
+
+/// An accepted pair's certificate, with some records spelled otherwise.
+pub fn respelled(pair: &(Vec<u8>, Vec<u8>), numbers: &mut Numbers) -> Vec<u8> {
+    let [_, mut certificate] = split(pair);
+    respell_some(&mut certificate, numbers);
+    certificate.concat()
+}
+
 /// Sends so many damaged pairs through the three calls: each is one of these pairs, respelled and then damaged.
 pub fn damaged(pairs: &[(Vec<u8>, Vec<u8>)], times: u64, seed: u64) -> Counts {
     let pairs: Vec<Records> = pairs.iter().map(split).collect();
@@ -217,11 +233,7 @@ pub fn damaged(pairs: &[(Vec<u8>, Vec<u8>)], times: u64, seed: u64) -> Counts {
     for _ in 0..times {
         let mut pair = numbers.of(&pairs).clone();
         let n = pair[0][1].len() - 2;
-        for record in &mut pair[1] {
-            if numbers.below(4) == 0 {
-                respell(record, &mut numbers);
-            }
-        }
+        respell_some(&mut pair[1], &mut numbers);
         for _ in 0..1 + numbers.below(4) / 2 + numbers.below(8) / 7 {
             damage(&mut pair, numbers.of(&pairs), n as u64, &mut numbers);
         }

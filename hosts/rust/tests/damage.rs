@@ -4,24 +4,45 @@ mod compare;
 mod plain;
 mod records;
 
-use compare::{accepted, judge, rounds, Counts, Numbers};
+use compare::{accepted, judge, rounds, vectors, Counts, Numbers};
 use records::{damaged, respelled};
+use std::collections::BTreeSet;
+
+/// Sends every truncation of both files of these pairs through.
+fn truncations<'a>(pairs: impl IntoIterator<Item = &'a (Vec<u8>, Vec<u8>)>) -> Counts {
+    let mut counts = Counts::default();
+    for (model, certificate) in pairs {
+        for size in 0..model.len() {
+            counts.pair(&model[..size], certificate);
+        }
+        for size in 0..certificate.len() {
+            counts.pair(model, &certificate[..size]);
+        }
+    }
+    counts
+}
 
 #[test]
 fn every_truncation() {
-    let mut counts = Counts::default();
-    for (model, certificate) in accepted() {
-        for size in 0..model.len() {
-            counts.pair(&model[..size], &certificate);
-        }
-        for size in 0..certificate.len() {
-            counts.pair(&model, &certificate[..size]);
-        }
-    }
-    println!("truncations: {counts}");
+    let counts = truncations(&accepted());
+    println!("truncations of accepted pairs: {counts}");
     // What is cut off is missing in some record: no other number can be, but for fetches of whole models.
     let [fetched, model_ends, certificate_ends] = [0, 1, 11].map(|number| counts.answers[number]);
     assert_eq!(fetched + model_ends + certificate_ends, 3 * counts.pairs);
+    let refused: BTreeSet<_> = vectors().into_iter().filter(|v| v.answer.file != 0).map(|v| (v.model, v.certificate)).collect();
+    println!("truncations of refused pairs: {}", truncations(&refused));
+}
+
+/// Hands out every change of one byte of a file.
+fn changes(file: &[u8], mut each: impl FnMut(&[u8])) {
+    let mut damaged = file.to_vec();
+    for at in 0..file.len() {
+        for change in 1..=255 {
+            damaged[at] = file[at] ^ change;
+            each(&damaged);
+        }
+        damaged[at] = file[at];
+    }
 }
 
 #[test]
@@ -29,17 +50,9 @@ fn every_change_of_one_byte() {
     let mut counts = Counts::default();
     let small: Vec<_> = accepted().into_iter().filter(|(model, certificate)| model.len() + certificate.len() <= 170).collect();
     assert!(small.iter().any(|(model, certificate)| model.len() == 31 && certificate.len() == 125)); // S has these lengths
-    for (model, certificate) in small {
-        for at in 0..model.len() + certificate.len() {
-            let (mut model, mut certificate) = (model.clone(), certificate.clone());
-            for change in 1..=255 {
-                let byte = if at < model.len() { &mut model[at] } else { &mut certificate[at - model.len()] };
-                let before = *byte;
-                *byte ^= change;
-                counts.pair(&model, &certificate);
-                if at < model.len() { model[at] = before } else { certificate[at - model.len()] = before }
-            }
-        }
+    for (model, certificate) in &small {
+        changes(model, |damaged| _ = counts.pair(damaged, certificate));
+        changes(certificate, |damaged| _ = counts.pair(model, damaged));
     }
     println!("changes of one byte: {counts}");
 }

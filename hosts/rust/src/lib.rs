@@ -39,6 +39,18 @@ pub enum File {
 }
 
 /// Why a call did not accept. A refusal writes no byte of any lent buffer.
+///
+/// It borrows the file at fault. An error that outlives the files keeps the words:
+///
+/// ```
+/// fn blocks(model: &[u8], certificate: &[u8]) -> Result<Vec<u8>, Box<dyn std::error::Error>> {
+///     let mut buffer = [0; zolkirta::STATES];
+///     let blocks = zolkirta::judge(model, certificate, &mut buffer).map_err(|refusal| refusal.to_string())?;
+///     Ok(blocks.to_vec())
+/// }
+/// let error = blocks(b"PA\x02\x01\0\0LB\0\0", b"CT").unwrap_err();
+/// assert_eq!(error.to_string(), "refusal 11: the file ends inside a record (certificate, byte 0)");
+/// ```
 #[derive(Clone, Copy, PartialEq, Eq)]
 #[non_exhaustive]
 pub struct Refusal<'a> {

@@ -1,0 +1,128 @@
+//! Model and certificate as values, and their bytes.
+
+#[derive(Clone, Debug, PartialEq, Eq)]
+pub struct Transition {
+    pub source: usize,
+    pub action: usize,
+    pub d: i64,
+    /// State and weight, states ascending.
+    pub weights: Vec<(usize, i64)>,
+}
+
+/// States are counted by their labels; transitions are in file order.
+#[derive(Clone, Debug, PartialEq, Eq)]
+pub struct Model {
+    pub labels: Vec<u8>,
+    pub m: usize,
+    pub transitions: Vec<Transition>,
+}
+
+/// Prices A, B (external challengers only) and G.
+#[derive(Clone, Debug, PartialEq, Eq)]
+pub struct Refutation {
+    pub challenger: usize,
+    pub defender: usize,
+    pub prices: Vec<Vec<i32>>,
+}
+
+/// D, the k by (layer, transition) and the w by (v, u).
+#[derive(Clone, Debug, PartialEq, Eq)]
+pub struct Flow {
+    pub d: u32,
+    pub ks: Vec<((u8, usize), u32)>,
+    pub ws: Vec<((usize, usize), u32)>,
+}
+
+#[derive(Clone, Debug, PartialEq, Eq)]
+pub struct Certificate {
+    pub refutations: Vec<Refutation>,
+    pub blocks: Vec<u8>,
+    pub flows: Vec<Flow>,
+}
+
+pub fn gcd(a: i64, b: i64) -> i64 {
+    if b == 0 { a.abs() } else { gcd(b, a % b) }
+}
+
+fn two(number: usize) -> [u8; 2] {
+    u16::try_from(number).expect("a field of two bytes").to_be_bytes()
+}
+
+impl Transition {
+    /// A transition to one state.
+    pub fn step(source: usize, action: usize, target: usize) -> Transition {
+        Transition { source, action, d: 1, weights: vec![(target, 1)] }
+    }
+
+    /// The number by which all terms can be divided.
+    pub fn common(&self) -> i64 {
+        self.weights.iter().fold(0, |g, e| gcd(g, e.1))
+    }
+
+    /// The same probabilities with all terms times a factor, where they fit the file.
+    pub fn times(&self, factor: i64) -> Transition {
+        let factor = if self.d * factor > 65_535 { 1 } else { factor };
+        Transition { d: self.d * factor, weights: self.weights.iter().map(|&(v, p)| (v, p * factor)).collect(), ..*self }
+    }
+}
+
+impl Model {
+    pub fn n(&self) -> usize {
+        self.labels.len()
+    }
+
+    pub fn bytes(&self) -> Vec<u8> {
+        let mut out = [&b"PA"[..], &[self.n() as u8, self.m as u8], &two(self.transitions.len()), b"LB", &self.labels].concat();
+        for r in &self.transitions {
+            out.extend([&b"TR"[..], &[r.source as u8, r.action as u8], &two(r.d as usize), &[r.weights.len() as u8]].concat());
+            for &(v, p) in &r.weights {
+                out.push(v as u8);
+                out.extend(two(p as usize));
+            }
+        }
+        out
+    }
+
+    /// The model of a sound file.
+    pub fn read(file: &[u8]) -> Model {
+        let pair = |at: usize| i64::from(file[at]) * 256 + i64::from(file[at + 1]);
+        let n = usize::from(file[2]);
+        let mut at = 8 + n;
+        let mut transitions = Vec::new();
+        for _ in 0..pair(4) {
+            let entries = usize::from(file[at + 6]);
+            let weights = (0..entries).map(|e| at + 7 + 3 * e).map(|e| (file[e].into(), pair(e + 1))).collect();
+            transitions.push(Transition { source: file[at + 2].into(), action: file[at + 3].into(), d: pair(at + 4), weights });
+            at += 7 + 3 * entries;
+        }
+        Model { labels: file[8..8 + n].to_vec(), m: file[3].into(), transitions }
+    }
+
+    /// The same automaton, its fractions written in other terms: every k-th transition by 2, the next ones by 3, 4 and so on.
+    pub fn respelled(&self, k: usize) -> Model {
+        let transitions = self.transitions.iter().enumerate().map(|(i, r)| r.times(1 + ((i + k) % (k + 1)) as i64)).collect();
+        Model { transitions, ..self.clone() }
+    }
+}
+
+impl Certificate {
+    pub fn bytes(&self) -> Vec<u8> {
+        let mut out = [&b"CT"[..], &two(self.refutations.len())].concat();
+        for r in &self.refutations {
+            out.extend([&b"PX"[..], &two(r.challenger), &[r.defender as u8]].concat());
+            out.extend(r.prices.iter().flatten().flat_map(|price| price.to_be_bytes()));
+        }
+        out.extend([&b"BK"[..], &self.blocks].concat());
+        for f in &self.flows {
+            out.extend([&b"FL"[..], &f.d.to_be_bytes(), &two(f.ks.len())].concat());
+            for &((layer, r), k) in &f.ks {
+                out.extend([&[layer][..], &two(r), &k.to_be_bytes()].concat());
+            }
+            out.extend(two(f.ws.len()));
+            for &((v, u), w) in &f.ws {
+                out.extend([&[v as u8, u as u8][..], &w.to_be_bytes()].concat());
+            }
+        }
+        out
+    }
+}

@@ -1,28 +1,13 @@
-//! Random numbers that can be repeated, and random automata.
+//! Random automata.
 
 use super::files::{Model, Transition};
-
-/// A small generator, so that a failure can be repeated.
-pub struct Numbers(pub u64);
-
-impl Numbers {
-    pub fn below(&mut self, n: usize) -> usize {
-        self.0 = self.0.wrapping_mul(6364136223846793005).wrapping_add(1442695040888963407);
-        (self.0 >> 33) as usize % n
-    }
-
-    pub fn shuffle<T>(&mut self, items: &mut [T]) {
-        for i in (1..items.len()).rev() {
-            items.swap(i, self.below(i + 1));
-        }
-    }
-}
+use super::{shuffle, Numbers};
 
 /// A transition to up to three of the states below `n`.
 fn any_transition(numbers: &mut Numbers, n: usize, source: usize, m: usize) -> Transition {
     let action = if numbers.below(5) < 2 { 0 } else { numbers.below(m) };
     let mut targets: Vec<usize> = (0..n).collect();
-    numbers.shuffle(&mut targets);
+    shuffle(&mut targets, numbers);
     targets.truncate(1 + numbers.below(3.min(n)));
     targets.sort();
     let most = if numbers.below(10) == 0 { 20 } else { 3 };
@@ -33,8 +18,8 @@ fn any_transition(numbers: &mut Numbers, n: usize, source: usize, m: usize) -> T
 /// A few states that move at random.
 fn kernel(numbers: &mut Numbers) -> Model {
     let n = 1 + numbers.below(5);
-    let m = [1, 2, 2, 3, 4, 32][numbers.below(6)];
-    let labels = [1, 1, 1, 2, 3, 64][numbers.below(6)];
+    let m = *numbers.of(&[1, 2, 2, 3, 4, 32]);
+    let labels = *numbers.of(&[1, 1, 1, 2, 3, 64]);
     let mut model = Model { labels: (0..n).map(|_| numbers.below(labels) as u8).collect(), m, transitions: Vec::new() };
     for source in 0..n {
         match numbers.below(6) {
@@ -114,7 +99,7 @@ pub fn random_model(numbers: &mut Numbers, most: usize) -> Model {
 /// The states in another order, the transitions in file order.
 fn renumbered(mut model: Model, numbers: &mut Numbers) -> Model {
     let mut to: Vec<usize> = (0..model.n()).collect();
-    numbers.shuffle(&mut to);
+    shuffle(&mut to, numbers);
     let mut labels = vec![0; model.n()];
     for (v, &label) in model.labels.iter().enumerate() {
         labels[to[v]] = label;
@@ -127,7 +112,7 @@ fn renumbered(mut model: Model, numbers: &mut Numbers) -> Model {
         }
         r.weights.sort();
     }
-    numbers.shuffle(&mut model.transitions);
+    shuffle(&mut model.transitions, numbers);
     model.transitions.sort_by_key(|r| r.source);
     let factor = numbers.below(3);
     if factor > 0 { model.respelled(factor) } else { model }

@@ -31,7 +31,7 @@ pub fn fetch(model: &[u8], state: u32) -> Answer {
     plain
 }
 
-type PlainLending = fn(&[u8], &[u8], &mut [u8]) -> Answer;
+pub type PlainLending = fn(&[u8], &[u8], &mut [u8]) -> Answer;
 
 /// Calls both with a lent buffer of this length and compares answers, buffers and guard bytes. Hands back what was written.
 fn lent(name: &str, call: raw::Lending, plain_call: PlainLending, model: &[u8], certificate: &[u8], length: usize) -> (Answer, Vec<u8>) {

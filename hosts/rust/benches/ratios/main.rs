@@ -1,0 +1,135 @@
+//! The library beside the plain Rust judge of the tests, in one run: `cargo bench --offline`. With `-- --write` the figures also go to
+//! docs/BENCHMARKS.md and docs/growth.svg.
+#[path = "../../tests/compare/mod.rs"]
+mod compare;
+#[path = "../../tests/maker/mod.rs"]
+mod maker;
+mod picture;
+#[path = "../../tests/plain/mod.rs"]
+mod plain;
+mod report;
+
+use compare::{Numbers, MODEL_BYTES};
+use maker::families::{flow_heavy, largest, one_source, refutation_heavy};
+use maker::files::{Certificate, Model};
+use maker::random::random_model;
+use std::hint::black_box;
+use std::time::{Duration, Instant};
+use zolkirta::raw;
+
+/// Nanoseconds of one call.
+#[derive(Clone, Copy)]
+pub struct Times {
+    pub library: f64,
+    pub plain: f64,
+}
+
+impl Times {
+    pub fn ratio(&self) -> f64 {
+        self.library / self.plain
+    }
+}
+
+/// The least time of each over rounds that alternate for so long, so that both meet the same machine. Both must answer alike.
+fn measured(length: Duration, mut library: impl FnMut() -> u32, mut plain: impl FnMut() -> u32) -> Times {
+    let round = |calls: u32, call: &mut dyn FnMut() -> u32| {
+        let start = Instant::now();
+        for _ in 0..calls {
+            black_box(call());
+        }
+        start.elapsed().as_nanos() as f64 / f64::from(calls)
+    };
+    assert_eq!(library(), plain());
+    let calls = (200_000.0 / round(3, &mut plain)).max(1.0) as u32;
+    let mut least = Times { library: f64::MAX, plain: f64::MAX };
+    let start = Instant::now();
+    while start.elapsed() < length {
+        least.library = least.library.min(round(calls, &mut library));
+        least.plain = least.plain.min(round(calls, &mut plain));
+    }
+    least
+}
+
+type Files = (Vec<u8>, Vec<u8>);
+
+fn files((model, certificate): (Model, Certificate)) -> Files {
+    (model.bytes(), certificate.bytes())
+}
+
+fn fetching(length: Duration, model: &[u8], state: u32) -> Times {
+    let library = || unsafe { raw::zolkirta_fetch(black_box(model).as_ptr(), model.len(), state) }.number;
+    measured(length, library, || plain::fetch(black_box(model), state).number)
+}
+
+/// The sum over the pairs of a judging or reducing call, with a buffer that is long enough.
+fn lending(length: Duration, library: compare::Lent, plain: compare::PlainLent, pairs: &[Files]) -> Times {
+    let (mut lent, mut other) = ([0; MODEL_BYTES], [0; MODEL_BYTES]);
+    let proved = |(model, certificate): &Files| {
+        let (pa, ct) = (black_box(model), black_box(certificate));
+        unsafe { library(pa.as_ptr(), pa.len(), ct.as_ptr(), ct.len(), lent.as_mut_ptr(), lent.len()) }.number
+    };
+    let by_hand = |(model, certificate): &Files| plain(black_box(model), black_box(certificate), &mut other).number;
+    let (mut proved, mut by_hand) = (proved, by_hand);
+    measured(length, || pairs.iter().map(&mut proved).sum(), || pairs.iter().map(&mut by_hand).sum())
+}
+
+fn judging(length: Duration, pairs: &[Files]) -> Times {
+    lending(length, raw::zolkirta_judge, plain::judge, pairs)
+}
+
+fn reducing(length: Duration, pairs: &[Files]) -> Times {
+    lending(length, raw::zolkirta_reduce, plain::reduce, pairs)
+}
+
+/// Accepted pairs of 1 to 10 states, always the same ones.
+fn random_pairs() -> Vec<Files> {
+    let mut numbers = Numbers::new(6);
+    let mut pairs = Vec::new();
+    while pairs.len() < 300 {
+        let model = random_model(&mut numbers, 10);
+        if let Some(certificate) = maker::certificate(&model, &mut numbers) {
+            pairs.push((model.bytes(), certificate.bytes()));
+        }
+    }
+    pairs
+}
+
+/// A line of the table: what was called, the times, and the ratio that is the goal.
+pub struct Case {
+    pub name: &'static str,
+    pub times: Times,
+    pub goal: f64,
+}
+
+/// Times at each number of states.
+pub type Growth = Vec<(usize, Times)>;
+
+fn growth(family: fn(usize) -> (Model, Certificate)) -> Growth {
+    (8..=64).step_by(8).map(|n| (n, judging(Duration::from_millis(700), &[files(family(n))]))).collect()
+}
+
+fn main() {
+    let (length, no_slower, by_a_third) = (Duration::from_secs(2), 1.0, 2.0 / 3.0);
+    let (largest, one_source) = (files(largest()), files(one_source()));
+    let (refutations, flows) = (files(refutation_heavy(64)), files(flow_heavy(64)));
+    let cut = (largest.0[..1].to_vec(), largest.1.clone());
+    let case = |name, times, goal| Case { name, times, goal };
+    let cases = [
+        case("largest model read: fetch of state 64 from 64 states, 256 transitions, 1,024 entries", fetching(length, &largest.0, 64), no_slower),
+        case("refusal at the first byte: judge, the model cut after it", judging(length, &[cut]), no_slower),
+        case("refutation-heavy: judge, 64 states, 2,016 refutations of 192 prices", judging(length, &[refutations]), by_a_third),
+        case("flow-heavy: judge, 64 states, 16,128 flows of one w entry", judging(length, &[flows.clone()]), by_a_third),
+        case("random accepted pairs: judge, 300 pairs of 1 to 10 states, sum", judging(length, &random_pairs()), no_slower),
+        case("reduce, the largest model, every state a block", reducing(length, &[largest]), no_slower),
+        case("reduce, 256 different transitions of one state", reducing(length, &[one_source]), no_slower),
+        case("reduce, flow-heavy", reducing(length, &[flows]), no_slower),
+    ];
+    let growths = [("refutation-heavy", growth(refutation_heavy)), ("flow-heavy", growth(flow_heavy))];
+    let tables = report::tables(&cases, &growths);
+    println!("{tables}");
+    if std::env::args().any(|argument| argument == "--write") {
+        let docs = concat!(env!("CARGO_MANIFEST_DIR"), "/../../docs");
+        std::fs::write(format!("{docs}/BENCHMARKS.md"), report::page(&tables)).unwrap();
+        std::fs::write(format!("{docs}/growth.svg"), picture::drawn(&growths)).unwrap();
+    }
+}

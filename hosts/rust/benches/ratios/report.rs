@@ -1,0 +1,84 @@
+//! The figures as markdown.
+
+use crate::{Case, Growth, Times};
+use std::fmt::Write;
+use std::process::Command;
+
+/// Three digits with a unit.
+fn shown(nanoseconds: f64) -> String {
+    let (number, unit) = match nanoseconds {
+        x if x < 1e3 => (x, "ns"),
+        x if x < 1e6 => (x / 1e3, "µs"),
+        x => (x / 1e6, "ms"),
+    };
+    let digits = if number < 10.0 { 2 } else { usize::from(number < 100.0) };
+    format!("{number:.digits$} {unit}")
+}
+
+fn row(out: &mut String, name: &str, times: &Times, last: &str) {
+    writeln!(out, "| {name} | {} | {} | {:.2} |{last}", shown(times.library), shown(times.plain), times.ratio()).unwrap();
+}
+
+/// What a hand-written C judge takes, as issue 4 gives it, beside our time for the same.
+fn goals(out: &mut String, cases: &[Case]) {
+    *out += "\n## Beside a C judge\n\n| | C judge, measured elsewhere | library, this run |\n|---|---|---|\n";
+    let each = |name: &str, c: &str, case: usize, count: f64| format!("| {name} | {c} | {} |\n", shown(cases[case].times.library / count));
+    *out += &each("largest model read", "2.2 µs", 0, 1.0);
+    *out += &each("one refutation of 192 prices", "1.25 µs", 2, 2016.0);
+    *out += &each("one flow with one w entry", "8 to 10 ns", 3, 16_128.0);
+}
+
+pub fn tables(cases: &[Case], growths: &[(&str, Growth)]) -> String {
+    let mut out = String::from("| Case | library | plain Rust | ratio | goal | met |\n|---|---|---|---|---|---|\n");
+    for Case { name, times, goal } in cases {
+        let met = if times.ratio() <= *goal { "yes" } else { "no" };
+        row(&mut out, name, times, &format!(" {goal:.2} | {met} |"));
+    }
+    goals(&mut out, cases);
+    out += "\n## Growth with n\n";
+    for (name, growth) in growths {
+        write!(out, "\nJudging {name}:\n\n| n | library | plain Rust | ratio |\n|---|---|---|---|\n").unwrap();
+        growth.iter().for_each(|(n, times)| row(&mut out, &n.to_string(), times, ""));
+    }
+    out
+}
+
+fn processor() -> String {
+    let text = std::fs::read_to_string("/proc/cpuinfo").unwrap_or_default();
+    let name = text.lines().find(|line| line.starts_with("model name")).and_then(|line| line.split(": ").nth(1));
+    format!("{}, {} cores", name.unwrap_or("unknown processor"), text.lines().filter(|line| line.starts_with("processor")).count())
+}
+
+fn compiler() -> String {
+    let told = Command::new("rustc").arg("--version").output().map(|output| String::from_utf8_lossy(&output.stdout).trim().to_string());
+    told.unwrap_or("unknown rustc".into())
+}
+
+pub fn page(tables: &str) -> String {
+    format!(
+        "# Benchmarks
+
+The static library beside a judge, reducer and reader written plainly in Rust from document 01 (`hosts/rust/tests/plain`), which the tests
+compare it with. `cd hosts/rust && cargo bench --offline` prints the tables; `cargo bench --offline -- --write` also writes this page and
+the picture.
+
+Measured on {}, with {}, the bench profile (opt-level 3). Each case runs for two seconds (each size of the
+growth tables for 0.7) in rounds that alternate between the two, a round being as many calls as take the plain one about 0.2 ms; the figure is the least
+time of a call over all rounds. Both answer alike before they are timed. Calls go through the C interface, with buffers long enough. The
+random pairs are made by the tests' certificate maker from a fixed seed.
+
+A ratio below 1 means that the library is faster. The goal is to be no slower than plain Rust in any case (1.00), and faster by a third on
+refutation-heavy and flow-heavy (0.67).
+
+## Library and plain Rust
+
+{tables}
+![Growth with n](growth.svg)
+
+The C figures were given as a goal: to be within 1.2 times of them. They were measured on another machine, so they are no more than a hint
+here.
+",
+        processor(),
+        compiler()
+    )
+}

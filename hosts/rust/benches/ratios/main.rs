@@ -115,7 +115,7 @@ fn main() {
     let cut = (largest.0[..1].to_vec(), largest.1.clone());
     let case = |name, times, goal| Case { name, times, goal };
     let cases = [
-        case("largest model read: fetch of state 64 from 64 states, 256 transitions, 1,024 entries", fetching(length, &largest.0, 64), no_slower),
+        case("largest model read: fetch, 256 transitions, 1,024 entries, state 64 refused", fetching(length, &largest.0, 64), no_slower),
         case("refusal at the first byte: judge, the model cut after it", judging(length, &[cut]), no_slower),
         case("refutation-heavy: judge, 64 states, 2,016 refutations of 192 prices", judging(length, &[refutations]), by_a_third),
         case("flow-heavy: judge, 64 states, 16,128 flows of one w entry", judging(length, &[flows.clone()]), by_a_third),

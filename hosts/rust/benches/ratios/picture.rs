@@ -67,7 +67,8 @@ pub fn drawn(growths: &[(&str, Growth)]) -> String {
     let (across, down) = (WIDTH + 80.0, HEIGHT + 80.0);
     let width = across * growths.len() as f64;
     let mut out = format!(
-        "<svg xmlns=\"http://www.w3.org/2000/svg\" viewBox=\"0 0 {width} {down}\" width=\"{width}\" height=\"{down}\" font-family=\"sans-serif\" font-size=\"12\" fill=\"#202020\">\n\
+        "<svg xmlns=\"http://www.w3.org/2000/svg\" viewBox=\"0 0 {width} {down}\" width=\"{width}\" height=\"{down}\" \
+         font-family=\"sans-serif\" font-size=\"12\" fill=\"#202020\">\n\
          <title>Time of judging by number of states, library and plain Rust</title>\n\
          <rect width=\"{width}\" height=\"{down}\" rx=\"8\" fill=\"#ffffff\" stroke=\"#d4d4d4\"/>\n"
     );

@@ -62,10 +62,11 @@ The static library beside a judge, reducer and reader written plainly in Rust fr
 compare it with. `cd hosts/rust && cargo bench --offline` prints the tables; `cargo bench --offline -- --write` also writes this page and
 the picture.
 
-Measured on {}, with {}, the bench profile (opt-level 3). Each case runs for two seconds (each size of the
-growth tables for 0.7) in rounds that alternate between the two, a round being as many calls as take the plain one about 0.2 ms; the figure is the least
-time of a call over all rounds. Both answer alike before they are timed. Calls go through the C interface, with buffers long enough. The
-random pairs are made by the tests' certificate maker from a fixed seed.
+Measured on {}, with {}, bench profile.
+Each case runs for two seconds (each size of the growth tables for 0.7) in rounds that alternate between the two. A round is as many calls
+as take the plain judge about 0.2 ms, at least one; the figure is the least time of a call over all rounds. Before they are timed both must
+answer alike. The library is called through the C interface, with buffers long enough. The random pairs are made by the tests' certificate
+maker from a fixed seed.
 
 A ratio below 1 means that the library is faster. The goal is to be no slower than plain Rust in any case (1.00), and faster by a third on
 refutation-heavy and flow-heavy (0.67).

@@ -57,14 +57,15 @@ pub fn internal_chain(n: usize) -> (Model, Certificate) {
     let mut refutations = vec![Refutation { challenger: 0, defender: last, prices: vec![but_last.clone(), vec![1; n], vec![1; n]] }];
     refutations.extend((1..last).map(|s| Refutation { challenger: s, defender: last, prices: vec![but_last.clone(), only(s - 1)] }));
     let down = |t: usize| (1..=t).map(|r| ((0, r), 1)).chain([((1, 0), 1)]).collect();
-    let met = |s: usize, t: usize| if s > 0 { stays(t, s - 1) } else { Flow { d: 1, ks: down(t), ws: vec![((last, last), 1)] } };
+    let moves = |t: usize| Flow { d: 1, ks: down(t), ws: vec![((last, last), 1)] };
+    let met = |s: usize, t: usize| if s > 0 { stays(t, s - 1) } else { moves(t) };
     let flows = (0..last).flat_map(|s| (0..last).filter(move |&t| t != s).map(move |t| met(s, t))).collect();
     let blocks = (0..n).map(|v| u8::from(v == last)).collect();
     (Model { labels: vec![0; n], m: 2, transitions }, Certificate { refutations, blocks, flows })
 }
 
-/// Every state k times, copy i of a state leading to copies i: the prices of a state are those of all its copies, and a copy meets another's
-/// transition by its own. The copies of a state stand together.
+/// Every state k times, the copies of a state standing together and copy i leading to copies i: the prices of a state are those of all its
+/// copies, and a copy meets another's transition by its own.
 pub fn copies(model: &Model, certificate: &Certificate, k: usize) -> (Model, Certificate) {
     let n = model.n();
     let mut place = vec![vec![0; k]; model.transitions.len()];
@@ -112,5 +113,6 @@ pub fn copies(model: &Model, certificate: &Certificate, k: usize) -> (Model, Cer
         }
     }
     let blocks = certificate.blocks.iter().flat_map(|&block| vec![block; k]).collect();
-    (Model { labels: model.labels.iter().flat_map(|&label| vec![label; k]).collect(), m: model.m, transitions }, Certificate { refutations, blocks, flows })
+    let labels = model.labels.iter().flat_map(|&label| vec![label; k]).collect();
+    (Model { labels, m: model.m, transitions }, Certificate { refutations, blocks, flows })
 }

@@ -98,10 +98,19 @@ impl Model {
         Model { labels: file[8..8 + n].to_vec(), m: file[3].into(), transitions }
     }
 
-    /// The same automaton, its fractions written in other terms: every k-th transition by 2, the next ones by 3, 4 and so on.
-    pub fn respelled(&self, k: usize) -> Model {
-        let transitions = self.transitions.iter().enumerate().map(|(i, r)| r.times(1 + ((i + k) % (k + 1)) as i64)).collect();
+    fn spelled(&self, factor: impl Fn(usize, &Transition) -> i64) -> Model {
+        let transitions = self.transitions.iter().enumerate().map(|(i, r)| r.times(factor(i, r))).collect();
         Model { transitions, ..self.clone() }
+    }
+
+    /// The same automaton, its fractions written in other terms: times 1 to k + 1, the factors changing along the file.
+    pub fn respelled(&self, k: usize) -> Model {
+        self.spelled(|i, _| 1 + ((7 * i + k) % (k + 1)) as i64)
+    }
+
+    /// The same automaton, its fractions written in the longest terms that powers of 2 make.
+    pub fn longest(&self) -> Model {
+        self.spelled(|_, r| 1 << (65_535 / r.d).ilog2())
     }
 }
 

@@ -56,7 +56,8 @@ pub fn certificate(model: &Model, choices: &mut Numbers) -> Option<Certificate> 
                 related[source(q)][t] = false;
                 related[t][source(q)] = false;
                 // A flow that needs none of the pairs removed still meets its question.
-                let (kept, lost): (Vec<_>, Vec<_>) = met.into_iter().partition(|(_, flow)| flow.ws.iter().all(|&((v, u), _)| related[v][u]));
+                let stands = |(_, flow): &(_, Flow)| flow.ws.iter().all(|&((v, u), _)| related[v][u]);
+                let (kept, lost): (Vec<_>, Vec<_>) = met.into_iter().partition(stands);
                 met = kept;
                 open.extend(lost.into_iter().map(|(question, _)| question));
                 shuffle(&mut open, choices);

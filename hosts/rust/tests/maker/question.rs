@@ -92,8 +92,9 @@ impl<'a> Question<'a> {
         let mut unknowns = Vec::new();
         for (number, layer) in (0..).zip(self.layers) {
             let action = if layer.moves { self.challenger.action } else { 0 };
-            let taken = |r: &usize| self.model.transitions[*r].action == action && self.at[layer.from][self.model.transitions[*r].source].is_some();
-            unknowns.extend((0..self.model.transitions.len()).filter(taken).map(|r| Unknown::K(number, r)));
+            let taken = |r: &Transition| r.action == action && self.at[layer.from][r.source].is_some();
+            let numbered = self.model.transitions.iter().enumerate();
+            unknowns.extend(numbered.filter(|(_, r)| taken(r)).map(|(r, _)| Unknown::K(number, r)));
         }
         for v in (0..self.model.n()).filter(|&v| self.leaving()[v].is_some()) {
             unknowns.extend(self.challenger.weights.iter().filter(|e| self.related[v][e.0]).map(|e| Unknown::W(v, e.0)));

@@ -10,7 +10,7 @@ fn any_transition(numbers: &mut Numbers, n: usize, source: usize, m: usize) -> T
     shuffle(&mut targets, numbers);
     targets.truncate(1 + numbers.below(3.min(n)));
     targets.sort();
-    let most = if numbers.below(10) == 0 { 20 } else { 3 };
+    let most = *numbers.of(&[2, 2, 3, 3, 3, 3, 6, 20, 100]);
     let weights: Vec<(usize, i64)> = targets.into_iter().map(|v| (v, 1 + numbers.below(most) as i64)).collect();
     Transition { source, action, d: weights.iter().map(|e| e.1).sum(), weights }
 }
@@ -40,7 +40,8 @@ fn kernel(numbers: &mut Numbers) -> Model {
 fn copy_state(model: &mut Model, numbers: &mut Numbers, v: usize) {
     let copy = model.n();
     model.labels.push(model.labels[v]);
-    let moved: Vec<Transition> = model.transitions.iter().filter(|r| r.source == v).map(|r| Transition { source: copy, ..r.clone() }).collect();
+    let own = model.transitions.iter().filter(|r| r.source == v);
+    let moved: Vec<Transition> = own.map(|r| Transition { source: copy, ..r.clone() }).collect();
     model.transitions.extend(moved);
     for r in model.transitions.iter_mut().filter(|_| numbers.below(2) == 0) {
         *r = r.times(1 + (r.d % 2));

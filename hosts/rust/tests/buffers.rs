@@ -1,10 +1,10 @@
 //! Buffers of every length, null pointers, states of every size, and long files.
 mod compare;
-mod large;
+mod maker;
 mod plain;
 
 use compare::{accepted, fetch, judge, reduce, vectors, Counts};
-use large::{flow_heavy, largest_model, refutation_heavy};
+use maker::families::{bytes, flow_heavy, largest, refutation_heavy};
 use std::ptr::{null, null_mut};
 use zolkirta::raw::{zolkirta_fetch, zolkirta_judge, zolkirta_reduce};
 
@@ -64,7 +64,7 @@ fn null_pointers_at_length_0() {
 #[test]
 fn states_of_every_size() {
     let mut models: Vec<_> = vectors().into_iter().map(|v| v.model).collect();
-    models.push(largest_model());
+    models.push(largest().0.bytes());
     models.sort();
     models.dedup();
     for model in models {
@@ -80,7 +80,7 @@ fn states_of_every_size() {
 #[test]
 fn long_certificates() {
     let mut counts = Counts::default();
-    let (flows, refutations) = (flow_heavy(3), refutation_heavy());
+    let (flows, refutations) = (bytes(flow_heavy(64, 3)), bytes(refutation_heavy(64)));
     // Bytes of the last flow; fields and every second price of the last refutation, and the blocks.
     let last_flow: Vec<usize> = (flows.1.len() - 37..flows.1.len()).collect();
     let (start, blocks) = (refutations.1.len() - 66 - 773, refutations.1.len() - 66);
@@ -110,7 +110,7 @@ fn long_certificates() {
 #[test]
 fn long_models() {
     let mut counts = Counts::default();
-    let largest = largest_model();
+    let largest = largest().0.bytes();
     assert_eq!(fetch(&largest, 63).stretch_length, 4 * 19);
     for more in [1, 65_535, 300_000] {
         let long = [&largest[..], &vec![0; more]].concat();

@@ -9,8 +9,8 @@ mod picture;
 mod plain;
 mod report;
 
-use compare::{Numbers, MODEL_BYTES};
-use maker::families::{flow_heavy, largest, one_source, refutation_heavy};
+use compare::Numbers;
+use maker::families::{bytes, flow_heavy, largest, one_source, refutation_heavy};
 use maker::files::{Certificate, Model};
 use maker::random::random_model;
 use std::hint::black_box;
@@ -50,11 +50,8 @@ fn measured(length: Duration, mut library: impl FnMut() -> u32, mut plain: impl 
     least
 }
 
+/// Model and certificate.
 type Files = (Vec<u8>, Vec<u8>);
-
-fn files((model, certificate): (Model, Certificate)) -> Files {
-    (model.bytes(), certificate.bytes())
-}
 
 fn fetching(length: Duration, model: &[u8], state: u32) -> Times {
     let library = || unsafe { raw::zolkirta_fetch(black_box(model).as_ptr(), model.len(), state) }.number;
@@ -62,8 +59,9 @@ fn fetching(length: Duration, model: &[u8], state: u32) -> Times {
 }
 
 /// The sum over the pairs of a judging or reducing call, with a buffer that is long enough.
-fn lending(length: Duration, library: compare::Lent, plain: compare::PlainLent, pairs: &[Files]) -> Times {
-    let (mut lent, mut other) = ([0; MODEL_BYTES], [0; MODEL_BYTES]);
+fn lending(length: Duration, library: raw::Lending, plain: compare::PlainLending, pairs: &[Files]) -> Times {
+    let longest = pairs.iter().map(|(model, _)| model.len()).max().unwrap().max(64);
+    let (mut lent, mut other) = (vec![0; longest], vec![0; longest]);
     let proved = |(model, certificate): &Files| {
         let (pa, ct) = (black_box(model), black_box(certificate));
         unsafe { library(pa.as_ptr(), pa.len(), ct.as_ptr(), ct.len(), lent.as_mut_ptr(), lent.len()) }.number
@@ -88,7 +86,7 @@ fn random_pairs() -> Vec<Files> {
     while pairs.len() < 300 {
         let model = random_model(&mut numbers, 10);
         if let Some(certificate) = maker::certificate(&model, &mut numbers) {
-            pairs.push((model.bytes(), certificate.bytes()));
+            pairs.push(bytes((model, certificate)));
         }
     }
     pairs
@@ -105,13 +103,13 @@ pub struct Case {
 pub type Growth = Vec<(usize, Times)>;
 
 fn growth(family: fn(usize) -> (Model, Certificate)) -> Growth {
-    (8..=64).step_by(8).map(|n| (n, judging(Duration::from_millis(700), &[files(family(n))]))).collect()
+    (8..=64).step_by(8).map(|n| (n, judging(Duration::from_millis(700), &[bytes(family(n))]))).collect()
 }
 
 fn main() {
     let (length, no_slower, by_a_third) = (Duration::from_secs(2), 1.0, 2.0 / 3.0);
-    let (largest, one_source) = (files(largest()), files(one_source()));
-    let (refutations, flows) = (files(refutation_heavy(64)), files(flow_heavy(64)));
+    let (largest, one_source) = (bytes(largest()), bytes(one_source()));
+    let (refutations, flows) = (bytes(refutation_heavy(64)), bytes(flow_heavy(64, 0)));
     let cut = (largest.0[..1].to_vec(), largest.1.clone());
     let case = |name, times, goal| Case { name, times, goal };
     let cases = [
@@ -124,7 +122,7 @@ fn main() {
         case("reduce, 256 different transitions of one state", reducing(length, &[one_source]), no_slower),
         case("reduce, flow-heavy", reducing(length, &[flows]), no_slower),
     ];
-    let growths = [("refutation-heavy", growth(refutation_heavy)), ("flow-heavy", growth(flow_heavy))];
+    let growths = [("refutation-heavy", growth(refutation_heavy)), ("flow-heavy", growth(|n| flow_heavy(n, 0)))];
     let tables = report::tables(&cases, &growths);
     println!("{tables}");
     if std::env::args().any(|argument| argument == "--write") {

@@ -88,6 +88,34 @@ impl Counts {
     pub fn pair(&mut self, model: &[u8], certificate: &[u8]) -> Answer {
         self.pair_with(model, certificate, 64, model.len(), 0)
     }
+
+    /// Sends every truncation of both files through.
+    pub fn truncations(&mut self, model: &[u8], certificate: &[u8]) {
+        for size in 0..model.len() {
+            self.pair(&model[..size], certificate);
+        }
+        for size in 0..certificate.len() {
+            self.pair(model, &certificate[..size]);
+        }
+    }
+
+    /// Sends the pair through with every change of one byte.
+    pub fn changes(&mut self, model: &[u8], certificate: &[u8]) {
+        changes(model, |damaged| _ = self.pair(damaged, certificate));
+        changes(certificate, |damaged| _ = self.pair(model, damaged));
+    }
+}
+
+/// Hands out every change of one byte of a file.
+fn changes(file: &[u8], mut each: impl FnMut(&[u8])) {
+    let mut damaged = file.to_vec();
+    for at in 0..file.len() {
+        for change in 1..=255 {
+            damaged[at] = file[at] ^ change;
+            each(&damaged);
+        }
+        damaged[at] = file[at];
+    }
 }
 
 impl fmt::Display for Counts {

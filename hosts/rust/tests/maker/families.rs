@@ -2,6 +2,11 @@
 
 use super::files::{Certificate, Flow, Model, Refutation, Transition};
 
+/// The two files of a pair.
+pub fn bytes((model, certificate): (Model, Certificate)) -> (Vec<u8>, Vec<u8>) {
+    (model.bytes(), certificate.bytes())
+}
+
 /// The most that a model may have: 64 states, 256 transitions, 1,024 entries. Every label is another, so every state is a block.
 pub fn largest() -> (Model, Certificate) {
     let weights = |q: usize| (0..4).map(|e| (q / 4 % 16 * 4 + e, 1)).collect();
@@ -39,10 +44,12 @@ fn stays(t: usize, u: usize) -> Flow {
     Flow { d: 1, ks: Vec::new(), ws: vec![((t, u), 1)] }
 }
 
-/// 256 internal self loops of state 0, each of which every other state meets by staying.
-pub fn flow_heavy(n: usize) -> (Model, Certificate) {
+/// 256 internal self loops of state 0, each of which every other state meets by staying. Each flow also goes round so many of the
+/// self loops, which changes no equation.
+pub fn flow_heavy(n: usize, loops: usize) -> (Model, Certificate) {
     let model = Model { labels: vec![0; n], m: 1, transitions: vec![Transition::step(0, 0, 0); 256] };
-    let flows = (1..n).flat_map(|t| vec![stays(t, 0); 256]).collect();
+    let ks: Vec<_> = (0..loops).map(|r| ((0, r), 1)).collect();
+    let flows = (1..n).flat_map(|t| vec![Flow { ks: ks.clone(), ..stays(t, 0) }; 256]).collect();
     (model, Certificate { refutations: Vec::new(), blocks: vec![0; n], flows })
 }
 

@@ -15,9 +15,9 @@ fn any_transition(numbers: &mut Numbers, n: usize, source: usize, m: usize) -> T
     Transition { source, action, d: weights.iter().map(|e| e.1).sum(), weights }
 }
 
-/// A few states that move at random.
-fn kernel(numbers: &mut Numbers) -> Model {
-    let n = 1 + numbers.below(5);
+/// Up to five states, and no more than `most`, that move at random.
+fn kernel(numbers: &mut Numbers, most: usize) -> Model {
+    let n = 1 + numbers.below(most.min(5));
     let m = *numbers.of(&[1, 2, 2, 3, 4, 32]);
     let labels = *numbers.of(&[1, 1, 1, 2, 3, 64]);
     let mut model = Model { labels: (0..n).map(|_| numbers.below(labels) as u8).collect(), m, transitions: Vec::new() };
@@ -66,8 +66,8 @@ fn prefix_state(model: &mut Model, numbers: &mut Numbers, v: usize) {
 
 /// A random automaton of 1 to `most` states: a kernel, with states copied, reached by internal steps only, looping and almost alike.
 pub fn random_model(numbers: &mut Numbers, most: usize) -> Model {
-    let mut model = kernel(numbers);
-    let n = (1 + numbers.below(most)).max(model.n());
+    let mut model = kernel(numbers, most);
+    let n = model.n().max(1 + numbers.below(most));
     while model.n() < n {
         let v = numbers.below(model.n());
         if numbers.below(3) == 0 { prefix_state(&mut model, numbers, v) } else { copy_state(&mut model, numbers, v) }

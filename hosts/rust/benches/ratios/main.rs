@@ -62,12 +62,11 @@ fn fetching(length: Duration, model: &[u8], state: u32) -> Times {
 fn lending(length: Duration, library: raw::Lending, plain: compare::PlainLending, pairs: &[Files]) -> Times {
     let longest = pairs.iter().map(|(model, _)| model.len()).max().unwrap().max(64);
     let (mut lent, mut other) = (vec![0; longest], vec![0; longest]);
-    let proved = |(model, certificate): &Files| {
+    let mut proved = |(model, certificate): &Files| {
         let (pa, ct) = (black_box(model), black_box(certificate));
         unsafe { library(pa.as_ptr(), pa.len(), ct.as_ptr(), ct.len(), lent.as_mut_ptr(), lent.len()) }.number
     };
-    let by_hand = |(model, certificate): &Files| plain(black_box(model), black_box(certificate), &mut other).number;
-    let (mut proved, mut by_hand) = (proved, by_hand);
+    let mut by_hand = |(model, certificate): &Files| plain(black_box(model), black_box(certificate), &mut other).number;
     measured(length, || pairs.iter().map(&mut proved).sum(), || pairs.iter().map(&mut by_hand).sum())
 }
 
@@ -92,12 +91,23 @@ fn random_pairs() -> Vec<Files> {
     pairs
 }
 
-/// A line of the table: what was called, the times, and the ratio that is the goal.
+/// A line of the table: what was called, the times, the ratio that is the goal, and what is known of the reason where it is missed.
 pub struct Case {
     pub name: &'static str,
     pub times: Times,
     pub goal: f64,
+    pub reason: &'static str,
 }
+
+impl Case {
+    pub fn met(&self) -> bool {
+        self.times.ratio() <= self.goal
+    }
+}
+
+const ZEROED: &str = "the library zeroes its table of 257 places, 2,056 bytes, before it looks at the first byte; plain Rust makes its \
+    table once the head is read";
+const COMPARED: &str = "every record is compared with all before it, in the library byte by byte, in plain Rust as slices";
 
 /// Times at each number of states.
 pub type Growth = Vec<(usize, Times)>;
@@ -111,16 +121,16 @@ fn main() {
     let (largest, one_source) = (bytes(largest()), bytes(one_source()));
     let (refutations, flows) = (bytes(refutation_heavy(64)), bytes(flow_heavy(64, 0)));
     let cut = (largest.0[..1].to_vec(), largest.1.clone());
-    let case = |name, times, goal| Case { name, times, goal };
+    let case = |name, times, goal, reason| Case { name, times, goal, reason };
     let cases = [
-        case("largest model read: fetch, 256 transitions, 1,024 entries, state 64 refused", fetching(length, &largest.0, 64), no_slower),
-        case("refusal at the first byte: judge, the model cut after it", judging(length, &[cut]), no_slower),
-        case("refutation-heavy: judge, 64 states, 2,016 refutations of 192 prices", judging(length, &[refutations]), by_a_third),
-        case("flow-heavy: judge, 64 states, 16,128 flows of one w entry", judging(length, &[flows.clone()]), by_a_third),
-        case("random accepted pairs: judge, 300 pairs of 1 to 10 states, sum", judging(length, &random_pairs()), no_slower),
-        case("reduce, the largest model, every state a block", reducing(length, &[largest]), no_slower),
-        case("reduce, 256 different transitions of one state", reducing(length, &[one_source]), no_slower),
-        case("reduce, flow-heavy", reducing(length, &[flows]), no_slower),
+        case("largest model read: fetch, 256 transitions, 1,024 entries; no state 64", fetching(length, &largest.0, 64), no_slower, ""),
+        case("refusal at the first byte: judge, the model cut after it", judging(length, &[cut]), no_slower, ZEROED),
+        case("refutation-heavy: judge, 64 states, 2,016 refutations of 192 prices", judging(length, &[refutations]), by_a_third, ""),
+        case("flow-heavy: judge, 64 states, 16,128 flows of one w entry", judging(length, &[flows.clone()]), by_a_third, ""),
+        case("random accepted pairs: judge, 300 pairs of 1 to 10 states, sum", judging(length, &random_pairs()), no_slower, ""),
+        case("reduce, the largest model, every state a block", reducing(length, &[largest]), no_slower, ""),
+        case("reduce, 256 different transitions of one state", reducing(length, &[one_source]), no_slower, COMPARED),
+        case("reduce, flow-heavy", reducing(length, &[flows]), no_slower, ""),
     ];
     let growths = [("refutation-heavy", growth(refutation_heavy)), ("flow-heavy", growth(|n| flow_heavy(n, 0)))];
     let tables = report::tables(&cases, &growths);

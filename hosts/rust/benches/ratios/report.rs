@@ -41,8 +41,8 @@ fn beside_c(out: &mut String, cases: &[Case]) {
     ] {
         writeln!(out, "| {name} | {c} | {} |", shown(cases[case].times.library / count)).unwrap();
     }
-    *out += "\nThe C figures were given as a goal: to be within 1.2 times of them. They come from another machine, so the two columns make\n\
-        no measured ratio.\n";
+    *out += "\nThe C figures were given as a goal: to be within 1.2 times of them. They come from another machine, so the columns make no\n\
+        measured ratio.\n";
 }
 
 pub fn tables(cases: &[Case], growths: &[(&str, Growth)]) -> String {

@@ -1,11 +1,12 @@
 /* Zolkirta: judges certificates of weak bisimulation for probabilistic automata.
  *
  * Buffers. Every call takes byte buffers and plain numbers and checks everything itself. A buffer is a pointer and a length; the
- * pointer may be NULL where the length is 0. A lent buffer must not overlap another one or an input: that is the one thing the
- * caller sees to. A refusal writes no byte of any lent buffer.
+ * pointer may be NULL where the length is 0. The caller sees to this alone: each pointer is good for its length, the bytes are not
+ * changed by others during the call, and a lent buffer overlaps no input and no other lent buffer. A refusal writes no byte of any
+ * lent buffer.
  *
- * Stack. A call needs less than 16 KiB (15,288 bytes measured for zolkirta_reduce and 9,912 for zolkirta_judge, at 64 states). No
- * heap is used.
+ * Stack. zolkirta_reduce uses 12,296 bytes, zolkirta_judge 6,840 and zolkirta_fetch 2,312 (measured at 64 states). In a dynamically
+ * linked program the loader adds some 3 KiB when it binds memcpy or memset at the first call. No heap is used.
  *
  * Threads. The library has no state and keeps no pointer: any number of calls may run at once.
  *

@@ -40,7 +40,7 @@ static void print_answer(zolkirta_answer answer)
     if (answer.number == ZOLKIRTA_ACCEPTED)
         printf("accepted, %zu bytes\n", answer.written);
     else if (answer.file)
-        printf("refused %u in the %s, in the record at byte %zu\n", (unsigned)answer.number, answer.file == 1 ? "model" : "certificate", answer.place);
+        printf("refused %u in the %s, at byte %zu\n", (unsigned)answer.number, answer.file == 1 ? "model" : "certificate", answer.place);
     else
         printf("refused %u\n", (unsigned)answer.number);
 }

@@ -28,6 +28,11 @@ impl Times {
     pub fn ratio(&self) -> f64 {
         self.library / self.plain
     }
+
+    fn keep_least(&mut self, other: Times) {
+        self.library = self.library.min(other.library);
+        self.plain = self.plain.min(other.plain);
+    }
 }
 
 /// The least time of each over rounds that alternate for so long, so that both meet the same machine. Both must answer alike.
@@ -44,8 +49,7 @@ fn measured(length: Duration, mut library: impl FnMut() -> u32, mut plain: impl 
     let mut least = Times { library: f64::MAX, plain: f64::MAX };
     let start = Instant::now();
     while start.elapsed() < length {
-        least.library = least.library.min(round(calls, &mut library));
-        least.plain = least.plain.min(round(calls, &mut plain));
+        least.keep_least(Times { library: round(calls, &mut library), plain: round(calls, &mut plain) });
     }
     least
 }
@@ -109,35 +113,56 @@ const ZEROED: &str = "the library zeroes its table of 257 places, 2,056 bytes, b
     table once the head is read";
 const COMPARED: &str = "every record is compared with all before it, in the library byte by byte, in plain Rust as slices";
 
-/// Times at each number of states.
-pub type Growth = Vec<(usize, Times)>;
+/// The name of a family, and times at each number of states.
+pub type Growth = (&'static str, Vec<(usize, Times)>);
 
-fn growth(family: fn(usize) -> (Model, Certificate)) -> Growth {
-    (8..=64).step_by(8).map(|n| (n, judging(Duration::from_millis(700), &[bytes(family(n))]))).collect()
-}
-
-fn main() {
-    let (length, no_slower, by_a_third) = (Duration::from_secs(2), 1.0, 2.0 / 3.0);
+fn cases(random: &[Files]) -> Vec<Case> {
+    let (length, no_slower, by_a_third) = (Duration::from_millis(400), 1.0, 2.0 / 3.0);
     let (largest, one_source) = (bytes(largest()), bytes(one_source()));
     let (refutations, flows) = (bytes(refutation_heavy(64)), bytes(flow_heavy(64, 0)));
     let cut = (largest.0[..1].to_vec(), largest.1.clone());
     let case = |name, times, goal, reason| Case { name, times, goal, reason };
-    let cases = [
+    vec![
         case("largest model read: fetch, 256 transitions, 1,024 entries; no state 64", fetching(length, &largest.0, 64), no_slower, ""),
         case("refusal at the first byte: judge, the model cut after it", judging(length, &[cut]), no_slower, ZEROED),
         case("refutation-heavy: judge, 64 states, 2,016 refutations of 192 prices", judging(length, &[refutations]), by_a_third, ""),
         case("flow-heavy: judge, 64 states, 16,128 flows of one w entry", judging(length, &[flows.clone()]), by_a_third, ""),
-        case("random accepted pairs: judge, 300 pairs of 1 to 10 states, sum", judging(length, &random_pairs()), no_slower, ""),
+        case("random accepted pairs: judge, 300 pairs of 1 to 10 states, sum", judging(length, random), no_slower, ""),
         case("reduce, the largest model, every state a block", reducing(length, &[largest]), no_slower, ""),
         case("reduce, 256 different transitions of one state", reducing(length, &[one_source]), no_slower, COMPARED),
         case("reduce, flow-heavy", reducing(length, &[flows]), no_slower, ""),
-    ];
-    let growths = [("refutation-heavy", growth(refutation_heavy)), ("flow-heavy", growth(|n| flow_heavy(n, 0)))];
-    let tables = report::tables(&cases, &growths);
+    ]
+}
+
+fn growths() -> Vec<Growth> {
+    let of = |family: fn(usize) -> (Model, Certificate)| {
+        let sizes = (8..=64).step_by(8);
+        sizes.map(|n| (n, judging(Duration::from_millis(200), &[bytes(family(n))]))).collect()
+    };
+    vec![("refutation-heavy", of(refutation_heavy)), ("flow-heavy", of(|n| flow_heavy(n, 0)))]
+}
+
+/// All cases are run so often, so that what disturbs the machine for some seconds disturbs none of them throughout.
+pub const PASSES: usize = 6;
+
+fn main() {
+    let random = random_pairs();
+    let (mut least, mut grown) = (cases(&random), growths());
+    for _ in 1..PASSES {
+        for (case, again) in least.iter_mut().zip(cases(&random)) {
+            case.times.keep_least(again.times);
+        }
+        for ((_, sizes), (_, again)) in grown.iter_mut().zip(growths()) {
+            for ((_, times), (_, again)) in sizes.iter_mut().zip(again) {
+                times.keep_least(again);
+            }
+        }
+    }
+    let tables = report::tables(&least, &grown);
     println!("{tables}");
     if std::env::args().any(|argument| argument == "--write") {
         let docs = concat!(env!("CARGO_MANIFEST_DIR"), "/../../docs");
         std::fs::write(format!("{docs}/BENCHMARKS.md"), report::page(&tables)).unwrap();
-        std::fs::write(format!("{docs}/growth.svg"), picture::drawn(&growths)).unwrap();
+        std::fs::write(format!("{docs}/growth.svg"), picture::drawn(&grown)).unwrap();
     }
 }

@@ -33,7 +33,7 @@ fn curve(out: &mut String, points: &[(f64, f64)], color: &str) {
 }
 
 /// A panel whose inner part begins at `left` and `top`. Times are in microseconds.
-fn panel(out: &mut String, (left, top): (f64, f64), name: &str, growth: &Growth) {
+fn panel(out: &mut String, (left, top): (f64, f64), (name, growth): &Growth) {
     let highest = growth.iter().map(|(_, times)| times.plain.max(times.library) / 1e3).fold(0.0, f64::max);
     let step = step(highest);
     let top_value = (highest / step).ceil() * step;
@@ -63,7 +63,7 @@ fn panel(out: &mut String, (left, top): (f64, f64), name: &str, growth: &Growth)
 }
 
 /// The background is the picture's own, so that it can be read on a white and on a dark page.
-pub fn drawn(growths: &[(&str, Growth)]) -> String {
+pub fn drawn(growths: &[Growth]) -> String {
     let (across, down) = (WIDTH + 80.0, HEIGHT + 80.0);
     let width = across * growths.len() as f64;
     let mut out = format!(
@@ -72,8 +72,8 @@ pub fn drawn(growths: &[(&str, Growth)]) -> String {
          <title>Time of judging by number of states, library and plain Rust</title>\n\
          <rect width=\"{width}\" height=\"{down}\" rx=\"8\" fill=\"#ffffff\" stroke=\"#d4d4d4\"/>\n"
     );
-    for (i, (name, growth)) in (0..).zip(growths) {
-        panel(&mut out, (60.0 + across * f64::from(i), 44.0), name, growth);
+    for (i, growth) in (0..).zip(growths) {
+        panel(&mut out, (60.0 + across * f64::from(i), 44.0), growth);
     }
     out + "</svg>\n"
 }

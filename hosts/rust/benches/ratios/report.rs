@@ -1,6 +1,6 @@
 //! The figures as markdown.
 
-use crate::{Case, Growth, Times};
+use crate::{Case, Growth, Times, PASSES};
 use std::fmt::Write;
 use std::process::Command;
 
@@ -45,7 +45,7 @@ fn beside_c(out: &mut String, cases: &[Case]) {
         measured ratio.\n";
 }
 
-pub fn tables(cases: &[Case], growths: &[(&str, Growth)]) -> String {
+pub fn tables(cases: &[Case], growths: &[Growth]) -> String {
     let mut out = String::from("| Case | library | plain Rust | ratio | goal | met |\n|---|---|---|---|---|---|\n");
     for case in cases {
         let met = if case.met() { "yes" } else { "no" };
@@ -54,9 +54,9 @@ pub fn tables(cases: &[Case], growths: &[(&str, Growth)]) -> String {
     missed(&mut out, cases);
     beside_c(&mut out, cases);
     out += "\n## Growth with n\n";
-    for (name, growth) in growths {
+    for (name, sizes) in growths {
         write!(out, "\nJudging {name}:\n\n| n | library | plain Rust | ratio |\n|---|---|---|---|\n").unwrap();
-        growth.iter().for_each(|(n, times)| row(&mut out, &n.to_string(), times, ""));
+        sizes.iter().for_each(|(n, times)| row(&mut out, &n.to_string(), times, ""));
     }
     out
 }
@@ -81,10 +81,10 @@ compare it with. `cd hosts/rust && cargo bench --offline` prints the tables; `ca
 the picture.
 
 Measured on {}, with {}, bench profile.
-Each case runs for two seconds (each size of the growth tables for 0.7) in rounds that alternate between the two. A round is as many calls
-as take the plain judge about 0.2 ms, at least one; the figure is the least time of a call over all rounds. Before they are timed both must
-answer alike. The library is called through the C interface, with buffers long enough. The random pairs are made by the tests' certificate
-maker from a fixed seed.
+Each of {PASSES} passes runs every case for 0.4 seconds and every size of the growth tables for 0.2, in rounds that alternate between the
+two. A round is as many calls as take plain Rust about 0.2 ms, at least one. The figure is the least time of a call over all rounds of all
+passes. Before they are timed both must answer alike. The library is called through the C interface, with buffers long enough. The random
+pairs are made by the tests' certificate maker from a fixed seed.
 
 A ratio below 1 means that the library is faster. The goal is to be no slower than plain Rust in any case (1.00), and faster by a third on
 refutation-heavy and flow-heavy (0.67).

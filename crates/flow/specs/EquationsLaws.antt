@@ -26,7 +26,8 @@ use Rattle.transition.specs.KnownLaws.{few-states, known-states, known-transiti
 use Rattle.cells.specs.Cells.{cellIn, AllZero}
 use Rattle.flow.specs.Differences.{kSum, wSum, beforeLeft, beforeRight, afterLeft, afterRight, takenAt, givenAt, firstLeft, firstRight, secondLeft, secondRight, targetLeft, targetRight, Decided}
 use Rattle.cells.specs.Moving.{added, arrived, departed}
-use Rattle.entries.specs.Taking.{arrivalOf, departureOf, tookK, tookKs, tookWs, tookVs, tookUs}
+use Rattle.entries_k.specs.Taking.{arrivalOf, departureOf, tookK, tookKs}
+use Rattle.entries_w.specs.Matching.{tookWs, tookVs, tookUs}
 use Rattle.cells.specs.MovingLaws.{added-length, added-raised, landed, arrived-length, arrived-raised, landed-weight, landed-none}
 
 -- a difference by equal sides, and of the numbers that are added and taken away

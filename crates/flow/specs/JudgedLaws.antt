@@ -21,14 +21,15 @@ use Rattle.pairs.specs.Rows.{HoldsPairs}
 use Rattle.transition.specs.Known.{automatonIn, FieldsOf, entriesOf}
 use Rattle.transition.specs.KnownLaws.{few-states, known-states, known-transition}
 use Rattle.cells.specs.Cells.{AllZero}
-use Rattle.entries.specs.declared.Taken.{Taken}
+use Rattle.entries_k.specs.declared.Taken.{Taken}
 use Rattle.cells.specs.Nonzero.{Counted, Became}
 use Rattle.cells.specs.NonzeroLaws.{zero-cells, nonzero-cells, counted-zero}
 use Rattle.flow.specs.Differences.{Decided, DecidesEquations}
 use Rattle.cells.specs.Moving.{added, arrived, Room, CanAdd, CanMove}
-use Rattle.entries.specs.Taking.{arrivalOf, tookKs, tookVs, tookUs, CanTakeKs, TookKs, CanTakeWs, TookWs}
+use Rattle.entries_k.specs.Taking.{arrivalOf, tookKs, CanTakeKs, TookKs}
+use Rattle.entries_w.specs.Matching.{tookVs, tookUs, CanTakeWs, TookWs}
 use Rattle.cells.specs.MovingLaws.{minus-small, added-room, arrived-room}
-use Rattle.entries.specs.KEntriesLaws.{arrival-most}
+use Rattle.entries_k.specs.KEntriesLaws.{arrival-most}
 use Rattle.flow.specs.FlowLaws.{after-k}
 use Rattle.flow.specs.Judged.{FlowHead, CanJudge, verdictOf, FlowJudged}
 use Rattle.flow.specs.EquationsLaws.{Ended, ended, ends-well, ends-20, ends-21}

@@ -52,7 +52,7 @@ fn entries_fault(
     let action = challenger.action;
     let denominator = challenger.denominator;
     let given = cells::give(cells, t, 1, d, 0);
-    let k = entries::take_ks(s, count, places, action, cert, start, entries, cells, given);
+    let k = entries_k::take_ks(s, count, places, action, cert, start, entries, cells, given);
     if k.number != 0 {
         return fault::refusal(k.number);
     }
@@ -67,14 +67,14 @@ fn entries_fault(
         return fault::refusal(11);
     }
     let asked = cells::arrive(s, places, q, cells::minus(d), 0, target, 0);
-    let w = entries::take_ws(
+    let w = entries_w::take_ws(
         cert,
         w_start,
         w_count,
         n,
         rows,
         denominator,
-        entries::arrival(action),
+        entries_k::arrival(action),
         cells,
         k.nonzero,
         target,

@@ -1,4 +1,4 @@
--- What the entries of a flow change in the cells.
+-- What the k entries of a flow change in the cells.
 use Prim.Native.Nat.{ℕ, zero, suc, _+_, _*_, _^_, _≤_, _<_}
 use mathlib.Core.Path.{_≡_}
 use mathlib.Core.Bool.{Bool, false}
@@ -7,16 +7,13 @@ use lib.Dec.{eqb}
 use lib.ListN.{length}
 use lib.IntN.{ℤ, pos, negℤ}
 use Rattle.bisimulation.specs.Choice.{ifSame}
-use Rattle.bisimulation.specs.Automaton.{Automaton}
-use Rattle.bisimulation.specs.Pairs.{Pairs}
 use Rattle.rules.specs.Bytes.{byteAt, twoAt, fourAt}
-use Rattle.rules.specs.Certificate.{fault, kFault, wFault}
+use Rattle.rules.specs.Certificate.{fault, kFault}
 use Rattle.rules.specs.PlainRule.{plainRule}
-use Rattle.pairs.specs.Rows.{HoldsPairs}
 use Rattle.transition.specs.Known.{automatonIn, Known, KnownTransition, entriesOf}
 use Rattle.cells.specs.Nonzero.{Counted, Became}
-use Rattle.cells.specs.Moving.{added, arrived, departed, Room}
-use Rattle.entries.specs.declared.Taken.{Taken}
+use Rattle.cells.specs.Moving.{arrived, departed, Room}
+use Rattle.entries_k.specs.declared.Taken.{Taken}
 
 -- where the cells begin that a layer leads to, or that w leaves by the challenger's action
 unfoldable pub arrivalOf : ℕ → ℕ
@@ -44,18 +41,6 @@ unfoldable pub tookKs : (s C : List ℕ) → (left at : ℕ) → List ℤ → Li
 tookKs s C zero at cells = cells
 tookKs s C (suc left) at cells = tookKs s C left (at + 7) (tookK s (byteAt C at) (twoAt C (at + 1)) (fourAt C (at + 3)) cells)
 
--- the w entries left at a place, each of which changes the cells
-unfoldable pub tookWs : List ℕ → ((v u w : ℕ) → List ℤ → List ℤ) → (left at : ℕ) → List ℤ → List ℤ
-tookWs C change zero at cells = cells
-tookWs C change (suc left) at cells = tookWs C change left (at + 6) (change (byteAt C at) (byteAt C (at + 1)) (fourAt C (at + 2)) cells)
-
--- taken at v, and at u
-abbrev pub tookVs : List ℕ → (first left at : ℕ) → List ℤ → List ℤ
-tookVs C first = tookWs C (λ v u w cells. added cells (first + v) 1 (negℤ (pos w)))
-
-abbrev pub tookUs : List ℕ → (d left at : ℕ) → List ℤ → List ℤ
-tookUs C d = tookWs C (λ v u w target. added target u d (pos w))
-
 -- cells into which a k entry can be taken
 pub record CanTake (s places : List ℕ) (r k : ℕ) (cells : List ℤ) (nonzero : ℕ) : Type 0 where
   pub known : KnownTransition s places r
@@ -76,20 +61,3 @@ pub record TookKs (s C : List ℕ) (action at entries : ℕ) (before cells : Lis
   pub number : (q t : ℕ) → action ≡ automatonIn s .action q → fault (r .number) ≡ kFault plainRule (automatonIn s) C q t entries at 0
   pub became : r .number ≡ 0 → Became (tookKs s C entries at before) cells (r .nonzero)
   pub room : r .number ≡ 0 → Room cells 4400
-
--- w entries that can be taken
-pub record CanTakeWs (C : List ℕ) (at entries n d first : ℕ) (cells : List ℤ) (nonzero : ℕ) (target : List ℤ) (asked : ℕ) : Type 0 where
-  pub whole : at + 6 * entries ≤ length C
-  pub few : n ≤ 64
-  pub light : d < 65536
-  pub layer : first ≤ 64
-  pub table : Counted cells nonzero
-  pub room : Room cells 4400
-  pub targetTable : Counted target asked
-  pub targetRoom : Room target 4400
-
--- the fault of the w entries, for the pairs that the rows hold; where there is none they are taken
-pub record TookWs (C : List ℕ) (at entries n : ℕ) (rows : List ℕ) (d first : ℕ) (before cells targetBefore target : List ℤ) (r : Taken) : Type 0 where
-  pub number : (A : Automaton) (R : Pairs) → A .states ≡ n → HoldsPairs n R rows → fault (r .number) ≡ wFault A C R entries at 0
-  pub became : r .number ≡ 0 → Became (tookVs C first entries at before) cells (r .nonzero)
-  pub targetBecame : r .number ≡ 0 → Became (tookUs C d entries at targetBefore) target (r .target)

@@ -16,10 +16,10 @@ use Rattle.field.specs.Taken as field
 use Rattle.field.specs.Taken.{taken-at}
 use Rattle.transition.specs.Known.{automatonIn, Known, entriesOf}
 use Rattle.transition.specs.KnownLaws.{few-transitions, known-transition}
-use Rattle.entries.specs.declared.Taken.{Taken}
+use Rattle.entries_k.specs.declared.Taken.{Taken}
 use Rattle.cells.specs.Nonzero.{nonzeroIn, Counted, Became}
 use Rattle.cells.specs.Moving.{arrived, departed, Room, CanMove}
-use Rattle.entries.specs.Taking.{arrivalOf, departureOf, inQuestionOf, tookK, tookKs, CanTake, CanTakeKs, TookKs}
+use Rattle.entries_k.specs.Taking.{arrivalOf, departureOf, inQuestionOf, tookK, tookKs, CanTake, CanTakeKs, TookKs}
 use Rattle.cells.specs.MovingLaws.{minus-small, room-fewer, arrived-length, arrived-room, departed-room}
 
 pub arrival-most : (layer : ℕ) → arrivalOf layer ≤ 64

@@ -4,9 +4,9 @@ use native.Mathlib.Omega.{arith}
 use borrow.Author.Tests.{not-true, not-false}
 use Rattle.transition.specs.KnownLaws.{known-transitions, known-transition}
 use borrow.Author.Needs.{needs}
-use Rattle.entries.specs.KEntriesLaws.{TakingKs, ks-start, ks-refused, ks-asks, ks-turn, ks-end, k-read, unordered, absent, unasked, nothing, asked-by}
-use Rattle.entries.proofs.take_ks.Statement.{statement}
-use Rattle.entries.proofs.take_ks.Tie as tie
+use Rattle.entries_k.specs.KEntriesLaws.{TakingKs, ks-start, ks-refused, ks-asks, ks-turn, ks-end, k-read, unordered, absent, unasked, nothing, asked-by}
+use Rattle.entries_k.proofs.take_ks.Statement.{statement}
+use Rattle.entries_k.proofs.take_ks.Tie as tie
 
 abbrev Inv-loop : tie.InvT-loop
 Inv-loop s count places action cert at entries cells₀ initial left₀ place₀ lowest₀ nonzero₀ cells left place lowest nonzero =

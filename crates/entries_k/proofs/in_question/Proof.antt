@@ -2,9 +2,9 @@
 use mathlib.Core.Path.{refl}
 use Rattle.bisimulation.specs.ChoiceLaws.{same, notSame}
 use native.Mathlib.Omega.{arith}
-use Rattle.entries.specs.Taking.{inQuestionOf}
-use Rattle.entries.proofs.in_question.Statement.{statement}
-use Rattle.entries.proofs.in_question.Tie as tie
+use Rattle.entries_k.specs.Taking.{inQuestionOf}
+use Rattle.entries_k.proofs.in_question.Statement.{statement}
+use Rattle.entries_k.proofs.in_question.Tie as tie
 
 returns : tie.Need-returns
 unfolding inQuestionOf

@@ -15,10 +15,10 @@ use Rattle.field.specs.declared.Field.{Field}
 use Rattle.field.specs.Taken as field
 use Rattle.field.specs.Taken.{taken-at}
 use Rattle.pairs.specs.Rows.{rowBit, HoldsPairs}
-use Rattle.entries.specs.declared.Taken.{Taken}
+use Rattle.entries_k.specs.declared.Taken.{Taken}
 use Rattle.cells.specs.Nonzero.{Counted, Became}
 use Rattle.cells.specs.Moving.{added, Room, CanAdd}
-use Rattle.entries.specs.Taking.{tookWs, tookVs, tookUs, CanTakeWs, TookWs}
+use Rattle.entries_w.specs.Matching.{tookWs, tookVs, tookUs, CanTakeWs, TookWs}
 use Rattle.cells.specs.MovingLaws.{minus-small, room-fewer, added-room}
 
 -- a w entry as it was read at a place

@@ -1,9 +1,9 @@
 -- `take_k` meets its contract: the transition arrives, then leaves.
 use Rattle.cells.specs.MovingLaws.{plus-back, minus-back}
-use Rattle.entries.specs.KEntriesLaws.{can-arrive, can-leave, took-k}
+use Rattle.entries_k.specs.KEntriesLaws.{can-arrive, can-leave, took-k}
 use borrow.Author.Needs.{needs}
-use Rattle.entries.proofs.take_k.Statement.{statement}
-use Rattle.entries.proofs.take_k.Tie as tie
+use Rattle.entries_k.proofs.take_k.Statement.{statement}
+use Rattle.entries_k.proofs.take_k.Tie as tie
 
 cast-arrive : tie.Need-cast-arrive
 cast-arrive c = search needs

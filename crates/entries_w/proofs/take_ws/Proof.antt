@@ -3,9 +3,9 @@ use mathlib.Core.Path.{refl}
 use native.Mathlib.Omega.{arith}
 use borrow.Author.Needs.{needs}
 use borrow.Author.Tests.{not-true, not-false}
-use Rattle.entries.specs.WEntriesLaws.{TakingWs, ws-start, ws-refused, v-asks, u-asks, ws-turn, ws-end, w-read, related-by, unordered, absent, otherAbsent, unrelated, nothing}
-use Rattle.entries.proofs.take_ws.Statement.{statement}
-use Rattle.entries.proofs.take_ws.Tie as tie
+use Rattle.entries_w.specs.WEntriesLaws.{TakingWs, ws-start, ws-refused, v-asks, u-asks, ws-turn, ws-end, w-read, related-by, unordered, absent, otherAbsent, unrelated, nothing}
+use Rattle.entries_w.proofs.take_ws.Statement.{statement}
+use Rattle.entries_w.proofs.take_ws.Tie as tie
 
 abbrev Inv-loop : tie.InvT-loop
 Inv-loop cert at entries n rows d first cells₀ initial target₀ asked left₀ place₀ lowest₀ nonzero₀ target-nonzero₀ cells target left place lowest nonzero target-nonzero =

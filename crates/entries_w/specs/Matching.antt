@@ -1,0 +1,43 @@
+-- What the w entries of a flow change in the cells.
+use Prim.Native.Nat.{ℕ, zero, suc, _+_, _*_, _≤_, _<_}
+use mathlib.Core.Path.{_≡_}
+use mathlib.Core.List.{List}
+use lib.ListN.{length}
+use lib.IntN.{ℤ, pos, negℤ}
+use Rattle.bisimulation.specs.Automaton.{Automaton}
+use Rattle.bisimulation.specs.Pairs.{Pairs}
+use Rattle.rules.specs.Bytes.{byteAt, fourAt}
+use Rattle.rules.specs.Certificate.{fault, wFault}
+use Rattle.pairs.specs.Rows.{HoldsPairs}
+use Rattle.cells.specs.Nonzero.{Counted, Became}
+use Rattle.cells.specs.Moving.{added, Room}
+use Rattle.entries_k.specs.declared.Taken.{Taken}
+
+-- the w entries left at a place, each of which changes the cells
+unfoldable pub tookWs : List ℕ → ((v u w : ℕ) → List ℤ → List ℤ) → (left at : ℕ) → List ℤ → List ℤ
+tookWs C change zero at cells = cells
+tookWs C change (suc left) at cells = tookWs C change left (at + 6) (change (byteAt C at) (byteAt C (at + 1)) (fourAt C (at + 2)) cells)
+
+-- taken at v, and at u
+abbrev pub tookVs : List ℕ → (first left at : ℕ) → List ℤ → List ℤ
+tookVs C first = tookWs C (λ v u w cells. added cells (first + v) 1 (negℤ (pos w)))
+
+abbrev pub tookUs : List ℕ → (d left at : ℕ) → List ℤ → List ℤ
+tookUs C d = tookWs C (λ v u w target. added target u d (pos w))
+
+-- w entries that can be taken
+pub record CanTakeWs (C : List ℕ) (at entries n d first : ℕ) (cells : List ℤ) (nonzero : ℕ) (target : List ℤ) (asked : ℕ) : Type 0 where
+  pub whole : at + 6 * entries ≤ length C
+  pub few : n ≤ 64
+  pub light : d < 65536
+  pub layer : first ≤ 64
+  pub table : Counted cells nonzero
+  pub room : Room cells 4400
+  pub targetTable : Counted target asked
+  pub targetRoom : Room target 4400
+
+-- the fault of the w entries, for the pairs that the rows hold; where there is none they are taken
+pub record TookWs (C : List ℕ) (at entries n : ℕ) (rows : List ℕ) (d first : ℕ) (before cells targetBefore target : List ℤ) (r : Taken) : Type 0 where
+  pub number : (A : Automaton) (R : Pairs) → A .states ≡ n → HoldsPairs n R rows → fault (r .number) ≡ wFault A C R entries at 0
+  pub became : r .number ≡ 0 → Became (tookVs C first entries at before) cells (r .nonzero)
+  pub targetBecame : r .number ≡ 0 → Became (tookUs C d entries at targetBefore) target (r .target)

@@ -1,0 +1,84 @@
+// The w entries of a flow judged, and taken into its equations.
+ghost use Rattle.entries_w.specs.Matching.{CanTakeWs, TookWs};
+use cells::Cells;
+use entries_k::Taken;
+use field::Cursor;
+use pairs::Rows;
+
+// 19 of the w entries, and each good one taken into the equations at v, whose cells begin at `first`, and at u.
+pub fn take_ws(
+    cert: &[u8],
+    at: usize,
+    entries: usize,
+    n: usize,
+    rows: &Rows,
+    d: usize,
+    first: usize,
+    cells: &mut Cells,
+    initial: usize,
+    target: &mut Cells,
+    asked: usize,
+) -> Taken
+    requires { ⌜ CanTakeWs (now cert) at entries n d first (now cells) initial (now target) asked ⌝ }
+    ensures { λ r. ⌜ TookWs (now (cert .entry)) at entries n (now (rows .entry)) d first (now (cells .entry)) (now (cells .exit)) (now (target .entry)) (now (target .exit)) r ⌝ }
+{
+    let mut left = entries;
+    let mut place = Cursor::new(at);
+    let mut lowest = 0;
+    let mut nonzero = initial;
+    let mut target_nonzero = asked;
+    while 0 < left {
+        let from = place.byte(cert);
+        let to = from.next.byte(cert);
+        let amount = to.next.quad(cert);
+        let v = from.value;
+        let u = to.value;
+        let w = amount.value;
+        let pair = v * 256 + u;
+        if pair < lowest {
+            return Taken {
+                number: 19,
+                nonzero,
+                target: target_nonzero,
+            };
+        }
+        if n <= v {
+            return Taken {
+                number: 19,
+                nonzero,
+                target: target_nonzero,
+            };
+        }
+        if n <= u {
+            return Taken {
+                number: 19,
+                nonzero,
+                target: target_nonzero,
+            };
+        }
+        if !pairs::related(rows, v, u) {
+            return Taken {
+                number: 19,
+                nonzero,
+                target: target_nonzero,
+            };
+        }
+        if w == 0 {
+            return Taken {
+                number: 19,
+                nonzero,
+                target: target_nonzero,
+            };
+        }
+        nonzero = cells::take(cells, first + v, 1, w, nonzero);
+        target_nonzero = cells::give(target, u, d, w, target_nonzero);
+        lowest = pair + 1;
+        place = amount.next;
+        left -= 1;
+    }
+    Taken {
+        number: 0,
+        nonzero,
+        target: target_nonzero,
+    }
+}

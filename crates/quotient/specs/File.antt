@@ -11,8 +11,8 @@ use Rattle.rules.specs.Quotient.{blockCount, byBlock, mergedFile}
 use Rattle.rules.specs.QuotientLaws.{NumberedBlocks}
 use Rattle.rules.specs.Answers.{mergedOutcome}
 use Rattle.transition.specs.Known.{Known}
-use Rattle.quotient.specs.declared.Kept.{Kept}
-use Rattle.quotient.specs.Kept.{transitionsIn, Holds}
+use Rattle.kept.specs.declared.Kept.{Kept}
+use Rattle.kept.specs.Kept.{transitionsIn, Holds}
 
 -- a sound model and blocks as an accepted certificate has them
 pub record CanWriteFile (s : List ℕ) (n count : ℕ) (places blocks : List ℕ) : Type 0 where

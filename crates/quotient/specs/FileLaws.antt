@@ -20,8 +20,8 @@ use Rattle.transition.specs.Known.{Known}
 use Rattle.merged.specs.Merged.{BlocksBelow}
 use Rattle.writer.specs.Appends.{Appends, CanWriteModel, WritesModel}
 use Rattle.writer.specs.AppendsLaws.{appended-front}
-use Rattle.quotient.specs.declared.Kept.{Kept}
-use Rattle.quotient.specs.Kept.{transitionsIn, Holds, WroteAll}
+use Rattle.kept.specs.declared.Kept.{Kept}
+use Rattle.kept.specs.Kept.{transitionsIn, Holds, WroteAll}
 use Rattle.quotient.specs.File.{CanWriteFile, CanWriteParts, PartsWritten, FileWritten}
 
 -- records that stand in a buffer lie in it

@@ -1,7 +1,3 @@
-pub mod DistinctLaws
+pub mod LabelsLaws
 pub mod File
 pub mod FileLaws
-pub mod Kept
-pub mod KeptLaws
-pub mod LabelsLaws
-pub mod RoomLaws

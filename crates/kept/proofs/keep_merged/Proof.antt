@@ -1,10 +1,10 @@
 -- `keep_merged` meets its contract: a repeated record is written over by the next.
 use native.Mathlib.Omega.{arith}
 use mathlib.Core.Path.{refl}
-use Rattle.quotient.specs.KeptLaws.{can-merge, few-kept, stands, keep-repeated, keep-new}
+use Rattle.kept.specs.KeptLaws.{can-merge, few-kept, stands, keep-repeated, keep-new}
 use borrow.Author.Needs.{needs}
-use Rattle.quotient.proofs.keep_merged.Statement.{statement}
-use Rattle.quotient.proofs.keep_merged.Tie as tie
+use Rattle.kept.proofs.keep_merged.Statement.{statement}
+use Rattle.kept.proofs.keep_merged.Tie as tie
 
 write-merged-requires : tie.Need-write-merged-requires
 write-merged-requires c κs = can-merge (c .before .before .before .before .before .pre .0) (c .before .before .before .before .before .pre .1) (c .before .before .before .before .before .pre .2)

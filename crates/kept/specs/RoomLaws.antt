@@ -14,7 +14,7 @@ use Rattle.rules.specs.SoundModel.{Each, sumOver}
 use Rattle.rules.specs.Quotient.{mergedTransition, fromBlock, distinct, byBlock}
 use Rattle.rules.specs.KeyedSums.{sum-next, sumOver-append, sumOver-most, sumAt, sumAt-all}
 use Rattle.rules.specs.QuotientLaws.{sum-distinct, sum-from, sum-by-block}
-use Rattle.quotient.specs.Kept.{before, here}
+use Rattle.kept.specs.Kept.{before, here}
 
 -- sums over the first elements
 first-most : (f : Transition → ℕ) (r : ℕ) (ts : List Transition) → sumOver f (take r ts) ≤ sumOver f ts

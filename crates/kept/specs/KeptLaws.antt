@@ -26,10 +26,10 @@ use Rattle.writer.specs.Appends.{Appends}
 use Rattle.writer.specs.AppendsLaws.{front-kept, appended-part, appended-front}
 use Rattle.merged.specs.Merged.{NoWeights, BlocksBelow, CanMerge, Merged}
 use Rattle.repeated.specs.Repeated.{Fits, FitsFrom, StandAs, Stand, IsRepeated}
-use Rattle.quotient.specs.declared.Kept.{Kept}
-use Rattle.quotient.specs.Kept.{transitionsIn, Holds, before, here, InBlock, CanKeep, Keeps}
-use Rattle.quotient.specs.DistinctLaws.{distinct-more, from-more, by-block-more}
-use Rattle.quotient.specs.RoomLaws.{sizeOf, room}
+use Rattle.kept.specs.declared.Kept.{Kept}
+use Rattle.kept.specs.Kept.{transitionsIn, Holds, before, here, InBlock, CanKeep, Keeps}
+use Rattle.kept.specs.DistinctLaws.{distinct-more, from-more, by-block-more}
+use Rattle.kept.specs.RoomLaws.{sizeOf, room}
 
 -- records one after the other
 transitions-append : (xs ys : List Transition) → transitionsBytes (xs ++ ys) ≡ transitionsBytes xs ++ transitionsBytes ys

@@ -2,10 +2,10 @@
 use native.Mathlib.Omega.{arith}
 use mathlib.Core.Path.{_≡_, sym, _∙_}
 use Rattle.transition.specs.KnownLaws.{known-transition}
-use Rattle.quotient.specs.KeptLaws.{keep-other, block-at, block-known}
+use Rattle.kept.specs.KeptLaws.{keep-other, block-at, block-known}
 use borrow.Author.Needs.{needs}
-use Rattle.quotient.proofs.keep_of_block.Statement.{statement}
-use Rattle.quotient.proofs.keep_of_block.Tie as tie
+use Rattle.kept.proofs.keep_of_block.Statement.{statement}
+use Rattle.kept.proofs.keep_of_block.Tie as tie
 
 fields-of-requires : tie.Need-fields-of-requires
 fields-of-requires c κs = known-transition (c .before .before .before .pre .0 .known) (c .before .before .before .pre .1)

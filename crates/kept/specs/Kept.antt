@@ -8,7 +8,7 @@ use Rattle.rules.specs.Reading.{modelAt}
 use Rattle.rules.specs.Quotient.{fromBlock, distinct, byBlock}
 use Rattle.transition.specs.Known.{Known}
 use Rattle.merged.specs.Merged.{NoWeights, BlocksBelow}
-use Rattle.quotient.specs.declared.Kept.{Kept}
+use Rattle.kept.specs.declared.Kept.{Kept}
 
 -- the transitions of a model file
 abbrev pub transitionsIn : List ℕ → List Transition

@@ -5,11 +5,11 @@ use mathlib.Core.Path.{_≡_, refl, sym, _∙_}
 use lib.ListN.{length}
 use Rattle.transition.specs.KnownLaws.{few-transitions}
 use Rattle.merged.specs.Merged.{NoWeights}
-use Rattle.quotient.specs.Kept.{InBlock}
-use Rattle.quotient.specs.KeptLaws.{count-is, block-begins, block-ends}
+use Rattle.kept.specs.Kept.{InBlock}
+use Rattle.kept.specs.KeptLaws.{count-is, block-begins, block-ends}
 use borrow.Author.Needs.{needs}
-use Rattle.quotient.proofs.write_block.Statement.{statement}
-use Rattle.quotient.proofs.write_block.Tie as tie
+use Rattle.kept.proofs.write_block.Statement.{statement}
+use Rattle.kept.proofs.write_block.Tie as tie
 
 abbrev Inv-loop : tie.InvT-loop
 Inv-loop s n count places blocks k b weights₀ out₀ start kept₀ r₀ weights out kept r =

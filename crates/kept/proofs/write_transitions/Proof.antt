@@ -5,11 +5,11 @@ use mathlib.Core.Path.{_≡_, refl, sym, _∙_, subst}
 use lib.ListN.{length}
 use denote.Ref.{now}
 use Rattle.merged.specs.Merged.{NoWeights}
-use Rattle.quotient.specs.Kept.{transitionsIn, before, Holds}
-use Rattle.quotient.specs.KeptLaws.{none-held}
+use Rattle.kept.specs.Kept.{transitionsIn, before, Holds}
+use Rattle.kept.specs.KeptLaws.{none-held}
 use borrow.Author.Needs.{needs}
-use Rattle.quotient.proofs.write_transitions.Statement.{statement}
-use Rattle.quotient.proofs.write_transitions.Tie as tie
+use Rattle.kept.proofs.write_transitions.Statement.{statement}
+use Rattle.kept.proofs.write_transitions.Tie as tie
 
 abbrev Inv-loop : tie.InvT-loop
 Inv-loop s n count places blocks k out₀ weights₀ kept₀ b₀ out weights kept b =

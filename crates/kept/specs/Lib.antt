@@ -1,0 +1,4 @@
+pub mod Kept
+pub mod DistinctLaws
+pub mod RoomLaws
+pub mod KeptLaws

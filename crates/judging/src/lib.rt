@@ -1,6 +1,5 @@
 // The judging program of document 01, and the reducing program beside it, as functions that the programs call.
 ghost use Prim.Native.Nat.{_≤_};
-ghost use lib.ListN.{length};
 use libc::STDOUT_FILENO;
 
 // Of the model file the first 8,192 bytes are read; of the certificate file up to 49,152.

@@ -28,8 +28,8 @@ use Rattle.pairs.specs.Rows.{rowBit, HoldsPairs}
 use Rattle.transition.specs.Known.{automatonIn, Known}
 use Rattle.transition.specs.KnownLaws.{known-states}
 use Rattle.prices.specs.Prices.{priceIn, HoldsPrices, SmallPrices}
-use Rattle.prices.specs.Conditions.{fairTwice, fairTo, allFair, conditionsFault}
-use Rattle.prices.specs.ConditionsLaws.{fair-internal, fair-external}
+use Rattle.conditions.specs.Conditions.{fairTwice, fairTo, allFair, conditionsFault}
+use Rattle.conditions.specs.ConditionsLaws.{fair-internal, fair-external}
 use Rattle.refutation.specs.Judged.{Asked, PairJudged, RefutationPassed}
 
 -- the states are those of the file

@@ -7,7 +7,7 @@ ghost use Rattle.rules.specs.Reading.{statesOf};
 ghost use Rattle.rules.specs.PlainRule.{plainPriceCount};
 ghost use Rattle.transition.specs.Known.{automatonIn, Known, KnownTransition};
 ghost use Rattle.prices.specs.Prices.{priceIn, SmallPrices};
-ghost use Rattle.prices.specs.Conditions.{conditionsFault};
+ghost use Rattle.conditions.specs.Conditions.{conditionsFault};
 ghost use Rattle.refutation.specs.Judged.{Asked, FaultIs, PairJudged, PricesJudged, RefutationJudged};
 use fault::Fault;
 use field::Cursor;
@@ -34,13 +34,13 @@ fn conditions_fault(
     requires { ⌜ Asked (now s) n count (now places) q t × SmallPrices n (now x) × SmallPrices n (now y) × SmallPrices n (now g) ⌝ }
     ensures { λ z. ⌜ FaultIs n (now (rows .entry)) (λ R. conditionsFault (automatonIn (now (s .entry))) R a q t (priceIn (now (x .entry))) (priceIn (now (y .entry))) (priceIn (now (g .entry)))) z ⌝ }
 {
-    if !prices::all_fair(s, count, places, a, x, y) {
+    if !conditions::all_fair(s, count, places, a, x, y) {
         return fault::refusal(15);
     }
-    if !prices::all_related(rows, n, y, g) {
+    if !conditions::all_related(rows, n, y, g) {
         return fault::refusal(15);
     }
-    if !prices::last_holds(s, places, q, t, x, g) {
+    if !conditions::last_holds(s, places, q, t, x, g) {
         return fault::refusal(16);
     }
     fault::none()

@@ -4,7 +4,7 @@ use mathlib.Core.Path.{sym, _∙_}
 use borrow.Author.Tests.{not-true, not-false}
 use Rattle.bisimulation.specs.ChoiceLaws.{isTrue, isFalse}
 use Rattle.transition.specs.KnownLaws.{known-own, known-states, few-states, known-transition}
-use Rattle.prices.specs.Conditions.{conditionsFault}
+use Rattle.conditions.specs.Conditions.{conditionsFault}
 use Rattle.refutation.specs.JudgedLaws.{prices-there}
 use borrow.Author.Needs.{needs}
 use Rattle.refutation.proofs.conditions_fault.Statement.{statement}

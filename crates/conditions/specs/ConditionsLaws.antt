@@ -22,9 +22,9 @@ use Rattle.rules.specs.PlainDecides.{holds-T}
 use Rattle.record.specs.declared.Fields.{Fields}
 use Rattle.transition.specs.Known.{automatonIn, Known, KnownTransition, FieldsOf}
 use Rattle.transition.specs.KnownLaws.{few-states, known-transitions}
 use Rattle.prices.specs.Prices.{priceIn, SmallPrices, IsSum}
 use Rattle.prices.specs.PricesLaws.{sum-back, sum-is}
-use Rattle.prices.specs.Conditions.{fairTwice, fairTo, allFair}
+use Rattle.conditions.specs.Conditions.{fairTwice, fairTo, allFair}
 
 -- a state has a price, and d is small
 pub state-price : {s places : List ℕ} {r v : ℕ} {f : Fields} {table : List ℤ} → KnownTransition s places r → FieldsOf s r f → SmallPrices (statesOf s) table → v < statesOf s → (f .denominator < 65536) × (v < limits .states) × (mag (priceIn table v) < 2 ^ 31)

@@ -2,11 +2,11 @@
 use mathlib.Core.Path.{ap, _∙_}
 use mathlib.Core.Bool.{not}
 use denote.Ref.{now}
 use Rattle.prices.specs.PricesLaws.{summable}
-use Rattle.prices.specs.ConditionsLaws.{state-price, below-is}
+use Rattle.conditions.specs.ConditionsLaws.{state-price, below-is}
 use borrow.Author.Needs.{needs}
-use Rattle.prices.proofs.last_holds.Statement.{statement}
-use Rattle.prices.proofs.last_holds.Tie as tie
+use Rattle.conditions.proofs.last_holds.Statement.{statement}
+use Rattle.conditions.proofs.last_holds.Tie as tie
 
 fields-of-requires : tie.Need-fields-of-requires
 fields-of-requires c κs = search needs

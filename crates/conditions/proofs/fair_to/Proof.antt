@@ -2,10 +2,10 @@
 use native.Mathlib.Omega.{arith}
 use mathlib.Core.Path.{refl}
 use Rattle.bisimulation.specs.ChoiceLaws.{same, notSame}
-use Rattle.prices.specs.Conditions.{fairTo}
+use Rattle.conditions.specs.Conditions.{fairTo}
 use borrow.Author.Needs.{needs}
-use Rattle.prices.proofs.fair_to.Statement.{statement}
-use Rattle.prices.proofs.fair_to.Tie as tie
+use Rattle.conditions.proofs.fair_to.Statement.{statement}
+use Rattle.conditions.proofs.fair_to.Tie as tie
 
 fields-of-requires : tie.Need-fields-of-requires
 fields-of-requires c κs = search needs

@@ -3,11 +3,11 @@ use mathlib.Core.Path.{refl}
 use denote.Ref.{now}
 use mir.Facts.{toZ-ofZ}
 use Rattle.transition.specs.TermsLaws.{term-is, term-fits}
 use Rattle.prices.specs.Prices.{priceIn}
 use Rattle.prices.specs.PricesLaws.{price-back, product}
 use borrow.Author.Needs.{needs}
-use Rattle.prices.proofs.at_least.Statement.{statement}
-use Rattle.prices.proofs.at_least.Tie as tie
+use Rattle.conditions.proofs.at_least.Statement.{statement}
+use Rattle.conditions.proofs.at_least.Tie as tie
 
 mul-price : tie.Need-mul-price
 mul-price c = search needs

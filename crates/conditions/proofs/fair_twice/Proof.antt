@@ -2,11 +2,11 @@
 use mathlib.Core.Path.{sym, _∙_}
 use denote.Ref.{now}
 use borrow.Author.Tests.{not-true, not-false}
 use Rattle.prices.specs.PricesLaws.{summable}
-use Rattle.prices.specs.ConditionsLaws.{state-price, condition-is, twice-not, twice-then}
+use Rattle.conditions.specs.ConditionsLaws.{state-price, condition-is, twice-not, twice-then}
 use borrow.Author.Needs.{needs}
-use Rattle.prices.proofs.fair_twice.Statement.{statement}
-use Rattle.prices.proofs.fair_twice.Tie as tie
+use Rattle.conditions.proofs.fair_twice.Statement.{statement}
+use Rattle.conditions.proofs.fair_twice.Tie as tie
 
 fields-of-requires : tie.Need-fields-of-requires
 fields-of-requires c κs = search needs

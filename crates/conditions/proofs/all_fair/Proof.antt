@@ -8,11 +8,11 @@ use borrow.Author.Tests.{not-true, not-false}
 use Rattle.bisimulation.specs.ChoiceLaws.{below-all, not-all}
 use Rattle.transition.specs.Known.{automatonIn}
 use Rattle.transition.specs.KnownLaws.{known-transition}
 use Rattle.prices.specs.Prices.{priceIn}
-use Rattle.prices.specs.Conditions.{fairTo}
-use Rattle.prices.specs.ConditionsLaws.{all-of-count}
-use Rattle.prices.proofs.all_fair.Statement.{statement}
-use Rattle.prices.proofs.all_fair.Tie as tie
+use Rattle.conditions.specs.Conditions.{fairTo}
+use Rattle.conditions.specs.ConditionsLaws.{all-of-count}
+use Rattle.conditions.proofs.all_fair.Statement.{statement}
+use Rattle.conditions.proofs.all_fair.Tie as tie
 
 abbrev Inv-loop : tie.InvT-loop
 Inv-loop s count places a x y r₀ r = (r ≤ count) × ((i : ℕ) → i < r → fairTo (automatonIn s) a (priceIn x) (priceIn y) i ≡ true)

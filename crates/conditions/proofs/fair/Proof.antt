@@ -1,11 +1,11 @@
 -- `fair` meets its contract: the sum and the price of the source are the two sides of the condition.
 use mathlib.Core.Path.{_∙_}
 use denote.Ref.{now}
 use Rattle.prices.specs.PricesLaws.{summable}
-use Rattle.prices.specs.ConditionsLaws.{state-price, condition-is}
+use Rattle.conditions.specs.ConditionsLaws.{state-price, condition-is}
 use borrow.Author.Needs.{needs}
-use Rattle.prices.proofs.fair.Statement.{statement}
-use Rattle.prices.proofs.fair.Tie as tie
+use Rattle.conditions.proofs.fair.Statement.{statement}
+use Rattle.conditions.proofs.fair.Tie as tie
 
 fields-of-requires : tie.Need-fields-of-requires
 fields-of-requires c κs = search needs

@@ -20,9 +20,9 @@ use Rattle.rules.specs.Limits.{limits}
 use Rattle.rules.specs.PlainRule.{allRelated}
 use Rattle.rules.specs.PlainDecides.{holds-T, T-holds}
 use Rattle.pairs.specs.Rows.{rowBit, HoldsPairs, IsNext, AreAlike}
 use Rattle.prices.specs.Prices.{priceIn, SmallPrices}
 use Rattle.prices.specs.PricesLaws.{price-back}
-use Rattle.prices.specs.Highest.{IsLarger, Inside, Bounds, HighestBelow, IsHighest, AreRelated}
+use Rattle.conditions.specs.Highest.{IsLarger, Inside, Bounds, HighestBelow, IsHighest, AreRelated}
 
 -- laws of the order of numbers with a sign
 ≤ℤ-trans : {a b c : ℤ} → a ≤ℤ b → b ≤ℤ c → a ≤ℤ c

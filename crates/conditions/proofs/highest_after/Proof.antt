@@ -1,8 +1,8 @@
 -- `highest_after` meets its contract: equal rows have the highest price in common.
-use Rattle.prices.specs.HighestLaws.{highest-alike, highest-back}
+use Rattle.conditions.specs.HighestLaws.{highest-alike, highest-back}
 use borrow.Author.Needs.{needs}
-use Rattle.prices.proofs.highest_after.Statement.{statement}
-use Rattle.prices.proofs.highest_after.Tie as tie
+use Rattle.conditions.proofs.highest_after.Statement.{statement}
+use Rattle.conditions.proofs.highest_after.Tie as tie
 
 same-row-requires : tie.Need-same-row-requires
 same-row-requires c κs = search needs

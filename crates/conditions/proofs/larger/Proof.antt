@@ -2,9 +2,9 @@
 use mathlib.Core.Path.{sym, ap₂, _∙_}
 use lib.Signed.{ltZ}
 use mir.Facts.{toZ-ofZ}
-use Rattle.prices.specs.HighestLaws.{second-larger, first-larger}
-use Rattle.prices.proofs.larger.Statement.{statement}
-use Rattle.prices.proofs.larger.Tie as tie
+use Rattle.conditions.specs.HighestLaws.{second-larger, first-larger}
+use Rattle.conditions.proofs.larger.Statement.{statement}
+use Rattle.conditions.proofs.larger.Tie as tie
 
 returns : tie.Need-returns
 returns c =

@@ -1,0 +1,4 @@
+pub mod Conditions
+pub mod ConditionsLaws
+pub mod Highest
+pub mod HighestLaws

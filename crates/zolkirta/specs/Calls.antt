@@ -16,21 +16,9 @@ use Rattle.rules.specs.Judging.{AcceptedFor, NameSameBlocks}
 use Rattle.rules.specs.Accepted.{Accepted}
 use Rattle.rules.specs.Quotient.{mergedFile}
 use Rattle.rules.specs.Demand3.{HoldsModel, LargestBlockPairs}
-use Rattle.rules.specs.Answers as rules
 use Rattle.rules.specs.Answers.{Outcome, fetchAnswer, stretchIn, stretchOf, FetchNumber, JudgeNumber, ReduceNumber, judgeOutcome, reduceOutcome}
-use Rattle.zolkirta.specs.declared.Answer.{Answer}
-
--- the struct of numbers as document 01's answer
-abbrev pub answered : Answer → rules.Answer
-answered a =
-    record {
-      number = a .number;
-      file = a .file;
-      place = a .place;
-      stretchStart = a .«stretch_start»;
-      stretchLength = a .«stretch_length»;
-      written = a .written;
-    }
+use Rattle.verdict.specs.declared.Answer.{Answer}
+use Rattle.verdict.specs.Answered.{answered, OutcomeIs}
 
 -- a fetch answers what document 01 says, with one of its numbers: 0 to 9 or 24
 pub record FetchAnswered (model : List ℕ) (state : ℕ) (r : Answer) : Type 0 where
@@ -49,16 +37,6 @@ pub record FetchHandedBack (model : List ℕ) (slice : ℕ × ℕ) (state : ℕ)
   pub handed : part ≡ stretchIn model (fetchAnswer limits model state)
   pub lies : lying ≡ partFrom slice (fetchAnswer limits model state .stretchStart)
   pub known : FetchNumber number
-
--- the stretch of an answer lies in its file
-pub record StretchInside (model certificate : List ℕ) (r : Answer) : Type 0 where
-  pub fits : r .«stretch_start» + r .«stretch_length» ≤ ifSame (r .file) 2 (length certificate) (length model)
-
--- a call's answer and the lent buffer afterwards are those of an outcome of document 01
-pub record OutcomeIs (o : Outcome) (model certificate after : List ℕ) (r : Answer) : Type 0 where
-  pub answer : answered r ≡ o .answer
-  pub buffer : after ≡ o .buffer
-  pub inside : StretchInside model certificate r
 
 -- where a file lies, and there the model where no file is at fault
 abbrev pub sliceOf : ℕ × ℕ → ℕ × ℕ → ℕ → ℕ × ℕ

@@ -7,53 +7,14 @@ ghost use Rattle.rules.specs.Limits.{limits};
 ghost use Rattle.rules.specs.Answers.{refusalIn, answerWithoutPlace, runAnswer, fetchAnswer};
 ghost use Rattle.rules.specs.Reading.{headFault};
 ghost use Rattle.transition.specs.Known.{Known};
-ghost use Rattle.zolkirta.specs.Calls.{answered, StretchInside, FetchAnswered, FetchHandedBack, JudgeAnswered, JudgeHandedBack, ReduceAnswered, ReduceHandedBack};
-ghost use Rattle.zolkirta.specs.Parts.{ReadsModel, VerdictIs, HandsBack, Reduced};
+ghost use Rattle.verdict.specs.Answered.{answered, StretchInside};
+ghost use Rattle.zolkirta.specs.Calls.{FetchAnswered, FetchHandedBack, JudgeAnswered, JudgeHandedBack, ReduceAnswered, ReduceHandedBack};
+ghost use Rattle.zolkirta.specs.Parts.{HandsBack, Reduced};
 ghost use Rattle.quotient.specs.File.{CanWriteFile};
-use flows::Judged;
 use model::Places;
-use model::Scanned;
 use runs::Fetched;
-
-// What a call answers: document 01's number, file (1 model, 2 certificate) and place; where the stretch, or the run of a
-// fetch, starts in its file and how long it is; and how many bytes were written into the lent buffer.
-#[repr(C)]
-pub struct Answer {
-    pub number: u32,
-    pub file: u32,
-    pub place: usize,
-    pub stretch_start: usize,
-    pub stretch_length: usize,
-    pub written: usize,
-}
-
-fn without_place(number: u32, written: usize) -> Answer
-    ensures { λ r. ⌜ answered r ≡ answerWithoutPlace number written ⌝ }
-{
-    Answer {
-        number,
-        file: 0,
-        place: 0,
-        stretch_start: 0,
-        stretch_length: 0,
-        written,
-    }
-}
-
-// A refusal in a file of so many bytes.
-fn refusal_in(number: usize, file: u32, place: usize, size: usize) -> Answer
-    requires { ⌜ (number ≤ 24) × (place ≤ size) ⌝ }
-    ensures { λ r. ⌜ answered r ≡ refusalIn number file place size ⌝ }
-{
-    Answer {
-        number: number as u32,
-        file,
-        place,
-        stretch_start: place,
-        stretch_length: size - place,
-        written: 0,
-    }
-}
+use verdict::Answer;
+use verdict::Verdict;
 
 fn run_from(start: usize, end: usize) -> Answer
     ensures { λ r. ⌜ answered r ≡ runAnswer start end ⌝ }
@@ -68,7 +29,7 @@ fn run_from(start: usize, end: usize) -> Answer
             written: 0,
         };
     }
-    without_place(0, 0)
+    verdict::without_place(0, 0)
 }
 
 // Hands an answer back: the tail of the slice that holds the record at fault, empty where none does, and the numbers beside it.
@@ -100,8 +61,8 @@ fn fetch_answer(model: &[u8], state: u32) -> Answer
     let fetched = runs::fetch_run(model, state as usize);
     match fetched {
         Fetched::Found { start, end } => run_from(start, end),
-        Fetched::NoState => without_place(24, 0),
-        Fetched::Unsound { number, place } => refusal_in(number, 1, place, model.len()),
+        Fetched::NoState => verdict::without_place(24, 0),
+        Fetched::Unsound { number, place } => verdict::refusal_in(number, 1, place, model.len()),
     }
 }
 
@@ -128,69 +89,15 @@ pub extern "C" fn zolkirta_fetch(model: &[u8], state: u32) -> Answer
     fetch_answer(model, state)
 }
 
-// What a judging call finds: the model's counts and where in the certificate the accepted blocks begin; or the answer of a refusal.
-pub enum Verdict {
-    Accepted {
-        states: usize,
-        transitions: usize,
-        blocks: usize,
-    },
-    Refused(Answer),
-}
-
-// A sound model's certificate judged, for a buffer with room for so many blocks.
-fn judge_sound(
-    model: &[u8],
-    n: usize,
-    count: usize,
-    places: &Places,
-    certificate: &[u8],
-    room: usize,
-) -> Verdict
-    requires { ⌜ Known (now model) n count (now places) × ReadsModel (now model) ⌝ }
-    ensures { λ r. ⌜ VerdictIs (now (model .entry)) (now (certificate .entry)) (now (places .entry)) room r ⌝ }
-{
-    if room < n {
-        return Verdict::Refused(without_place(10, 0));
-    }
-    let judged = judge::judge_certificate(model, n, count, places, certificate);
-    match judged {
-        Judged::Accepted { blocks } => Verdict::Accepted {
-            states: n,
-            transitions: count,
-            blocks,
-        },
-        Judged::Rejected { number, place } => {
-            Verdict::Refused(refusal_in(number, 2, place, certificate.len()))
-        }
-    }
-}
-
-// The model read from its labels on, then its certificate judged. A call without a block buffer gives the most states that a model has.
-fn judge_files(model: &[u8], certificate: &[u8], places: &mut Places, room: usize) -> Verdict
-    requires { ⌜ (length (now places) ≡ 257) × (headFault limits (now model) ≡ 0) ⌝ }
-    ensures { λ r. ⌜ VerdictIs (now (model .entry)) (now (certificate .entry)) (now (places .exit)) room r ⌝ }
-{
-    let scanned = model::scan_whole(model, places);
-    match scanned {
-        Scanned::Sound(m) => {
-            judge_sound(model, m.states, m.transitions, places, certificate, room)
-        }
-        Scanned::Refused { number, place } => {
-            Verdict::Refused(refusal_in(number, 1, place, model.len()))
-        }
-    }
-}
-
 fn judge_answer(model: &[u8], certificate: &[u8], blocks: &mut [u8]) -> Answer
     ensures { λ r. ⌜ JudgeAnswered (now (model .entry)) (now (certificate .entry)) (now (blocks .entry)) (now (blocks .exit)) r ⌝ }
 {
     let wrong = record::head_fault(model);
     if wrong != 0 {
-        return refusal_in(wrong, 1, 0, model.len());
+        return verdict::refusal_in(wrong, 1, 0, model.len());
     }
     let mut places = model::no_places();
-    let found = judge_files(model, certificate, &mut places, blocks.len());
+    let found = verdict::judge_files(model, certificate, &mut places, blocks.len());
     match found {
         Verdict::Accepted {
             states,
@@ -198,7 +105,7 @@ fn judge_answer(model: &[u8], certificate: &[u8], blocks: &mut [u8]) -> Answer
             blocks: at,
         } => {
             bytes::copy(&certificate[at..at + states], blocks);
-            without_place(0, states)
+            verdict::without_place(0, states)
         }
         Verdict::Refused(answer) => answer,
     }
@@ -243,9 +150,9 @@ fn reduce_accepted(
     let room = out.len();
     let size = quotient::write_file(model, n, count, places, blocks, out);
     if room < size {
-        return without_place(23, 0);
+        return verdict::without_place(23, 0);
     }
-    without_place(0, size)
+    verdict::without_place(0, size)
 }
 
 fn reduce_answer(model: &[u8], certificate: &[u8], out: &mut [u8]) -> Answer
@@ -253,10 +160,10 @@ fn reduce_answer(model: &[u8], certificate: &[u8], out: &mut [u8]) -> Answer
 {
     let wrong = record::head_fault(model);
     if wrong != 0 {
-        return refusal_in(wrong, 1, 0, model.len());
+        return verdict::refusal_in(wrong, 1, 0, model.len());
     }
     let mut places = model::no_places();
-    let found = judge_files(model, certificate, &mut places, 64);
+    let found = verdict::judge_files(model, certificate, &mut places, 64);
     match found {
         Verdict::Accepted {
             states,

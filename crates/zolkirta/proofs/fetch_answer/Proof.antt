@@ -8,7 +8,7 @@ use mathlib.Core.List.{List}
 use mathlib.Core.Path.{_≡_, sym, _∙_, ap}
 use native.Mathlib.Omega.{arith}
 use borrow.Author.Needs.{needs}
-use Rattle.zolkirta.specs.OutcomeLaws.{without-as, refusal-as}
+use Rattle.verdict.specs.VerdictLaws.{without-as, refusal-as}
 use Rattle.zolkirta.proofs.fetch_answer.Statement.{statement}
 use Rattle.zolkirta.proofs.fetch_answer.Tie as tie
 

@@ -5,7 +5,8 @@ use Rattle.rules.specs.Bytes.{byteAt}
 use Rattle.rules.specs.SoundModel.{Bytes}
 use Rattle.rules.specs.Answers.{Answer}
 use Rattle.zolkirta.specs.CallsLaws.{demands-hold}
-use Rattle.zolkirta.specs.OutcomeLaws.{without-as, found-accepted, found-refused, refused-as, head-told, part-length, accepted-is}
+use Rattle.verdict.specs.VerdictLaws.{without-as, found-accepted, found-refused, refused-as, head-told}
+use Rattle.zolkirta.specs.OutcomeLaws.{part-length, accepted-is}
 use borrow.Author.Needs.{needs}
 use Rattle.zolkirta.proofs.judge_answer.Statement.{statement}
 use Rattle.zolkirta.proofs.judge_answer.Tie as tie

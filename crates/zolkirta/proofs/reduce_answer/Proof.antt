@@ -5,7 +5,8 @@ use Rattle.rules.specs.Bytes.{byteAt}
 use Rattle.rules.specs.SoundModel.{Bytes}
 use Rattle.rules.specs.Answers.{Answer}
 use Rattle.zolkirta.specs.CallsLaws.{reduce-demands}
-use Rattle.zolkirta.specs.OutcomeLaws.{found-accepted, found-refused, refused-as, head-told, can-reduce, reduced-is}
+use Rattle.verdict.specs.VerdictLaws.{found-accepted, found-refused, refused-as, head-told}
+use Rattle.zolkirta.specs.OutcomeLaws.{can-reduce, reduced-is}
 use borrow.Author.Needs.{needs}
 use Rattle.zolkirta.proofs.reduce_answer.Statement.{statement}
 use Rattle.zolkirta.proofs.reduce_answer.Tie as tie

@@ -4,8 +4,8 @@ use Prim.Native.Nat.{ℕ, _-_}
 use mathlib.Core.Path.{_≡_}
 use native.Mathlib.Omega.{arith}
 use borrow.Author.Needs.{needs}
-use Rattle.zolkirta.proofs.refusal_in.Statement.{statement}
-use Rattle.zolkirta.proofs.refusal_in.Tie as tie
+use Rattle.verdict.proofs.refusal_in.Statement.{statement}
+use Rattle.verdict.proofs.refusal_in.Tie as tie
 
 -- the stretch starts at the place
 refused : (number file place size start : ℕ) → start ≡ place → record { number = number; file = file; place = place; stretchStart = start; stretchLength = size - place; written = 0 } ≡ refusalIn number file place size

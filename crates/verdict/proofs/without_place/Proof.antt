@@ -1,8 +1,8 @@
 -- `without_place` meets its contract.
 use Rattle.rules.specs.Answers.{answerWithoutPlace}
 use mathlib.Core.Path.{refl}
-use Rattle.zolkirta.proofs.without_place.Statement.{statement}
-use Rattle.zolkirta.proofs.without_place.Tie as tie
+use Rattle.verdict.proofs.without_place.Statement.{statement}
+use Rattle.verdict.proofs.without_place.Tie as tie
 
 returns : tie.Need-returns
 unfolding answerWithoutPlace

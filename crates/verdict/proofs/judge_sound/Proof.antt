@@ -1,9 +1,9 @@
 -- `judge_sound` meets its contract: each case of the judge's answer is a verdict.
 use native.Mathlib.Omega.{arith}
-use Rattle.zolkirta.specs.OutcomeLaws.{without-as, refusal-as, short-as, rejected-small, rejected-as, accepted-as}
+use Rattle.verdict.specs.VerdictLaws.{without-as, refusal-as, short-as, rejected-small, rejected-as, accepted-as}
 use borrow.Author.Needs.{needs}
-use Rattle.zolkirta.proofs.judge_sound.Statement.{statement}
-use Rattle.zolkirta.proofs.judge_sound.Tie as tie
+use Rattle.verdict.proofs.judge_sound.Statement.{statement}
+use Rattle.verdict.proofs.judge_sound.Tie as tie
 
 without-place-requires : tie.Need-without-place-requires
 without-place-requires c κs = search needs

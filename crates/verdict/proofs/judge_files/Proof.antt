@@ -2,10 +2,10 @@
 use native.Mathlib.Omega.{arith}
 use Rattle.rules.specs.Bytes.{byteAt}
 use Rattle.rules.specs.SoundModel.{Bytes}
-use Rattle.zolkirta.specs.OutcomeLaws.{refused-as, sound-known, refused-told}
+use Rattle.verdict.specs.VerdictLaws.{refused-as, sound-known, refused-told}
 use borrow.Author.Needs.{needs}
-use Rattle.zolkirta.proofs.judge_files.Statement.{statement}
-use Rattle.zolkirta.proofs.judge_files.Tie as tie
+use Rattle.verdict.proofs.judge_files.Statement.{statement}
+use Rattle.verdict.proofs.judge_files.Tie as tie
 
 scan-whole-requires : tie.Need-scan-whole-requires
 scan-whole-requires c κs = search needs

@@ -109,9 +109,7 @@ impl Case {
     }
 }
 
-const ZEROED: &str = "the library zeroes its table of 257 places, 2,056 bytes, before it looks at the first byte; plain Rust makes its \
-    table once the head is read";
-const COMPARED: &str = "every record is compared with all before it, in the library byte by byte, in plain Rust as slices";
+const COMPARED: &str = "every record is compared with all before it; the library finds the next one by its entry count, plain Rust by a list of places";
 
 /// The name of a family, and times at each number of states.
 pub type Growth = (&'static str, Vec<(usize, Times)>);
@@ -124,7 +122,7 @@ fn cases(random: &[Files]) -> Vec<Case> {
     let case = |name, times, goal, reason| Case { name, times, goal, reason };
     vec![
         case("largest model read: fetch, 256 transitions, 1,024 entries; no state 64", fetching(length, &largest.0, 64), no_slower, ""),
-        case("refusal at the first byte: judge, the model cut after it", judging(length, &[cut]), no_slower, ZEROED),
+        case("refusal at the first byte: judge, the model cut after it", judging(length, &[cut]), no_slower, ""),
         case("refutation-heavy: judge, 64 states, 2,016 refutations of 192 prices", judging(length, &[refutations]), by_a_third, ""),
         case("flow-heavy: judge, 64 states, 16,128 flows of one w entry", judging(length, &[flows.clone()]), by_a_third, ""),
         case("random accepted pairs: judge, 300 pairs of 1 to 10 states, sum", judging(length, random), no_slower, ""),

@@ -1,5 +1,5 @@
 //! The library beside the plain Rust judge of the tests, in one run: `cargo bench --offline`. With `-- --write` the figures also go to
-//! docs/BENCHMARKS.md and docs/growth.svg.
+//! docs/BENCHMARKS.md and docs/growth.svg; `-- --quick` makes one pass.
 #[path = "../../tests/compare/mod.rs"]
 mod compare;
 #[path = "../../tests/maker/mod.rs"]
@@ -144,9 +144,11 @@ fn growths() -> Vec<Growth> {
 pub const PASSES: usize = 6;
 
 fn main() {
+    let asked = |option: &str| std::env::args().any(|argument| argument == option);
     let random = random_pairs();
     let (mut least, mut grown) = (cases(&random), growths());
-    for _ in 1..PASSES {
+    let passes = if asked("--quick") { 1 } else { PASSES };
+    for _ in 1..passes {
         for (case, again) in least.iter_mut().zip(cases(&random)) {
             case.times.keep_least(again.times);
         }
@@ -158,7 +160,7 @@ fn main() {
     }
     let tables = report::tables(&least, &grown);
     println!("{tables}");
-    if std::env::args().any(|argument| argument == "--write") {
+    if asked("--write") {
         let docs = concat!(env!("CARGO_MANIFEST_DIR"), "/../../docs");
         std::fs::write(format!("{docs}/BENCHMARKS.md"), report::page(&tables)).unwrap();
         std::fs::write(format!("{docs}/growth.svg"), picture::drawn(&grown)).unwrap();

@@ -7,11 +7,10 @@ use field::Cursor;
 use model::Places;
 use pairs::STATES;
 
-// What a list of entries comes to: the number of its fault, and how many cells of each table are not zero then.
+// What the k entries come to: the number of their fault, and how many cells are not zero then.
 pub struct Taken {
     pub number: usize,
     pub nonzero: usize,
-    pub target: usize,
 }
 
 // An entry of a layer and of a transition with this action is in the question of a challenger with its action.
@@ -109,28 +108,24 @@ pub fn take_ks(
             return Taken {
                 number: 19,
                 nonzero,
-                target: 0,
             };
         }
         if count <= r {
             return Taken {
                 number: 19,
                 nonzero,
-                target: 0,
             };
         }
         if !in_question(action, l, transition::fields_of(s, places, r).action) {
             return Taken {
                 number: 19,
                 nonzero,
-                target: 0,
             };
         }
         if k == 0 {
             return Taken {
                 number: 19,
                 nonzero,
-                target: 0,
             };
         }
         nonzero = take_k(s, places, l, r, k, cells, nonzero);
@@ -138,9 +133,5 @@ pub fn take_ks(
         place = amount.next;
         left -= 1;
     }
-    Taken {
-        number: 0,
-        nonzero,
-        target: 0,
-    }
+    Taken { number: 0, nonzero }
 }

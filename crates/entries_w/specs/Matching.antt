@@ -11,7 +11,7 @@ use Rattle.rules.specs.Certificate.{fault, wFault}
 use Rattle.pairs.specs.Rows.{HoldsPairs}
 use Rattle.cells.specs.Nonzero.{Counted, Became}
 use Rattle.cells.specs.Moving.{added, Room}
-use Rattle.entries_k.specs.declared.Taken.{Taken}
+use Rattle.entries_w.specs.declared.Matched.{Matched}
 
 -- the w entries left at a place, each of which changes the cells
 unfoldable pub tookWs : List ℕ → ((v u w : ℕ) → List ℤ → List ℤ) → (left at : ℕ) → List ℤ → List ℤ
@@ -37,7 +37,7 @@ pub record CanTakeWs (C : List ℕ) (at entries n d first : ℕ) (cells : List �
   pub targetRoom : Room target 4400
 
 -- the fault of the w entries, for the pairs that the rows hold; where there is none they are taken
-pub record TookWs (C : List ℕ) (at entries n : ℕ) (rows : List ℕ) (d first : ℕ) (before cells targetBefore target : List ℤ) (r : Taken) : Type 0 where
+pub record TookWs (C : List ℕ) (at entries n : ℕ) (rows : List ℕ) (d first : ℕ) (before cells targetBefore target : List ℤ) (r : Matched) : Type 0 where
   pub number : (A : Automaton) (R : Pairs) → A .states ≡ n → HoldsPairs n R rows → fault (r .number) ≡ wFault A C R entries at 0
   pub became : r .number ≡ 0 → Became (tookVs C first entries at before) cells (r .nonzero)
   pub targetBecame : r .number ≡ 0 → Became (tookUs C d entries at targetBefore) target (r .target)

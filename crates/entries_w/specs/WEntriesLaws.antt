@@ -15,7 +15,7 @@ use Rattle.field.specs.declared.Field.{Field}
 use Rattle.field.specs.Taken as field
 use Rattle.field.specs.Taken.{taken-at}
 use Rattle.pairs.specs.Rows.{rowBit, HoldsPairs}
-use Rattle.entries_k.specs.declared.Taken.{Taken}
+use Rattle.entries_w.specs.declared.Matched.{Matched}
 use Rattle.cells.specs.Nonzero.{Counted, Became}
 use Rattle.cells.specs.Moving.{added, Room, CanAdd}
 use Rattle.entries_w.specs.Matching.{tookWs, tookVs, tookUs, CanTakeWs, TookWs}
@@ -139,7 +139,7 @@ module _ (A : Automaton) {C : List ℕ} (R : Pairs) {n : ℕ} {rows : List ℕ} 
 
 module _ {C : List ℕ} {start entries n : ℕ} {rows : List ℕ} {d first : ℕ} {before cells targetBefore target : List ℤ} where
   -- an entry is refused, or can be taken at v and at u
-  pub ws-refused : (left : ℕ) {at lowest nonzero asked v u w : ℕ} {x : Taken} → TakingWs C start entries n rows d first before cells targetBefore target left at lowest nonzero asked → 0 < left → WRead C at v u w → WrongW n rows lowest v u w → x .number ≡ 19 → TookWs C start entries n rows d first before cells targetBefore target x
+  pub ws-refused : (left : ℕ) {at lowest nonzero asked v u w : ℕ} {x : Matched} → TakingWs C start entries n rows d first before cells targetBefore target left at lowest nonzero asked → 0 < left → WRead C at v u w → WrongW n rows lowest v u w → x .number ≡ 19 → TookWs C start entries n rows d first before cells targetBefore target x
   ws-refused zero h some e o z = absurd (omega arith)
   ws-refused (suc left) h some e o z =
       record {
@@ -205,7 +205,7 @@ module _ {C : List ℕ} {start entries n : ℕ} {rows : List ℕ} {d first : ℕ
       subst (λ (j : ℕ). TakingWs C start entries n rows d first before after targetBefore targetAfter j next (v * 256 + u + 1) now then) one
       (subst (λ (i : ℕ). TakingWs C start entries n rows d first before after targetBefore targetAfter left i (v * 256 + u + 1) now then) (sym p) (one-w left h e r b t))
 
-  pub ws-end : (left : ℕ) {at lowest nonzero asked : ℕ} {x : Taken} → TakingWs C start entries n rows d first before cells targetBefore target left at lowest nonzero asked → left ≤ 0 → x .number ≡ 0 → x .nonzero ≡ nonzero → x .target ≡ asked → TookWs C start entries n rows d first before cells targetBefore target x
+  pub ws-end : (left : ℕ) {at lowest nonzero asked : ℕ} {x : Matched} → TakingWs C start entries n rows d first before cells targetBefore target left at lowest nonzero asked → left ≤ 0 → x .number ≡ 0 → x .nonzero ≡ nonzero → x .target ≡ asked → TookWs C start entries n rows d first before cells targetBefore target x
   unfolding wFault tookWs
   ws-end zero h none z i j =
       record {

@@ -1,9 +1,15 @@
 // The w entries of a flow judged, and taken into its equations.
 ghost use Rattle.entries_w.specs.Matching.{CanTakeWs, TookWs};
 use cells::Cells;
-use entries_k::Taken;
 use field::Cursor;
 use pairs::Rows;
+
+// What the w entries come to: the number of their fault, and how many cells of each table are not zero then.
+pub struct Matched {
+    pub number: usize,
+    pub nonzero: usize,
+    pub target: usize,
+}
 
 // 19 of the w entries, and each good one taken into the equations at v, whose cells begin at `first`, and at u.
 pub fn take_ws(
@@ -18,7 +24,7 @@ pub fn take_ws(
     initial: usize,
     target: &mut Cells,
     asked: usize,
-) -> Taken
+) -> Matched
     requires { ⌜ CanTakeWs (now cert) at entries n d first (now cells) initial (now target) asked ⌝ }
     ensures { λ r. ⌜ TookWs (now (cert .entry)) at entries n (now (rows .entry)) d first (now (cells .entry)) (now (cells .exit)) (now (target .entry)) (now (target .exit)) r ⌝ }
 {
@@ -36,35 +42,35 @@ pub fn take_ws(
         let w = amount.value;
         let pair = v * 256 + u;
         if pair < lowest {
-            return Taken {
+            return Matched {
                 number: 19,
                 nonzero,
                 target: target_nonzero,
             };
         }
         if n <= v {
-            return Taken {
+            return Matched {
                 number: 19,
                 nonzero,
                 target: target_nonzero,
             };
         }
         if n <= u {
-            return Taken {
+            return Matched {
                 number: 19,
                 nonzero,
                 target: target_nonzero,
             };
         }
         if !pairs::related(rows, v, u) {
-            return Taken {
+            return Matched {
                 number: 19,
                 nonzero,
                 target: target_nonzero,
             };
         }
         if w == 0 {
-            return Taken {
+            return Matched {
                 number: 19,
                 nonzero,
                 target: target_nonzero,
@@ -76,7 +82,7 @@ pub fn take_ws(
         place = amount.next;
         left -= 1;
     }
-    Taken {
+    Matched {
         number: 0,
         nonzero,
         target: target_nonzero,

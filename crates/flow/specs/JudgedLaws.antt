@@ -22,6 +22,7 @@ use Rattle.transition.specs.Known.{automatonIn, FieldsOf, entriesOf}
 use Rattle.transition.specs.KnownLaws.{few-states, known-states, known-transition}
 use Rattle.cells.specs.Cells.{AllZero}
 use Rattle.entries_k.specs.declared.Taken.{Taken}
+use Rattle.entries_w.specs.declared.Matched.{Matched}
 use Rattle.cells.specs.Nonzero.{Counted, Became}
 use Rattle.cells.specs.NonzeroLaws.{zero-cells, nonzero-cells, counted-zero}
 use Rattle.flow.specs.Differences.{Decided, DecidesEquations}
@@ -151,7 +152,7 @@ module _ {s C : List ℕ} {n count : ℕ} {places : List ℕ} {q t at entries d 
           }
 
       -- the fault of the w entries, and the verdict
-      module _ {rows : List ℕ} {start wEntries denominator first : ℕ} {end asked aimed : List ℤ} {w : Taken} (start-is : start ≡ afterK C at + 2) (entries-is : wEntries ≡ wCountAt C at) (ws : TookWs C start wEntries n rows denominator first after end asked aimed w) where
+      module _ {rows : List ℕ} {start wEntries denominator first : ℕ} {end asked aimed : List ℤ} {w : Matched} (start-is : start ≡ afterK C at + 2) (entries-is : wEntries ≡ wCountAt C at) (ws : TookWs C start wEntries n rows denominator first after end asked aimed w) where
         pub w-fault : (R : Pairs) → HoldsPairs n R rows → fault (w .number) ≡ wFault (automatonIn s) C R (wCountAt C at) (afterK C at + 2) 0
         w-fault R h =
             ws .number (automatonIn s) R (known-states (j .known)) h

@@ -19,7 +19,7 @@ use Rattle.transition.specs.KnownLaws.{few-transitions, known-transition}
 use Rattle.entries_k.specs.declared.Taken.{Taken}
 use Rattle.cells.specs.Nonzero.{nonzeroIn, Counted, Became}
 use Rattle.cells.specs.Moving.{arrived, departed, Room, CanMove}
-use Rattle.entries_k.specs.Taking.{arrivalOf, departureOf, inQuestionOf, tookK, tookKs, CanTake, CanTakeKs, TookKs}
+use Rattle.entries_k.specs.Taking.{arrivalOf, departureOf, inQuestionOf, WrongK, unordered, absent, unasked, nothing, RightK, TellsK, tookK, tookKs, CanTake, CanTakeKs, TookKs}
 use Rattle.cells.specs.MovingLaws.{minus-small, room-fewer, arrived-length, arrived-room, departed-room}
 
 pub arrival-most : (layer : ℕ) → arrivalOf layer ≤ 64
@@ -83,18 +83,13 @@ k-read x y z =
       small = z .small;
     }
 
--- what is wrong with a k entry, or that nothing is
-pub data WrongK (count action lowest layer r k : ℕ) (asked : Bool) : Type 0 where
-  unordered : layer * 65536 + r < lowest → WrongK count action lowest layer r k asked
-  absent : count ≤ r → WrongK count action lowest layer r k asked
-  unasked : asked ≡ false → WrongK count action lowest layer r k asked
-  nothing : k ≡ 0 → WrongK count action lowest layer r k asked
+-- the test's two answers
+module _ {s : List ℕ} {count action lowest layer r k : ℕ} where
+  pub tells-wrong : WrongK count action lowest layer r k (inQuestionOf action layer (automatonIn s .action r)) → TellsK s count action lowest layer r k false
+  tells-wrong o = record { wrong = λ e. o; right = λ e. absurd (false-not e) }
 
-pub record RightK (count lowest layer r k : ℕ) (asked : Bool) : Type 0 where
-  pub ordered : lowest ≤ layer * 65536 + r
-  pub present : r < count
-  pub asked-is : asked ≡ true
-  pub some : 0 < k
+  pub tells-right : RightK count lowest layer r k (inQuestionOf action layer (automatonIn s .action r)) → TellsK s count action lowest layer r k true
+  tells-right o = record { wrong = λ e. absurd (false-not (sym e)); right = λ e. o }
 
 -- the machine's answer to whether it is asked
 pub asked-by : (challenger layer : ℕ) {action other : ℕ} {answer b : Bool} → answer ≡ inQuestionOf challenger layer action → action ≡ other → answer ≡ b → inQuestionOf challenger layer other ≡ b

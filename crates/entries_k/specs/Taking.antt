@@ -1,7 +1,7 @@
 -- What the k entries of a flow change in the cells.
 use Prim.Native.Nat.{ℕ, zero, suc, _+_, _*_, _^_, _≤_, _<_}
 use mathlib.Core.Path.{_≡_}
-use mathlib.Core.Bool.{Bool, false}
+use mathlib.Core.Bool.{Bool, true, false}
 use mathlib.Core.List.{List}
 use lib.Dec.{eqb}
 use lib.ListN.{length}
@@ -31,6 +31,31 @@ inQuestionOf challenger layer action =
     (ifSame layer 1 (eqb action challenger)
     (ifSame layer 2 (eqb action 0)
     false)))
+
+-- what is wrong with a k entry, or that nothing is
+pub data WrongK (count action lowest layer r k : ℕ) (asked : Bool) : Type 0 where
+  unordered : layer * 65536 + r < lowest → WrongK count action lowest layer r k asked
+  absent : count ≤ r → WrongK count action lowest layer r k asked
+  unasked : asked ≡ false → WrongK count action lowest layer r k asked
+  nothing : k ≡ 0 → WrongK count action lowest layer r k asked
+
+pub record RightK (count lowest layer r k : ℕ) (asked : Bool) : Type 0 where
+  pub ordered : lowest ≤ layer * 65536 + r
+  pub present : r < count
+  pub asked-is : asked ≡ true
+  pub some : 0 < k
+
+-- an entry that can be tested: the transitions are known, and the fields fit theirs
+pub record CanTest (s places : List ℕ) (count layer r : ℕ) : Type 0 where
+  pub states : ℕ
+  pub known : Known s states count places
+  pub small : layer < 256
+  pub other : r < 65536
+
+-- whether nothing is wrong with it
+pub record TellsK (s : List ℕ) (count action lowest layer r k : ℕ) (b : Bool) : Type 0 where
+  pub wrong : b ≡ false → WrongK count action lowest layer r k (inQuestionOf action layer (automatonIn s .action r))
+  pub right : b ≡ true → RightK count lowest layer r k (inQuestionOf action layer (automatonIn s .action r))
 
 -- one k entry taken, and the entries left at a place
 unfoldable pub tookK : List ℕ → (layer r k : ℕ) → List ℤ → List ℤ

@@ -1,7 +1,7 @@
 // The k entries of a flow judged, and taken into its equations.
 ghost use mathlib.Core.Path.{_≡_};
 ghost use Rattle.cells.specs.Nonzero.{Became};
-ghost use Rattle.entries_k.specs.Taking.{arrivalOf, departureOf, inQuestionOf, tookK, CanTake, CanTakeKs, TookKs};
+ghost use Rattle.entries_k.specs.Taking.{arrivalOf, departureOf, inQuestionOf, CanTest, TellsK, tookK, CanTake, CanTakeKs, TookKs};
 use cells::Cells;
 use field::Cursor;
 use model::Places;
@@ -77,6 +77,36 @@ fn take_k(
     )
 }
 
+// A k entry is in order, its transition is there and in the question, and it is not zero.
+fn stands(
+    s: &[u8],
+    count: usize,
+    places: &Places,
+    action: usize,
+    lowest: usize,
+    layer: usize,
+    r: usize,
+    k: usize,
+) -> bool
+    requires { ⌜ CanTest (now s) (now places) count layer r ⌝ }
+    ensures { λ x. ⌜ TellsK (now (s .entry)) count action lowest layer r k x ⌝ }
+{
+    let key = layer * 65536 + r;
+    if key < lowest {
+        return false;
+    }
+    if count <= r {
+        return false;
+    }
+    if !in_question(action, layer, transition::fields_of(s, places, r).action) {
+        return false;
+    }
+    if k == 0 {
+        return false;
+    }
+    true
+}
+
 // 19 of the k entries, and each good one taken into the equations.
 pub fn take_ks(
     s: &[u8],
@@ -103,33 +133,14 @@ pub fn take_ks(
         let l = layer.value;
         let r = which.value;
         let k = amount.value;
-        let key = l * 65536 + r;
-        if key < lowest {
-            return Taken {
-                number: 19,
-                nonzero,
-            };
-        }
-        if count <= r {
-            return Taken {
-                number: 19,
-                nonzero,
-            };
-        }
-        if !in_question(action, l, transition::fields_of(s, places, r).action) {
-            return Taken {
-                number: 19,
-                nonzero,
-            };
-        }
-        if k == 0 {
+        if !stands(s, count, places, action, lowest, l, r, k) {
             return Taken {
                 number: 19,
                 nonzero,
             };
         }
         nonzero = take_k(s, places, l, r, k, cells, nonzero);
-        lowest = key + 1;
+        lowest = l * 65536 + r + 1;
         place = amount.next;
         left -= 1;
     }

@@ -1,6 +1,7 @@
 -- What the w entries of a flow change in the cells.
 use Prim.Native.Nat.{ℕ, zero, suc, _+_, _*_, _≤_, _<_}
 use mathlib.Core.Path.{_≡_}
+use mathlib.Core.Bool.{Bool, true, false}
 use mathlib.Core.List.{List}
 use lib.ListN.{length}
 use lib.IntN.{ℤ, pos, negℤ}
@@ -8,10 +9,30 @@ use Rattle.bisimulation.specs.Automaton.{Automaton}
 use Rattle.bisimulation.specs.Pairs.{Pairs}
 use Rattle.rules.specs.Bytes.{byteAt, fourAt}
 use Rattle.rules.specs.Certificate.{fault, wFault}
-use Rattle.pairs.specs.Rows.{HoldsPairs}
+use Rattle.pairs.specs.Rows.{rowBit, HoldsPairs}
 use Rattle.cells.specs.Nonzero.{Counted, Became}
 use Rattle.cells.specs.Moving.{added, Room}
 use Rattle.entries_w.specs.declared.Matched.{Matched}
+
+-- what is wrong with a w entry, or that nothing is
+pub data WrongW (n : ℕ) (rows : List ℕ) (lowest v u w : ℕ) : Type 0 where
+  unordered : v * 256 + u < lowest → WrongW n rows lowest v u w
+  absent : n ≤ v → WrongW n rows lowest v u w
+  otherAbsent : n ≤ u → WrongW n rows lowest v u w
+  unrelated : v < n → u < n → rowBit rows v u ≡ false → WrongW n rows lowest v u w
+  nothing : w ≡ 0 → WrongW n rows lowest v u w
+
+pub record RightW (n : ℕ) (rows : List ℕ) (lowest v u w : ℕ) : Type 0 where
+  pub ordered : lowest ≤ v * 256 + u
+  pub present : v < n
+  pub otherPresent : u < n
+  pub related : rowBit rows v u ≡ true
+  pub some : 0 < w
+
+-- whether nothing is
+pub record TellsW (n : ℕ) (rows : List ℕ) (lowest v u w : ℕ) (r : Bool) : Type 0 where
+  pub wrong : r ≡ false → WrongW n rows lowest v u w
+  pub right : r ≡ true → RightW n rows lowest v u w
 
 -- the w entries left at a place, each of which changes the cells
 unfoldable pub tookWs : List ℕ → ((v u w : ℕ) → List ℤ → List ℤ) → (left at : ℕ) → List ℤ → List ℤ

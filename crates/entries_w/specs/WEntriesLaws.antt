@@ -1,12 +1,12 @@
 -- Laws of the w entries taken into the cells.
 use Prim.Native.Nat.{ℕ, zero, suc, _+_, _*_, _-_, _^_, _≤_, _<_}
 use mathlib.Core.Path.{_≡_, refl, sym, _∙_, ap, subst}
-use mathlib.Core.Bool.{Bool, true, false}
+use mathlib.Core.Bool.{true, false}
 use mathlib.Core.List.{List}
 use lib.ListN.{length}
 use lib.IntN.{ℤ, pos, negℤ}
 use native.Mathlib.Omega.{arith}
-use Rattle.bisimulation.specs.ChoiceLaws.{less, notLess, isTrue, isFalse, eitherLess, eitherTrue}
+use Rattle.bisimulation.specs.ChoiceLaws.{false-not, less, notLess, isTrue, isFalse, eitherLess, eitherTrue}
 use Rattle.bisimulation.specs.Automaton.{Automaton}
 use Rattle.bisimulation.specs.Pairs.{Pairs}
 use Rattle.rules.specs.Bytes.{byteAt, twoAt, fourAt}
@@ -18,7 +18,7 @@ use Rattle.pairs.specs.Rows.{rowBit, HoldsPairs}
 use Rattle.entries_w.specs.declared.Matched.{Matched}
 use Rattle.cells.specs.Nonzero.{Counted, Became}
 use Rattle.cells.specs.Moving.{added, Room, CanAdd}
-use Rattle.entries_w.specs.Matching.{tookWs, tookVs, tookUs, CanTakeWs, TookWs}
+use Rattle.entries_w.specs.Matching.{WrongW, unordered, absent, otherAbsent, unrelated, nothing, RightW, TellsW, tookWs, tookVs, tookUs, CanTakeWs, TookWs}
 use Rattle.cells.specs.MovingLaws.{minus-small, room-fewer, added-room}
 
 -- a w entry as it was read at a place
@@ -37,25 +37,12 @@ w-read x y z =
       small = z .small;
     }
 
--- what is wrong with a w entry, or that nothing is
-pub data WrongW (n : ℕ) (rows : List ℕ) (lowest v u w : ℕ) : Type 0 where
-  unordered : v * 256 + u < lowest → WrongW n rows lowest v u w
-  absent : n ≤ v → WrongW n rows lowest v u w
-  otherAbsent : n ≤ u → WrongW n rows lowest v u w
-  unrelated : v < n → u < n → rowBit rows v u ≡ false → WrongW n rows lowest v u w
-  nothing : w ≡ 0 → WrongW n rows lowest v u w
+-- the test's two answers
+pub tells-wrong : {n : ℕ} {rows : List ℕ} {lowest v u w : ℕ} → WrongW n rows lowest v u w → TellsW n rows lowest v u w false
+tells-wrong o = record { wrong = λ e. o; right = λ e. absurd (false-not e) }
 
-pub record RightW (n : ℕ) (rows : List ℕ) (lowest v u w : ℕ) : Type 0 where
-  pub ordered : lowest ≤ v * 256 + u
-  pub present : v < n
-  pub otherPresent : u < n
-  pub related : rowBit rows v u ≡ true
-  pub some : 0 < w
-
--- the machine's answer to whether they are related
-pub related-by : (rows : List ℕ) (a b v u : ℕ) {answer x : Bool} → answer ≡ rowBit rows a b → a ≡ v → b ≡ u → answer ≡ x → rowBit rows v u ≡ x
-related-by rows a b v u e p q f =
-    ap (rowBit rows v) (sym q) ∙ ap (λ (i : ℕ). rowBit rows i b) (sym p) ∙ sym e ∙ f
+pub tells-right : {n : ℕ} {rows : List ℕ} {lowest v u w : ℕ} → RightW n rows lowest v u w → TellsW n rows lowest v u w true
+tells-right r = record { wrong = λ e. absurd (false-not (sym e)); right = λ e. r }
 
 -- before each w entry: the keys before the lowest have at most v rows and x more, so at most `ahead` entries follow
 pub record TakingWs (C : List ℕ) (start entries n : ℕ) (rows : List ℕ) (d first : ℕ) (before cells targetBefore target : List ℤ) (left at lowest nonzero asked : ℕ) : Type 0 where

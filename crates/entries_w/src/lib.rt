@@ -1,5 +1,6 @@
 // The w entries of a flow judged, and taken into its equations.
-ghost use Rattle.entries_w.specs.Matching.{CanTakeWs, TookWs};
+ghost use Prim.Native.Nat.{_≤_, _<_};
+ghost use Rattle.entries_w.specs.Matching.{TellsW, CanTakeWs, TookWs};
 use cells::Cells;
 use field::Cursor;
 use pairs::Rows;
@@ -9,6 +10,30 @@ pub struct Matched {
     pub number: usize,
     pub nonzero: usize,
     pub target: usize,
+}
+
+// A w entry is in order, its states are there and related, and it is not zero.
+fn stands(n: usize, rows: &Rows, lowest: usize, v: usize, u: usize, w: usize) -> bool
+    requires { ⌜ (n ≤ 64) × (v < 256) × (u < 256) ⌝ }
+    ensures { λ r. ⌜ TellsW n (now (rows .entry)) lowest v u w r ⌝ }
+{
+    let pair = v * 256 + u;
+    if pair < lowest {
+        return false;
+    }
+    if n <= v {
+        return false;
+    }
+    if n <= u {
+        return false;
+    }
+    if !pairs::related(rows, v, u) {
+        return false;
+    }
+    if w == 0 {
+        return false;
+    }
+    true
 }
 
 // 19 of the w entries, and each good one taken into the equations at v, whose cells begin at `first`, and at u.
@@ -40,36 +65,7 @@ pub fn take_ws(
         let v = from.value;
         let u = to.value;
         let w = amount.value;
-        let pair = v * 256 + u;
-        if pair < lowest {
-            return Matched {
-                number: 19,
-                nonzero,
-                target: target_nonzero,
-            };
-        }
-        if n <= v {
-            return Matched {
-                number: 19,
-                nonzero,
-                target: target_nonzero,
-            };
-        }
-        if n <= u {
-            return Matched {
-                number: 19,
-                nonzero,
-                target: target_nonzero,
-            };
-        }
-        if !pairs::related(rows, v, u) {
-            return Matched {
-                number: 19,
-                nonzero,
-                target: target_nonzero,
-            };
-        }
-        if w == 0 {
+        if !stands(n, rows, lowest, v, u, w) {
             return Matched {
                 number: 19,
                 nonzero,
@@ -78,7 +74,7 @@ pub fn take_ws(
         }
         nonzero = cells::take(cells, first + v, 1, w, nonzero);
         target_nonzero = cells::give(target, u, d, w, target_nonzero);
-        lowest = pair + 1;
+        lowest = v * 256 + u + 1;
         place = amount.next;
         left -= 1;
     }

@@ -1,11 +1,9 @@
 // The transitions of the merged model: by block and then by original place, of equal ones of a block the first.
 ghost use Prim.Native.Nat.{_≤_, _<_};
-ghost use mathlib.Core.Path.{_≡_};
-ghost use lib.ListN.{length, getD};
-ghost use Rattle.rules.specs.Model.{noTransition};
+ghost use lib.ListN.{length};
 ghost use Rattle.transition.specs.Known.{Known};
 ghost use Rattle.merged.specs.Merged.{BlocksBelow};
-ghost use Rattle.kept.specs.Kept.{transitionsIn, CanKeep, Keeps, CanWrite, Wrote, WroteAll};
+ghost use Rattle.kept.specs.Kept.{CanKeep, Keeps, CanWrite, Wrote, WroteAll};
 use merged::Weights;
 use model::Places;
 
@@ -15,35 +13,7 @@ pub struct Kept {
     pub size: usize,
 }
 
-// The transition r merged and appended at a place, unless it is the same as one from `start` on.
-fn keep_merged(
-    s: &[u8],
-    n: usize,
-    count: usize,
-    places: &Places,
-    r: usize,
-    blocks: &[u8],
-    k: usize,
-    b: usize,
-    weights: &mut Weights,
-    out: &mut [u8],
-    start: usize,
-    kept: Kept,
-) -> Kept
-    requires { ⌜ CanKeep (now s) (now places) n count (now blocks) k b r (now weights) (now out) start kept × (r < count) × (getD (now blocks) (getD (transitionsIn (now s)) r noTransition .source) 0 ≡ b) ⌝ }
-    ensures { λ x. ⌜ Keeps (now (s .entry)) (now (blocks .entry)) b r (now (weights .exit)) (now (out .entry)) (now (out .exit)) start x ⌝ }
-{
-    let next = merged::write_merged(s, places, r, blocks, k, weights, out, kept.size);
-    if repeated::is_repeated(out, start, kept.size, next) {
-        return kept;
-    }
-    Kept {
-        count: kept.count + 1,
-        size: next,
-    }
-}
-
-// The transition r, if it leaves a member of the block b.
+// The transition r merged and appended, if it leaves a member of the block b and is the same as none from `start` on.
 fn keep_of_block(
     s: &[u8],
     n: usize,
@@ -65,20 +35,14 @@ fn keep_of_block(
     if merged::block_of(blocks, source) != b {
         return kept;
     }
-    keep_merged(
-        s,
-        n,
-        count,
-        places,
-        r,
-        blocks,
-        k,
-        b,
-        weights,
-        out,
-        start,
-        kept,
-    )
+    let next = merged::write_merged(s, places, r, blocks, k, weights, out, kept.size);
+    if repeated::is_repeated(out, start, kept.size, next) {
+        return kept;
+    }
+    Kept {
+        count: kept.count + 1,
+        size: next,
+    }
 }
 
 // The transitions of the block b, by original place.

@@ -1,12 +1,9 @@
 // The product: the calls for C and Rust, over byte slices and plain numbers. No public entry has a `requires`.
-ghost use Prim.Native.Nat.{_≤_};
 ghost use mathlib.Core.Path.{_≡_};
 ghost use lib.ListN.{length};
 ghost use denote.Ref.{ptr};
 ghost use Rattle.rules.specs.Limits.{limits};
-ghost use Rattle.rules.specs.Answers.{refusalIn, answerWithoutPlace, runAnswer, fetchAnswer};
-ghost use Rattle.rules.specs.Reading.{headFault};
-ghost use Rattle.transition.specs.Known.{Known};
+ghost use Rattle.rules.specs.Answers.{runAnswer, fetchAnswer};
 ghost use Rattle.verdict.specs.Answered.{answered, StretchInside};
 ghost use Rattle.zolkirta.specs.Calls.{FetchAnswered, FetchHandedBack, JudgeAnswered, JudgeHandedBack, ReduceAnswered, ReduceHandedBack};
 ghost use Rattle.zolkirta.specs.Parts.{HandsBack, Reduced};

@@ -25,11 +25,11 @@ pub record FetchAnswered (model : List ℕ) (state : ℕ) (r : Answer) : Type 0 
   pub answer : answered r ≡ fetchAnswer limits model state
   pub number : FetchNumber (r .number)
 
--- where the part of a slice lies in memory that begins so many bytes after the slice: a block and an offset
+-- where a part of a slice lies that begins so many bytes after the slice does: a block of memory and an offset in it
 abbrev pub partFrom : ℕ × ℕ → ℕ → ℕ × ℕ
 partFrom slice start = (slice .0, start + slice .1)
 
--- the same with the run or stretch handed back as a part of the model, which lies where `slice` says
+-- the same with the run or stretch handed back as a part of the model; `slice` is where the model lies, `lying` where the part does
 pub record FetchHandedBack (model : List ℕ) (slice : ℕ × ℕ) (state : ℕ) (number file place : ℕ) (part : List ℕ) (lying : ℕ × ℕ) : Type 0 where
   pub numbered : number ≡ fetchAnswer limits model state .number
   pub filed : file ≡ fetchAnswer limits model state .file
@@ -38,11 +38,12 @@ pub record FetchHandedBack (model : List ℕ) (slice : ℕ × ℕ) (state : ℕ)
   pub lies : lying ≡ partFrom slice (fetchAnswer limits model state .stretchStart)
   pub known : FetchNumber number
 
--- where a file lies, and there the model where no file is at fault
+-- the slice of the file at fault: 2 is the certificate; the model where it is 1, and where none is
 abbrev pub sliceOf : ℕ × ℕ → ℕ × ℕ → ℕ → ℕ × ℕ
 sliceOf modelSlice certificateSlice file = ifSame file 2 certificateSlice modelSlice
 
--- the same with the stretch handed back as a part of the file that holds the record at fault; the files lie where the slices say
+-- the same with the stretch handed back as a part of the file that holds the record at fault; the slices are where the files lie, `lying`
+-- where the part does
 pub record HandedBack (o : Outcome) (model certificate after : List ℕ) (modelSlice certificateSlice : ℕ × ℕ) (number file place : ℕ) (part : List ℕ) (lying : ℕ × ℕ) : Type 0 where
   pub numbered : number ≡ o .answer .number
   pub filed : file ≡ o .answer .file
@@ -57,7 +58,8 @@ pub record LargestOf (model blocks : List ℕ) : Type 0 where
   pub largest : LargestBlockPairs limits Met model blocks
   pub oneAnswer : (other certificate₂ blocks₂ : List ℕ) → Bytes other → Bytes certificate₂ → AcceptedFor limits plainRule other certificate₂ blocks₂ → (M N : Model) → HoldsModel limits model M → HoldsModel limits other N → HoldOneAutomaton M N → NameSameBlocks blocks blocks₂
 
--- what a judging call that answers this number keeps, with these bytes in the lent buffer before and after it
+-- what a judging call that answers this number keeps, with these bytes in the lent buffer before and after it; 0x4354 is the mark of the
+-- certificate's head
 pub record Demands (model certificate before after : List ℕ) (number : ℕ) : Type 0 where
   -- the number is one of 0 to 22
   pub known : JudgeNumber number

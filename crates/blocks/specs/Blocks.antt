@@ -2,9 +2,9 @@
 use Prim.Native.Nat.{ℕ}
 use mathlib.Core.Path.{_≡_}
 use mathlib.Core.List.{List}
-use Rattle.bisimulation.specs.Automaton.{Automaton}
-use Rattle.bisimulation.specs.Pairs.{Pairs}
-use Rattle.rules.specs.Certificate.{blocksFault}
+use Rattle.bisimulation.specs.definitions.Automaton.{Automaton}
+use Rattle.bisimulation.specs.definitions.Pairs.{Pairs}
+use Rattle.rules.specs.definitions.Certificate.{blocksFault}
 use Rattle.fault.specs.Faults.{faultOf}
 use Rattle.fault.specs.declared.Fault.{Fault}
 use Rattle.pairs.specs.Rows.{HoldsPairs}

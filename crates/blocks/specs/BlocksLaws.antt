@@ -6,14 +6,14 @@ use mathlib.Core.List.{List}
 use lib.ListN.{length, take, drop, getD}
 use lib.Seq.{getD-take, getD-drop}
 use native.Mathlib.Omega.{arith}
-use Rattle.bisimulation.specs.Choice.{ifLess, ifSame, ifTrue, allBelow}
-use Rattle.bisimulation.specs.ChoiceLaws.{pastLess, eitherSame, less, notLess, via}
-use Rattle.bisimulation.specs.Automaton.{Automaton}
-use Rattle.bisimulation.specs.Pairs.{Pairs}
-use Rattle.rules.specs.Limits.{limits}
-use Rattle.rules.specs.Bytes.{byteAt, twoAt}
-use Rattle.rules.specs.Certificate.{Fault, fault, noFault, firstOf, numberedFault, pairsFault, blocksAt, blocksFault, agree, sameBlock}
-use Rattle.rules.specs.RefutationRecords.{no-fault}
+use Rattle.bisimulation.specs.definitions.Choice.{ifLess, ifSame, ifTrue, allBelow}
+use Rattle.bisimulation.specs.argument.ChoiceLaws.{pastLess, eitherSame, less, notLess, via}
+use Rattle.bisimulation.specs.definitions.Automaton.{Automaton}
+use Rattle.bisimulation.specs.definitions.Pairs.{Pairs}
+use Rattle.rules.specs.definitions.Limits.{limits}
+use Rattle.rules.specs.definitions.Bytes.{byteAt, twoAt}
+use Rattle.rules.specs.definitions.Certificate.{Fault, fault, noFault, firstOf, numberedFault, pairsFault, blocksAt, blocksFault, agree, sameBlock}
+use Rattle.rules.specs.argument.RefutationRecords.{no-fault}
 use Rattle.pairs.specs.Rows.{HoldsPairs, SmallBytes, sharedAsRelated, Agrees}
 
 pub numbered-end : (C : List ℕ) (left at seen : ℕ) → left ≤ 0 → numberedFault C left at seen ≡ noFault

@@ -2,9 +2,9 @@
 ghost use Prim.Native.Nat.{_+_, _≤_};
 ghost use lib.ListN.{length};
 ghost use mathlib.Core.Path.{_≡_};
-ghost use Rattle.bisimulation.specs.Choice.{ifSame};
-ghost use Rattle.rules.specs.Limits.{limits};
-ghost use Rattle.rules.specs.Certificate.{numberedFault};
+ghost use Rattle.bisimulation.specs.definitions.Choice.{ifSame};
+ghost use Rattle.rules.specs.definitions.Limits.{limits};
+ghost use Rattle.rules.specs.definitions.Certificate.{numberedFault};
 ghost use Rattle.fault.specs.Faults.{faultOf};
 ghost use Rattle.blocks.specs.Blocks.{BlocksJudged};
 use fault::Fault;

@@ -2,11 +2,11 @@
 use Prim.Native.Nat.{ℕ}
 use mathlib.Core.Bool.{Bool, true}
 use lib.IntN.{ℤ}
-use Rattle.bisimulation.specs.Choice.{ifSame, unlessTrue, both, allBelow}
-use Rattle.bisimulation.specs.Automaton.{Automaton}
-use Rattle.bisimulation.specs.Pairs.{Pairs}
-use Rattle.rules.specs.Certificate.{Fault, fault, noFault}
-use Rattle.rules.specs.PlainRule.{priceCondition, allRelated, below}
+use Rattle.bisimulation.specs.definitions.Choice.{ifSame, unlessTrue, both, allBelow}
+use Rattle.bisimulation.specs.definitions.Automaton.{Automaton}
+use Rattle.bisimulation.specs.definitions.Pairs.{Pairs}
+use Rattle.rules.specs.definitions.Certificate.{Fault, fault, noFault}
+use Rattle.rules.specs.definitions.PlainRule.{priceCondition, allRelated, below}
 
 module _ (A : Automaton) where
   -- the condition of a transition holds for the prices X alone, and for Y alone

@@ -11,15 +11,15 @@ use mir.Val.{toZ, ofZ}
 use borrow.Author.Tests.{lt-ltb, le-ltb}
 use native.Mathlib.Omega.{arith}
 use native.Mathlib.Decide.{ℕ-discrete}
-use Rattle.bisimulation.specs.Choice.{ifSame, both, allBelow}
-use Rattle.bisimulation.specs.ChoiceLaws.{same, notSame, allBelowCong, all-both}
-use Rattle.bisimulation.specs.Automaton.{Automaton}
-use Rattle.bisimulation.specs.Prices.{priceAt}
-use Rattle.rules.specs.Limits.{limits}
-use Rattle.rules.specs.Reading.{statesOf, entriesAt}
-use Rattle.rules.specs.PlainRule.{priceCondition, allWithAction, below}
-use Rattle.rules.specs.PlainDecides.{holds-T}
-use Rattle.record.specs.declared.Fields.{Fields}
+use Rattle.bisimulation.specs.definitions.Choice.{ifSame, both, allBelow}
+use Rattle.bisimulation.specs.argument.ChoiceLaws.{same, notSame, allBelowCong, all-both}
+use Rattle.bisimulation.specs.definitions.Automaton.{Automaton}
+use Rattle.bisimulation.specs.definitions.Prices.{priceAt}
+use Rattle.rules.specs.definitions.Limits.{limits}
+use Rattle.rules.specs.definitions.Reading.{statesOf, entriesAt}
+use Rattle.rules.specs.definitions.PlainRule.{priceCondition, allWithAction, below}
+use Rattle.rules.specs.argument.PlainDecides.{holds-T}
+use Rattle.model_records.specs.declared.Fields.{Fields}
 use Rattle.transition.specs.Known.{automatonIn, Known, KnownTransition, FieldsOf}
 use Rattle.transition.specs.KnownLaws.{few-states, known-transitions}
 use Rattle.prices.specs.Prices.{priceIn, SmallPrices, IsSum}

@@ -6,10 +6,10 @@ use mathlib.Core.Bool.{Bool, true}
 use mathlib.Core.List.{List}
 use lib.IntN.{ℤ}
 use lib.Signed.{mag, _≤ℤ_}
-use Rattle.bisimulation.specs.Automaton.{Automaton}
-use Rattle.bisimulation.specs.Pairs.{Pairs}
-use Rattle.rules.specs.Limits.{limits}
-use Rattle.rules.specs.PlainRule.{allRelated}
+use Rattle.bisimulation.specs.definitions.Automaton.{Automaton}
+use Rattle.bisimulation.specs.definitions.Pairs.{Pairs}
+use Rattle.rules.specs.definitions.Limits.{limits}
+use Rattle.rules.specs.definitions.PlainRule.{allRelated}
 use Rattle.pairs.specs.Rows.{rowBit, HoldsPairs}
 use Rattle.prices.specs.Prices.{priceIn, SmallPrices}
 

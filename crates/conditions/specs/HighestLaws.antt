@@ -12,13 +12,13 @@ use mir.Val.{toZ, ofZ}
 use borrow.Author.Count.{below-more}
 use native.Mathlib.Omega.{arith}
 use native.Mathlib.Decide.{ℕ-discrete, decLt}
-use Rattle.bisimulation.specs.Choice.{ifTrue}
-use Rattle.bisimulation.specs.ChoiceLaws.{isTrue, all-below, below-all, false-not}
-use Rattle.bisimulation.specs.Automaton.{Automaton}
-use Rattle.bisimulation.specs.Pairs.{Pairs}
-use Rattle.rules.specs.Limits.{limits}
-use Rattle.rules.specs.PlainRule.{allRelated}
-use Rattle.rules.specs.PlainDecides.{holds-T, T-holds}
+use Rattle.bisimulation.specs.definitions.Choice.{ifTrue}
+use Rattle.bisimulation.specs.argument.ChoiceLaws.{isTrue, all-below, below-all, false-not}
+use Rattle.bisimulation.specs.definitions.Automaton.{Automaton}
+use Rattle.bisimulation.specs.definitions.Pairs.{Pairs}
+use Rattle.rules.specs.definitions.Limits.{limits}
+use Rattle.rules.specs.definitions.PlainRule.{allRelated}
+use Rattle.rules.specs.argument.PlainDecides.{holds-T, T-holds}
 use Rattle.pairs.specs.Rows.{rowBit, HoldsPairs, IsNext, AreAlike}
 use Rattle.prices.specs.Prices.{priceIn, SmallPrices}
 use Rattle.prices.specs.PricesLaws.{price-back}

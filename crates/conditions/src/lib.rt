@@ -3,16 +3,16 @@ ghost use Prim.Native.Nat.{_+_, _*_, _^_, _≤_, _<_};
 ghost use lib.IntN.{pos, _*ℤ_};
 ghost use lib.Signed.{mag, leZ};
 ghost use mathlib.Core.Path.{_≡_};
-ghost use Rattle.rules.specs.Limits.{limits};
-ghost use Rattle.rules.specs.Reading.{statesOf};
-ghost use Rattle.rules.specs.PlainRule.{priceCondition, below};
+ghost use Rattle.rules.specs.definitions.Limits.{limits};
+ghost use Rattle.rules.specs.definitions.Reading.{statesOf};
+ghost use Rattle.rules.specs.definitions.PlainRule.{priceCondition, below};
 ghost use Rattle.transition.specs.Known.{automatonIn, Known, KnownTransition};
 ghost use Rattle.prices.specs.Prices.{priceIn, SmallPrices};
 ghost use Rattle.conditions.specs.Conditions.{fairTwice, fairTo, allFair};
 ghost use Rattle.conditions.specs.Highest.{IsLarger, IsHighest, AreRelated};
+use limits::STATES;
 use model::Places;
 use pairs::Rows;
-use pairs::STATES;
 use prices::Prices;
 
 // d times the price of v is at least the sum.

@@ -7,20 +7,20 @@ use lib.ListN.{length}
 use lib.IntN.{ℤ, pos, negℤ}
 use native.Mathlib.Omega.{arith}
 use native.Mathlib.Decide.{ℕ-discrete}
-use Rattle.bisimulation.specs.ChoiceLaws.{less, notLess, notSame, isTrue, isFalse, eitherLess, eitherSame, eitherTrue, false-not}
-use Rattle.rules.specs.Bytes.{byteAt, twoAt, threeAt, fourAt}
-use Rattle.rules.specs.Certificate.{Fault, fault, kFault}
-use Rattle.rules.specs.PlainRule.{byKind, plainInQuestion, plainRule}
+use Rattle.bisimulation.specs.argument.ChoiceLaws.{less, notLess, notSame, isTrue, isFalse, eitherLess, eitherSame, eitherTrue, false-not}
+use Rattle.rules.specs.definitions.Bytes.{byteAt, twoAt, threeAt, fourAt}
+use Rattle.rules.specs.definitions.Certificate.{Fault, fault, kFault}
+use Rattle.rules.specs.definitions.PlainRule.{byKind, plainInQuestion, plainRule}
 use Rattle.field.specs.declared.Field.{Field}
 use Rattle.field.specs.Taken as field
 use Rattle.field.specs.Taken.{taken-at}
 use Rattle.transition.specs.Known.{automatonIn, Known, entriesOf}
 use Rattle.transition.specs.KnownLaws.{few-transitions, known-transition}
 use Rattle.entries_k.specs.declared.Taken.{Taken}
-use Rattle.cells.specs.Nonzero.{nonzeroIn, Counted, Became}
-use Rattle.cells.specs.Moving.{arrived, departed, Room, CanMove}
+use Rattle.remainders.specs.Nonzero.{nonzeroIn, Counted, Became}
+use Rattle.remainders.specs.Moving.{arrived, departed, Room, CanMove}
 use Rattle.entries_k.specs.Taking.{arrivalOf, departureOf, inQuestionOf, WrongK, unordered, absent, unasked, nothing, RightK, TellsK, tookK, tookKs, CanTake, CanTakeKs, TookKs}
-use Rattle.cells.specs.MovingLaws.{minus-small, room-fewer, arrived-length, arrived-room, departed-room}
+use Rattle.remainders.specs.MovingLaws.{minus-small, room-fewer, arrived-length, arrived-room, departed-room}
 
 pub arrival-most : (layer : ℕ) → arrivalOf layer ≤ 64
 unfolding arrivalOf

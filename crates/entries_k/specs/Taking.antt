@@ -6,13 +6,13 @@ use mathlib.Core.List.{List}
 use lib.Dec.{eqb}
 use lib.ListN.{length}
 use lib.IntN.{ℤ, pos, negℤ}
-use Rattle.bisimulation.specs.Choice.{ifSame}
-use Rattle.rules.specs.Bytes.{byteAt, twoAt, fourAt}
-use Rattle.rules.specs.Certificate.{fault, kFault}
-use Rattle.rules.specs.PlainRule.{plainRule}
+use Rattle.bisimulation.specs.definitions.Choice.{ifSame}
+use Rattle.rules.specs.definitions.Bytes.{byteAt, twoAt, fourAt}
+use Rattle.rules.specs.definitions.Certificate.{fault, kFault}
+use Rattle.rules.specs.definitions.PlainRule.{plainRule}
 use Rattle.transition.specs.Known.{automatonIn, Known, KnownTransition, entriesOf}
-use Rattle.cells.specs.Nonzero.{Counted, Became}
-use Rattle.cells.specs.Moving.{arrived, departed, Room}
+use Rattle.remainders.specs.Nonzero.{Counted, Became}
+use Rattle.remainders.specs.Moving.{arrived, departed, Room}
 use Rattle.entries_k.specs.declared.Taken.{Taken}
 
 -- where the cells begin that a layer leads to, or that w leaves by the challenger's action

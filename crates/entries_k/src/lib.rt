@@ -1,11 +1,11 @@
 // The k entries of a flow judged, and taken into its equations.
 ghost use mathlib.Core.Path.{_≡_};
-ghost use Rattle.cells.specs.Nonzero.{Became};
+ghost use Rattle.remainders.specs.Nonzero.{Became};
 ghost use Rattle.entries_k.specs.Taking.{arrivalOf, departureOf, inQuestionOf, CanTest, TellsK, tookK, CanTake, CanTakeKs, TookKs};
-use cells::Cells;
 use field::Cursor;
+use limits::STATES;
 use model::Places;
-use pairs::STATES;
+use remainders::Cells;
 
 // What the k entries come to: the number of their fault, and how many cells are not zero then.
 pub struct Taken {
@@ -65,12 +65,12 @@ fn take_k(
     requires { ⌜ CanTake (now s) (now places) r k (now cells) nonzero ⌝ }
     ensures { λ x. ⌜ Became (tookK (now (s .entry)) layer r k (now (cells .entry))) (now (cells .exit)) x ⌝ }
 {
-    let arrived = cells::arrive(s, places, r, k as i64, arrival(layer), cells, nonzero);
-    cells::leave(
+    let arrived = remainders::arrive(s, places, r, k as i64, arrival(layer), cells, nonzero);
+    remainders::leave(
         s,
         places,
         r,
-        cells::minus(k),
+        remainders::minus(k),
         departure(layer),
         cells,
         arrived,

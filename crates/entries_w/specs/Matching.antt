@@ -5,13 +5,13 @@ use mathlib.Core.Bool.{Bool, true, false}
 use mathlib.Core.List.{List}
 use lib.ListN.{length}
 use lib.IntN.{ℤ, pos, negℤ}
-use Rattle.bisimulation.specs.Automaton.{Automaton}
-use Rattle.bisimulation.specs.Pairs.{Pairs}
-use Rattle.rules.specs.Bytes.{byteAt, fourAt}
-use Rattle.rules.specs.Certificate.{fault, wFault}
+use Rattle.bisimulation.specs.definitions.Automaton.{Automaton}
+use Rattle.bisimulation.specs.definitions.Pairs.{Pairs}
+use Rattle.rules.specs.definitions.Bytes.{byteAt, fourAt}
+use Rattle.rules.specs.definitions.Certificate.{fault, wFault}
 use Rattle.pairs.specs.Rows.{rowBit, HoldsPairs}
-use Rattle.cells.specs.Nonzero.{Counted, Became}
-use Rattle.cells.specs.Moving.{added, Room}
+use Rattle.remainders.specs.Nonzero.{Counted, Became}
+use Rattle.remainders.specs.Moving.{added, Room}
 use Rattle.entries_w.specs.declared.Matched.{Matched}
 
 -- what is wrong with a w entry, or that nothing is

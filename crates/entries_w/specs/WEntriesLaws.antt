@@ -6,20 +6,20 @@ use mathlib.Core.List.{List}
 use lib.ListN.{length}
 use lib.IntN.{ℤ, pos, negℤ}
 use native.Mathlib.Omega.{arith}
-use Rattle.bisimulation.specs.ChoiceLaws.{false-not, less, notLess, isTrue, isFalse, eitherLess, eitherTrue}
-use Rattle.bisimulation.specs.Automaton.{Automaton}
-use Rattle.bisimulation.specs.Pairs.{Pairs}
-use Rattle.rules.specs.Bytes.{byteAt, twoAt, fourAt}
-use Rattle.rules.specs.Certificate.{Fault, fault, wFault}
+use Rattle.bisimulation.specs.argument.ChoiceLaws.{false-not, less, notLess, isTrue, isFalse, eitherLess, eitherTrue}
+use Rattle.bisimulation.specs.definitions.Automaton.{Automaton}
+use Rattle.bisimulation.specs.definitions.Pairs.{Pairs}
+use Rattle.rules.specs.definitions.Bytes.{byteAt, twoAt, fourAt}
+use Rattle.rules.specs.definitions.Certificate.{Fault, fault, wFault}
 use Rattle.field.specs.declared.Field.{Field}
 use Rattle.field.specs.Taken as field
 use Rattle.field.specs.Taken.{taken-at}
 use Rattle.pairs.specs.Rows.{rowBit, HoldsPairs}
 use Rattle.entries_w.specs.declared.Matched.{Matched}
-use Rattle.cells.specs.Nonzero.{Counted, Became}
-use Rattle.cells.specs.Moving.{added, Room, CanAdd}
+use Rattle.remainders.specs.Nonzero.{Counted, Became}
+use Rattle.remainders.specs.Moving.{added, Room, CanAdd}
 use Rattle.entries_w.specs.Matching.{WrongW, unordered, absent, otherAbsent, unrelated, nothing, RightW, TellsW, tookWs, tookVs, tookUs, CanTakeWs, TookWs}
-use Rattle.cells.specs.MovingLaws.{minus-small, room-fewer, added-room}
+use Rattle.remainders.specs.MovingLaws.{minus-small, room-fewer, added-room}
 
 -- a w entry as it was read at a place
 pub record WRead (C : List ℕ) (at v u w : ℕ) : Type 0 where

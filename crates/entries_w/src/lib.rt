@@ -1,9 +1,9 @@
 // The w entries of a flow judged, and taken into its equations.
 ghost use Prim.Native.Nat.{_≤_, _<_};
 ghost use Rattle.entries_w.specs.Matching.{TellsW, CanTakeWs, TookWs};
-use cells::Cells;
 use field::Cursor;
 use pairs::Rows;
+use remainders::Cells;
 
 // What the w entries come to: the number of their fault, and how many cells of each table are not zero then.
 pub struct Matched {
@@ -72,8 +72,8 @@ pub fn take_ws(
                 target: target_nonzero,
             };
         }
-        nonzero = cells::take(cells, first + v, 1, w, nonzero);
-        target_nonzero = cells::give(target, u, d, w, target_nonzero);
+        nonzero = remainders::take(cells, first + v, 1, w, nonzero);
+        target_nonzero = remainders::give(target, u, d, w, target_nonzero);
         lowest = v * 256 + u + 1;
         place = amount.next;
         left -= 1;

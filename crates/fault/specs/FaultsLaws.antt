@@ -1,8 +1,8 @@
 -- Laws of the first of two faults.
 use Prim.Native.Nat.{ℕ}
 use mathlib.Core.Path.{_≡_, sym, _∙_, ap}
-use Rattle.bisimulation.specs.ChoiceLaws.{same, notSame}
-use Rattle.rules.specs.Certificate.{Fault, firstOf}
+use Rattle.bisimulation.specs.argument.ChoiceLaws.{same, notSame}
+use Rattle.rules.specs.definitions.Certificate.{Fault, firstOf}
 
 -- z is the first fault where there is one, else the next
 pub first-stops : {x : Fault} (f next : Fault) → x ≡ f → (x .number ≡ 0 → ⊥) → x ≡ firstOf f next

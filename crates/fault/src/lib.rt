@@ -1,6 +1,6 @@
 // What is wrong with a record, as each part's judge hands it up.
 ghost use mathlib.Core.Path.{_≡_};
-ghost use Rattle.rules.specs.Certificate as rules;
+ghost use Rattle.rules.specs.definitions.Certificate as rules;
 ghost use Rattle.fault.specs.Faults.{faultOf};
 
 pub struct Fault {

@@ -16,7 +16,7 @@ fn print_after_space(n: usize) {
     print_number(n);
 }
 
-fn print_answer(a: verdict::Answer) {
+fn print_answer(a: answer::Answer) {
     print_number(a.number as usize);
     print_after_space(a.file as usize);
     print_after_space(a.place);

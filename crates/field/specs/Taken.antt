@@ -4,8 +4,8 @@ use mathlib.Core.Path.{_≡_, _∙_, ap}
 use mathlib.Core.List.{List}
 use lib.IntN.{ℤ}
 use lib.Signed.{mag}
-use Rattle.rules.specs.Bytes.{signedAt}
-use Rattle.rules.specs.Encoding.{complement}
+use Rattle.rules.specs.definitions.Bytes.{signedAt}
+use Rattle.rules.specs.definitions.Encoding.{complement}
 use Rattle.field.specs.declared.Field.{Field}
 use Rattle.field.specs.declared.Price.{Price}
 

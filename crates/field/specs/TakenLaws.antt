@@ -10,9 +10,9 @@ use mir.Facts.{toZ-pos}
 use borrow.Author.Tests.{lt-ltb, le-ltb}
 use native.Mathlib.Omega.{arith}
 use native.Mathlib.Decide.{decLt}
-use Rattle.rules.specs.Bytes.{fourAt, signedAt}
-use Rattle.rules.specs.Encoding.{fourBytes, complement}
-use Rattle.rules.specs.Standing.{stands-all, four-is, signed-is}
+use Rattle.rules.specs.definitions.Bytes.{fourAt, signedAt}
+use Rattle.rules.specs.definitions.Encoding.{fourBytes, complement}
+use Rattle.rules.specs.argument.Standing.{stands-all, four-is, signed-is}
 use Rattle.field.specs.Taken.{IsLowered}
 
 -- a number moved down, by its two cases

@@ -2,7 +2,7 @@
 ghost use Prim.Native.Nat.{_+_, _<_};
 ghost use lib.ListN.{length};
 ghost use mathlib.Core.Path.{_≡_};
-ghost use Rattle.rules.specs.Bytes.{byteAt, twoAt, fourAt};
+ghost use Rattle.rules.specs.definitions.Bytes.{byteAt, twoAt, fourAt};
 ghost use Rattle.field.specs.Taken.{Taken, IsByte, IsLowered, Priced};
 
 pub struct Cursor {

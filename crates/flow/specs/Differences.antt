@@ -3,12 +3,12 @@ use Prim.Native.Nat.{ℕ, zero, suc, _+_, _*_, _<_}
 use mathlib.Core.Path.{_≡_}
 use mathlib.Core.Logic.{_⊎_}
 use mathlib.Core.List.{List}
-use Rattle.bisimulation.specs.Choice.{ifSame}
-use Rattle.bisimulation.specs.Automaton.{Automaton}
-use Rattle.bisimulation.specs.Pairs.{Pairs}
-use Rattle.rules.specs.Bytes.{byteAt, twoAt, fourAt}
-use Rattle.rules.specs.Certificate.{fault, noFault, kCountAt, afterK, wCountAt, flowAt, kFault, wFault}
-use Rattle.rules.specs.PlainRule.{byKind, plainEquationsFault, plainRule}
+use Rattle.bisimulation.specs.definitions.Choice.{ifSame}
+use Rattle.bisimulation.specs.definitions.Automaton.{Automaton}
+use Rattle.bisimulation.specs.definitions.Pairs.{Pairs}
+use Rattle.rules.specs.definitions.Bytes.{byteAt, twoAt, fourAt}
+use Rattle.rules.specs.definitions.Certificate.{fault, noFault, kCountAt, afterK, wCountAt, flowAt, kFault, wFault}
+use Rattle.rules.specs.definitions.PlainRule.{byKind, plainEquationsFault, plainRule}
 
 -- a sum over the k entries left at a place, of a term for the layer, the transition and k
 unfoldable pub kSum : List ℕ → (ℕ → ℕ → ℕ → ℕ) → (left at : ℕ) → ℕ

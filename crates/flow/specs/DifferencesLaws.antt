@@ -7,19 +7,19 @@ use mathlib.Core.List.{List}
 use lib.Dec.{eqb}
 use native.Mathlib.Decide.{ℕ-discrete}
 use native.Mathlib.Omega.{arith}
-use Rattle.bisimulation.specs.Choice.{ifSame, ifTrue, both}
-use Rattle.bisimulation.specs.ChoiceLaws.{same, notSame, isTrue, notTrue, eitherSame, eitherTrue}
-use Rattle.bisimulation.specs.Automaton.{Automaton}
-use Rattle.bisimulation.specs.SumLaws.{sumTimes}
-use Rattle.bisimulation.specs.Pairs.{Pairs, isPair}
-use Rattle.bisimulation.specs.PairsLaws.{isPairTrue, isPairOf}
-use Rattle.bisimulation.specs.StepRule.{Sides, arriving, leaving, overTargets, overSources, beforeMove, afterMove, internalMove, atTarget}
-use Rattle.rules.specs.Bytes.{byteAt, twoAt, threeAt, fourAt}
-use Rattle.rules.specs.Certificate.{fault, noFault, kCountAt, afterK, wCountAt, kOf, wOf, flowAt, kFault, wFault}
-use Rattle.rules.specs.PlainRule.{allHold, internalEquationsFault, externalEquationsFault, plainEquationsFault, plainRule}
-use Rattle.rules.specs.PlainSays.{InPlainQuestion}
-use Rattle.rules.specs.PlainDecides.{kind-internal, kind-external, all-hold, hold-all, in-question}
-use Rattle.rules.specs.EntryFaults.{passed-k, passed-w}
+use Rattle.bisimulation.specs.definitions.Choice.{ifSame, ifTrue, both}
+use Rattle.bisimulation.specs.argument.ChoiceLaws.{same, notSame, isTrue, notTrue, eitherSame, eitherTrue}
+use Rattle.bisimulation.specs.definitions.Automaton.{Automaton}
+use Rattle.bisimulation.specs.argument.SumLaws.{sumTimes}
+use Rattle.bisimulation.specs.definitions.Pairs.{Pairs, isPair}
+use Rattle.bisimulation.specs.argument.PairsLaws.{isPairTrue, isPairOf}
+use Rattle.bisimulation.specs.definitions.StepRule.{Sides, arriving, leaving, overTargets, overSources, beforeMove, afterMove, internalMove, atTarget}
+use Rattle.rules.specs.definitions.Bytes.{byteAt, twoAt, threeAt, fourAt}
+use Rattle.rules.specs.definitions.Certificate.{fault, noFault, kCountAt, afterK, wCountAt, kOf, wOf, flowAt, kFault, wFault}
+use Rattle.rules.specs.definitions.PlainRule.{allHold, internalEquationsFault, externalEquationsFault, plainEquationsFault, plainRule}
+use Rattle.rules.specs.definitions.PlainSays.{InPlainQuestion}
+use Rattle.rules.specs.argument.PlainDecides.{kind-internal, kind-external, all-hold, hold-all, in-question}
+use Rattle.rules.specs.argument.EntryFaults.{passed-k, passed-w}
 use Rattle.flow.specs.Differences.{kSum, wSum, kTotal, wTotal, beforeLeft, beforeRight, afterLeft, afterRight, takenAt, givenAt, firstLeft, firstRight, secondLeft, secondRight, targetLeft, targetRight, Decided, DecidesEquations}
 use Rattle.flow.specs.EntrySums.{Entries, turned, added, nothing, overSecond}
 

@@ -4,12 +4,12 @@ use Prim.Native.Nat.{ℕ, zero, suc, _+_, _≤_, _<_}
 use mathlib.Core.Path.{_≡_, refl, sym, _∙_, ap, ap₂}
 use native.Mathlib.Decide.{ℕ-discrete}
 use native.Mathlib.Omega.{arith}
-use Rattle.bisimulation.specs.Choice.{ifSame}
-use Rattle.bisimulation.specs.ChoiceLaws.{same, notSame}
-use Rattle.bisimulation.specs.Sum.{sum}
-use Rattle.bisimulation.specs.SumLaws.{sumCong, sumZero}
-use Rattle.rules.specs.Certificate.{Fault, noFault}
-use Rattle.rules.specs.SoundModelLaws.{sum-with}
+use Rattle.bisimulation.specs.definitions.Choice.{ifSame}
+use Rattle.bisimulation.specs.argument.ChoiceLaws.{same, notSame}
+use Rattle.bisimulation.specs.definitions.Sum.{sum}
+use Rattle.bisimulation.specs.argument.SumLaws.{sumCong, sumZero}
+use Rattle.rules.specs.definitions.Certificate.{Fault, noFault}
+use Rattle.rules.specs.argument.SoundModelLaws.{sum-with}
 
 pub record Entries : Type 1 where
   -- the fields of the entry at a place, and its size

@@ -8,27 +8,27 @@ use lib.IntN.{ℤ, pos, negℤ}
 use native.Mathlib.Nat.{zero-add}
 use native.Mathlib.Omega.{arith}
 use native.Mathlib.Decide.{ℕ-discrete, decLt}
-use Rattle.bisimulation.specs.Choice.{ifSame}
-use Rattle.bisimulation.specs.ChoiceLaws.{same, notSame, turned, eitherSame, timesSame, pastLess, keptLess, keptTrue}
-use Rattle.bisimulation.specs.Automaton.{Automaton, SoundAutomaton}
-use Rattle.bisimulation.specs.Pairs.{Pairs}
-use Rattle.bisimulation.specs.Raised.{Raised, above, below}
-use Rattle.rules.specs.Bytes.{byteAt, twoAt, threeAt, fourAt}
-use Rattle.rules.specs.ModelAutomaton.{automaton-weight}
-use Rattle.rules.specs.Limits.{limits}
-use Rattle.rules.specs.Reading.{statesOf, modelAt}
-use Rattle.rules.specs.SoundModelLaws.{sound-automaton}
-use Rattle.rules.specs.Certificate.{fault, noFault, kFault, wFault, kCountAt, wCountAt, afterK, flowAt}
-use Rattle.rules.specs.PlainRule.{byKind, plainInQuestion, plainEquationsFault, plainRule}
-use Rattle.rules.specs.RefutationRecords.{no-fault}
+use Rattle.bisimulation.specs.definitions.Choice.{ifSame}
+use Rattle.bisimulation.specs.argument.ChoiceLaws.{same, notSame, turned, eitherSame, timesSame, pastLess, keptLess, keptTrue}
+use Rattle.bisimulation.specs.definitions.Automaton.{Automaton, SoundAutomaton}
+use Rattle.bisimulation.specs.definitions.Pairs.{Pairs}
+use Rattle.bisimulation.specs.argument.Raised.{Raised, above, below}
+use Rattle.rules.specs.definitions.Bytes.{byteAt, twoAt, threeAt, fourAt}
+use Rattle.rules.specs.argument.ModelAutomaton.{automaton-weight}
+use Rattle.rules.specs.definitions.Limits.{limits}
+use Rattle.rules.specs.definitions.Reading.{statesOf, modelAt}
+use Rattle.rules.specs.argument.SoundModelLaws.{sound-automaton}
+use Rattle.rules.specs.definitions.Certificate.{fault, noFault, kFault, wFault, kCountAt, wCountAt, afterK, flowAt}
+use Rattle.rules.specs.definitions.PlainRule.{byKind, plainInQuestion, plainEquationsFault, plainRule}
+use Rattle.rules.specs.argument.RefutationRecords.{no-fault}
 use Rattle.transition.specs.Known.{automatonIn, Known, KnownTransition, entriesOf}
 use Rattle.transition.specs.KnownLaws.{few-states, known-states, known-transitions, known-transition, entries-known}
-use Rattle.cells.specs.Cells.{cellIn, AllZero}
+use Rattle.remainders.specs.Remainders.{cellIn, AllZero}
 use Rattle.flow.specs.Differences.{kSum, wSum, beforeLeft, beforeRight, afterLeft, afterRight, takenAt, givenAt, firstLeft, firstRight, secondLeft, secondRight, targetLeft, targetRight, Decided}
-use Rattle.cells.specs.Moving.{added, arrived, departed}
+use Rattle.remainders.specs.Moving.{added, arrived, departed}
 use Rattle.entries_k.specs.Taking.{arrivalOf, departureOf, tookK, tookKs}
 use Rattle.entries_w.specs.Matching.{tookWs, tookVs, tookUs}
-use Rattle.cells.specs.MovingLaws.{added-length, added-raised, landed, arrived-length, arrived-raised, landed-weight, landed-none}
+use Rattle.remainders.specs.MovingLaws.{added-length, added-raised, landed, arrived-length, arrived-raised, landed-weight, landed-none}
 
 -- a difference by equal sides, and of the numbers that are added and taken away
 raised-as : {c k d l : ℕ} {z : ℤ} → Raised c k z → c ≡ d → k ≡ l → Raised d l z

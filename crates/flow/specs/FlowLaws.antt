@@ -4,12 +4,12 @@ use mathlib.Core.Path.{_≡_}
 use mathlib.Core.List.{List}
 use lib.ListN.{length}
 use native.Mathlib.Omega.{arith}
-use Rattle.bisimulation.specs.Automaton.{Automaton}
-use Rattle.bisimulation.specs.Pairs.{Pairs}
-use Rattle.rules.specs.Bytes.{twoAt}
-use Rattle.rules.specs.Certificate.{noFault, kCountAt, wCountAt, afterK, afterFlow, flowFault}
-use Rattle.rules.specs.PlainRule.{plainRule}
-use Rattle.rules.specs.FlowRecords.{passed}
+use Rattle.bisimulation.specs.definitions.Automaton.{Automaton}
+use Rattle.bisimulation.specs.definitions.Pairs.{Pairs}
+use Rattle.rules.specs.definitions.Bytes.{twoAt}
+use Rattle.rules.specs.definitions.Certificate.{noFault, kCountAt, wCountAt, afterK, afterFlow, flowFault}
+use Rattle.rules.specs.definitions.PlainRule.{plainRule}
+use Rattle.rules.specs.argument.FlowRecords.{passed}
 use Rattle.field.specs.declared.Field.{Field}
 use Rattle.field.specs.Taken.{Taken, taken-at}
 

@@ -1,7 +1,7 @@
-pub mod Judged
+pub mod FlowJudged
 pub mod Differences
 pub mod EntrySums
 pub mod DifferencesLaws
 pub mod EquationsLaws
-pub mod JudgedLaws
+pub mod FlowJudgedLaws
 pub mod FlowLaws

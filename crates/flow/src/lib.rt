@@ -2,16 +2,16 @@
 ghost use Prim.Native.Nat.{_+_, _≤_, _<_};
 ghost use mathlib.Core.Path.{_≡_};
 ghost use lib.ListN.{length};
-ghost use Rattle.rules.specs.Certificate.{afterK, afterFlow};
+ghost use Rattle.rules.specs.definitions.Certificate.{afterK, afterFlow};
 ghost use Rattle.fault.specs.Faults.{faultOf};
 ghost use Rattle.transition.specs.Known.{Known};
-ghost use Rattle.cells.specs.Cells.{AllZero};
-ghost use Rattle.flow.specs.Judged.{CanJudge, verdictOf, FlowJudged};
-use cells::Cells;
+ghost use Rattle.remainders.specs.Remainders.{AllZero};
+ghost use Rattle.flow.specs.FlowJudged.{CanJudge, verdictOf, FlowJudged};
 use fault::Fault;
 use field::Cursor;
 use model::Places;
 use pairs::Rows;
+use remainders::Cells;
 
 const MARK: usize = 0x464C;
 
@@ -51,7 +51,7 @@ fn entries_fault(
     let challenger = transition::fields_of(s, places, q);
     let action = challenger.action;
     let denominator = challenger.denominator;
-    let given = cells::give(cells, t, 1, d, 0);
+    let given = remainders::give(cells, t, 1, d, 0);
     let k = entries_k::take_ks(s, count, places, action, cert, start, entries, cells, given);
     if k.number != 0 {
         return fault::refusal(k.number);
@@ -66,7 +66,7 @@ fn entries_fault(
     if cert.len() - w_start < 6 * w_count {
         return fault::refusal(11);
     }
-    let asked = cells::arrive(s, places, q, cells::minus(d), 0, target, 0);
+    let asked = remainders::arrive(s, places, q, remainders::minus(d), 0, target, 0);
     let w = entries_w::take_ws(
         cert,
         w_start,

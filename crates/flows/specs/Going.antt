@@ -5,22 +5,22 @@ use mathlib.Core.List.{List, [], _∷_, _++_, append-assoc}
 use lib.ListN.{length, take, drop}
 use lib.IntN.{ℤ}
 use native.Mathlib.Omega.{arith}
-use Rattle.bisimulation.specs.Choice.{ifLess, ifSame}
-use Rattle.bisimulation.specs.ChoiceLaws.{same, notSame, less, notLess}
-use Rattle.bisimulation.specs.Pairs.{Pairs}
-use Rattle.rules.specs.Limits.{limits}
-use Rattle.rules.specs.Certificate as rules
-use Rattle.rules.specs.Certificate.{fault, afterK, afterFlow}
-use Rattle.rules.specs.PlainRule.{plainRule}
-use Rattle.rules.specs.Judging.{Judgement, accepted, rejected, rejectAt, Question, questions, questionsOfState, questionsFrom, judgeFlows}
+use Rattle.bisimulation.specs.definitions.Choice.{ifLess, ifSame}
+use Rattle.bisimulation.specs.argument.ChoiceLaws.{same, notSame, less, notLess}
+use Rattle.bisimulation.specs.definitions.Pairs.{Pairs}
+use Rattle.rules.specs.definitions.Limits.{limits}
+use Rattle.rules.specs.definitions.Certificate as rules
+use Rattle.rules.specs.definitions.Certificate.{fault, afterK, afterFlow}
+use Rattle.rules.specs.definitions.PlainRule.{plainRule}
+use Rattle.rules.specs.definitions.Judging.{Judgement, accepted, rejected, rejectAt, Question, questions, questionsOfState, questionsFrom, judgeFlows}
 use Rattle.fault.specs.declared.Fault.{Fault}
 use Rattle.fault.specs.Faults.{faultOf}
 use Rattle.pairs.specs.Rows.{HoldsPairs}
 use Rattle.transition.specs.Known.{automatonIn}
-use Rattle.cells.specs.Cells.{AllZero}
-use Rattle.flow.specs.Judged.{FlowJudged}
+use Rattle.remainders.specs.Remainders.{AllZero}
+use Rattle.flow.specs.FlowJudged.{FlowJudged}
 use Rattle.flow.specs.FlowLaws.{flow-passed}
-use Rattle.flows.specs.Judged.{Relates, JudgesFlows, judgementOf}
+use Rattle.flows.specs.FlowsJudged.{Relates, JudgesFlows, judgementOf}
 use Rattle.flows.specs.Runs.{runQuestions}
 use Rattle.flows.specs.declared.Judged.the-variants.{Accepted, Rejected}
 

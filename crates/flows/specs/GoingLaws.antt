@@ -5,8 +5,8 @@ use mathlib.Core.List.{List, [], _∷_, _++_, append-assoc}
 use lib.ListN.{length}
 use lib.IntN.{ℤ}
 use native.Mathlib.Omega.{arith}
-use Rattle.rules.specs.Judging.{Question, questions, questionsOfState, questionsFrom}
-use Rattle.cells.specs.Cells.{AllZero}
+use Rattle.rules.specs.definitions.Judging.{Question, questions, questionsOfState, questionsFrom}
+use Rattle.remainders.specs.Remainders.{AllZero}
 use Rattle.transition.specs.Known.{automatonIn, Known}
 use Rattle.transition.specs.KnownLaws.{known-states, known-transitions}
 use Rattle.flows.specs.Runs.{IsPast, runEnd, runQuestions, Splits}

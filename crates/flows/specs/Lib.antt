@@ -1,4 +1,4 @@
-pub mod Judged
+pub mod FlowsJudged
 pub mod Runs
 pub mod RunsLaws
 pub mod Going

@@ -2,10 +2,10 @@
 use Prim.Native.Nat.{ℕ, zero, suc, _+_, _≤_, _<_}
 use mathlib.Core.Path.{_≡_}
 use mathlib.Core.List.{List, [], _∷_}
-use Rattle.bisimulation.specs.Choice.{ifSame, ifTrue}
-use Rattle.bisimulation.specs.Automaton.{Automaton}
-use Rattle.rules.specs.Certificate.{sameBlock}
-use Rattle.rules.specs.Judging.{Question}
+use Rattle.bisimulation.specs.definitions.Choice.{ifSame, ifTrue}
+use Rattle.bisimulation.specs.definitions.Automaton.{Automaton}
+use Rattle.rules.specs.definitions.Certificate.{sameBlock}
+use Rattle.rules.specs.definitions.Judging.{Question}
 
 -- x is the first of the transitions from r on that does not leave a state
 pub record IsPast (A : Automaton) (count state r x : ℕ) : Type 0 where

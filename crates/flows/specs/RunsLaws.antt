@@ -8,15 +8,15 @@ use lib.ListN.{length, take, drop, getD}
 use lib.Seq.{getD-take, getD-drop}
 use native.Mathlib.Omega.{arith}
 use native.Mathlib.Decide.{ℕ-discrete, decLt}
-use Rattle.bisimulation.specs.Choice.{ifSame, ifTrue}
-use Rattle.bisimulation.specs.ChoiceLaws.{same, notSame, isTrue, isFalse, eitherSame, eitherTrue}
-use Rattle.bisimulation.specs.Automaton.{Automaton}
-use Rattle.rules.specs.Certificate.{sameBlock}
-use Rattle.rules.specs.Judging.{Question, questionsOfPair, questionsOfState, questionsFrom}
-use Rattle.rules.specs.Limits.{limits}
-use Rattle.rules.specs.Model.{Transition, automatonOf, noTransition}
-use Rattle.rules.specs.Reading.{modelAt}
-use Rattle.rules.specs.SoundModel.{Along}
+use Rattle.bisimulation.specs.definitions.Choice.{ifSame, ifTrue}
+use Rattle.bisimulation.specs.argument.ChoiceLaws.{same, notSame, isTrue, isFalse, eitherSame, eitherTrue}
+use Rattle.bisimulation.specs.definitions.Automaton.{Automaton}
+use Rattle.rules.specs.definitions.Certificate.{sameBlock}
+use Rattle.rules.specs.definitions.Judging.{Question, questionsOfPair, questionsOfState, questionsFrom}
+use Rattle.rules.specs.definitions.Limits.{limits}
+use Rattle.rules.specs.definitions.Model.{Transition, automatonOf, noTransition}
+use Rattle.rules.specs.definitions.Reading.{modelAt}
+use Rattle.rules.specs.definitions.SoundModel.{Along}
 use Rattle.transition.specs.Known.{automatonIn, Known}
 use Rattle.transition.specs.KnownLaws.{known-transitions}
 use Rattle.flows.specs.Runs.{IsPast, runEnd, runQuestions, Splits}

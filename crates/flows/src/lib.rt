@@ -2,10 +2,10 @@
 ghost use Prim.Native.Nat.{_+_, _≤_, _<_};
 ghost use mathlib.Core.Path.{_≡_};
 ghost use lib.ListN.{length, take, drop};
-ghost use Rattle.rules.specs.Reading.{statesOf};
-ghost use Rattle.rules.specs.Certificate.{sameBlock};
+ghost use Rattle.rules.specs.definitions.Reading.{statesOf};
+ghost use Rattle.rules.specs.definitions.Certificate.{sameBlock};
 ghost use Rattle.transition.specs.Known.{automatonIn, Known};
-ghost use Rattle.flows.specs.Judged.{Relates, JudgesFlows};
+ghost use Rattle.flows.specs.FlowsJudged.{Relates, JudgesFlows};
 ghost use Rattle.flows.specs.Runs.{IsPast, runEnd};
 use model::Places;
 use pairs::Rows;
@@ -75,8 +75,8 @@ pub fn judge_flows(
     requires { ⌜ Known (now s) n count (now places) × (blocks + n ≤ length (now cert)) × Relates n (now rows) ⌝ }
     ensures { λ r. ⌜ JudgesFlows (now (s .entry)) (now (cert .entry)) n (now (rows .entry)) blocks r ⌝ }
 {
-    let mut cells = cells::no_cells();
-    let mut target = cells::no_cells();
+    let mut cells = remainders::no_cells();
+    let mut target = remainders::no_cells();
     let mut at = blocks + n;
     let mut number = 0;
     let mut state = 0;

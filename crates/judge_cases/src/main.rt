@@ -13,7 +13,7 @@ fn one_case(fd: i32) -> bool {
     }
     let model = Cursor::new(0).quad(&head);
     let certificate = model.next.quad(&head);
-    judging::judge_streams(fd, model.value, fd, certificate.value);
+    programs::judge_streams(fd, model.value, fd, certificate.value);
     true
 }
 

@@ -6,7 +6,7 @@ use lib.ListN.{length, getD, set}
 use lib.Seq.{getD-set-same, getD-set-other}
 use native.Mathlib.Decide.{ℕ-discrete}
 use native.Mathlib.Omega.{arith}
-use Rattle.rules.specs.Reading.{placeOf}
+use Rattle.rules.specs.definitions.Reading.{placeOf}
 use Rattle.model.specs.Scanned.{PlacesHeld}
 
 -- an empty table holds the places of no transition

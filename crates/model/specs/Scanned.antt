@@ -3,7 +3,7 @@ use Prim.Native.Nat.{ℕ, _+_, _<_}
 use mathlib.Core.Path.{_≡_}
 use mathlib.Core.List.{List}
 use lib.ListN.{length, getD}
-use Rattle.rules.specs.Reading.{Scan, sound, refused, placeOf}
+use Rattle.rules.specs.definitions.Reading.{Scan, sound, refused, placeOf}
 use Rattle.model.specs.declared.Scanned.{Scanned}
 use Rattle.model.specs.declared.Scanned.the-variants.{Sound, Refused}
 

@@ -2,13 +2,12 @@
 ghost use Prim.Native.Nat.{_+_, _≤_};
 ghost use lib.ListN.{length};
 ghost use mathlib.Core.Path.{_≡_};
-ghost use Rattle.rules.specs.Limits.{limits};
-ghost use Rattle.rules.specs.Reading.{headFault, statesOf, scanTransitions, scanModel, scanWhole};
+ghost use Rattle.rules.specs.definitions.Limits.{limits};
+ghost use Rattle.rules.specs.definitions.Reading.{headFault, statesOf, scanTransitions, scanModel, scanWhole};
 ghost use Rattle.model.specs.Scanned.{Scans};
+use limits::PLACES;
 
 // The place of each transition in the model file, and after them the place where the records end.
-pub const PLACES: usize = 257;
-
 pub type Places = [usize; PLACES];
 
 // What the head of a sound model says, and where its records end.
@@ -33,7 +32,7 @@ fn scan_transitions(s: &[u8], n: usize, m: usize, count: usize, places: &mut Pla
     let mut entries = 0;
     let mut at = 8 + n;
     while 0 < left {
-        let fault = record::transition_fault(s, n, m, last, entries, at);
+        let fault = model_records::transition_fault(s, n, m, last, entries, at);
         if fault != 0 {
             return Scanned::Refused {
                 number: fault,
@@ -42,7 +41,7 @@ fn scan_transitions(s: &[u8], n: usize, m: usize, count: usize, places: &mut Pla
         }
         let r = count - left;
         places[r] = at;
-        let t = record::fields_at(s, at);
+        let t = model_records::fields_at(s, at);
         let more = t.count;
         let start = t.entries.at;
         last = t.source;
@@ -65,8 +64,8 @@ pub fn scan_model(s: &[u8], places: &mut Places) -> Scanned
     requires { ⌜ (length (now places) ≡ 257) × (headFault limits (now s) ≡ 0) ⌝ }
     ensures { λ r. ⌜ Scans (now (s .entry)) (scanModel limits (now (s .entry))) r (now (places .exit)) ⌝ }
 {
-    let head = record::head_at(s);
-    let labels = record::labels_fault(s, head.states);
+    let head = model_records::head_at(s);
+    let labels = model_records::labels_fault(s, head.states);
     if labels != 0 {
         return Scanned::Refused {
             number: labels,

@@ -5,10 +5,10 @@ use mathlib.Core.Bool.{Bool, true, false}
 use mathlib.Core.List.{List}
 use lib.Dec.{eqb}
 use lib.ListN.{length, getD, set}
-use Rattle.bisimulation.specs.Choice.{allBelow}
-use Rattle.bisimulation.specs.Pairs.{Pairs}
-use Rattle.rules.specs.Certificate.{agree, sameBlock}
-use Rattle.rules.specs.Limits.{limits}
+use Rattle.bisimulation.specs.definitions.Choice.{allBelow}
+use Rattle.bisimulation.specs.definitions.Pairs.{Pairs}
+use Rattle.rules.specs.definitions.Certificate.{agree, sameBlock}
+use Rattle.rules.specs.definitions.Limits.{limits}
 use Rattle.pairs.specs.Bits.{bitOf, clearBit}
 
 -- the bit of a pair

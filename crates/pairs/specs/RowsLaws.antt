@@ -11,12 +11,12 @@ use lib.Seq.{getD-set-same, getD-set-other}
 use lib.Count.{trailingZeros}
 use borrow.Author.Count.{below-more}
 use borrow.Author.Tests.{eqb-true, eqb-false, eq-eqb, ne-eqb}
-use Rattle.bisimulation.specs.Choice.{both}
-use Rattle.bisimulation.specs.ChoiceLaws.{false-not, all-below, below-all}
-use Rattle.bisimulation.specs.Automaton.{Automaton}
-use Rattle.bisimulation.specs.Pairs.{Pairs, equalLabels, isPair, removed}
-use Rattle.rules.specs.Certificate.{agree, sameBlock}
-use Rattle.rules.specs.Limits.{limits}
+use Rattle.bisimulation.specs.definitions.Choice.{both}
+use Rattle.bisimulation.specs.argument.ChoiceLaws.{false-not, all-below, below-all}
+use Rattle.bisimulation.specs.definitions.Automaton.{Automaton}
+use Rattle.bisimulation.specs.definitions.Pairs.{Pairs, equalLabels, isPair, removed}
+use Rattle.rules.specs.definitions.Certificate.{agree, sameBlock}
+use Rattle.rules.specs.definitions.Limits.{limits}
 use Rattle.pairs.specs.Bits.{wordBits, bitOf, setBit, clearBit}
 use Rattle.pairs.specs.BitsLaws.{bitOf-none, bitOf-put, bitOf-other, bits-same, bitOf-above, trailing-none, trailing-some}
 use Rattle.pairs.specs.Rows.{rowBit, HoldsRows, HoldsPairs, clearedRows, removedRows, sameLabels, IsRow, SmallBytes, AreClasses, Agrees, sharedAsRelated, IsNext}

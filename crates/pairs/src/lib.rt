@@ -3,11 +3,10 @@ ghost use Prim.Native.Nat.{_≤_, _<_, _^_};
 ghost use lib.Dec.{eqb};
 ghost use lib.ListN.{length, getD};
 ghost use mathlib.Core.Path.{_≡_};
-ghost use Rattle.rules.specs.Limits.{limits};
+ghost use Rattle.rules.specs.definitions.Limits.{limits};
 ghost use Rattle.pairs.specs.Bits.{wordBits, bitOf, setBit, clearBit};
 ghost use Rattle.pairs.specs.Rows.{rowBit, removedRows, sameLabels, HoldsPairs, SmallBytes, AreClasses, Agrees, IsNext, AreAlike};
-
-pub const STATES: usize = 64;
+use limits::STATES;
 
 pub type Row = u64;
 

@@ -5,11 +5,11 @@ use mathlib.Core.List.{List}
 use lib.ListN.{length, getD}
 use lib.IntN.{ℤ, pos, natAbs}
 use lib.Signed.{mag}
-use Rattle.rules.specs.Limits.{limits}
-use Rattle.rules.specs.Model.{Entry}
-use Rattle.rules.specs.Reading.{entriesAt}
-use Rattle.rules.specs.SoundModel.{Each, sumOver}
-use Rattle.rules.specs.EntryPrices.{priceOfEntries}
+use Rattle.rules.specs.definitions.Limits.{limits}
+use Rattle.rules.specs.definitions.Model.{Entry}
+use Rattle.rules.specs.definitions.Reading.{entriesAt}
+use Rattle.rules.specs.definitions.SoundModel.{Each, sumOver}
+use Rattle.rules.specs.argument.EntryPrices.{priceOfEntries}
 
 -- the price of a state in a table
 abbrev pub priceIn : List ℤ → ℕ → ℤ

@@ -11,13 +11,13 @@ use mir.Val.{SFits, toZ, ofZ}
 use mir.Facts.{toZ-ofZ}
 use native.Mathlib.Decide.{ℕ-discrete}
 use native.Mathlib.Omega.{arith}
-use Rattle.bisimulation.specs.Prices.{priceOfTargets}
-use Rattle.rules.specs.Limits.{limits}
-use Rattle.rules.specs.Model.{Entry}
-use Rattle.rules.specs.Reading.{statesOf, entriesAt}
-use Rattle.rules.specs.SoundModel.{Each, sumOver}
-use Rattle.rules.specs.EntryPrices.{priceOfEntries}
-use Rattle.record.specs.declared.Fields.{Fields}
+use Rattle.bisimulation.specs.definitions.Prices.{priceOfTargets}
+use Rattle.rules.specs.definitions.Limits.{limits}
+use Rattle.rules.specs.definitions.Model.{Entry}
+use Rattle.rules.specs.definitions.Reading.{statesOf, entriesAt}
+use Rattle.rules.specs.definitions.SoundModel.{Each, sumOver}
+use Rattle.rules.specs.argument.EntryPrices.{priceOfEntries}
+use Rattle.model_records.specs.declared.Fields.{Fields}
 use Rattle.transition.specs.declared.Entry as read
 use Rattle.transition.specs.Known.{automatonIn, KnownTransition, FieldsOf, EntriesKnown}
 use Rattle.transition.specs.KnownLaws.{few-states, entries-known, price-known}

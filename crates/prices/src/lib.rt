@@ -2,12 +2,12 @@
 ghost use Prim.Native.Nat.{_+_, _*_, _≤_, _<_};
 ghost use lib.ListN.{length};
 ghost use mathlib.Core.Path.{_≡_};
-ghost use Rattle.rules.specs.Limits.{limits};
-ghost use Rattle.rules.specs.Bytes.{signedAt};
-ghost use Rattle.rules.specs.Reading.{entriesAt};
+ghost use Rattle.rules.specs.definitions.Limits.{limits};
+ghost use Rattle.rules.specs.definitions.Bytes.{signedAt};
+ghost use Rattle.rules.specs.definitions.Reading.{entriesAt};
 ghost use Rattle.prices.specs.Prices.{HoldsPrices, Summable, IsSum};
 use field::Cursor;
-use pairs::STATES;
+use limits::STATES;
 
 pub type Prices = [i64; STATES];
 

@@ -1,4 +1,4 @@
 // Reduces pa.bin by ct.bin and writes merged.bin.
 fn main() {
-    judging::reduce_files();
+    programs::reduce_files();
 }

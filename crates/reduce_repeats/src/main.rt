@@ -1,4 +1,4 @@
 // The same on a pair whose merged model drops repeated transitions and joins two targets.
 fn main() {
-    judging::reduce_files();
+    programs::reduce_files();
 }

@@ -1,3 +1,3 @@
 -- A refutation judged.
-pub mod Judged
-pub mod JudgedLaws
+pub mod RefutationJudged
+pub mod RefutationLaws

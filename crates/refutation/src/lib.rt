@@ -2,13 +2,13 @@
 ghost use Prim.Native.Nat.{_+_, _*_, _≤_};
 ghost use lib.ListN.{length};
 ghost use mathlib.Core.Path.{_≡_};
-ghost use Rattle.rules.specs.Limits.{limits};
-ghost use Rattle.rules.specs.Reading.{statesOf};
-ghost use Rattle.rules.specs.PlainRule.{plainPriceCount};
+ghost use Rattle.rules.specs.definitions.Limits.{limits};
+ghost use Rattle.rules.specs.definitions.Reading.{statesOf};
+ghost use Rattle.rules.specs.definitions.PlainRule.{plainPriceCount};
 ghost use Rattle.transition.specs.Known.{automatonIn, Known, KnownTransition};
 ghost use Rattle.prices.specs.Prices.{priceIn, SmallPrices};
 ghost use Rattle.conditions.specs.Conditions.{conditionsFault};
-ghost use Rattle.refutation.specs.Judged.{Asked, FaultIs, PairJudged, PricesJudged, RefutationJudged};
+ghost use Rattle.refutation.specs.RefutationJudged.{Asked, FaultIs, PairJudged, PricesJudged, RefutationJudged};
 use fault::Fault;
 use field::Cursor;
 use model::Places;

@@ -3,14 +3,14 @@ use Prim.Native.Nat.{ℕ, _+_, _*_, _≤_, _<_}
 use mathlib.Core.Path.{_≡_}
 use mathlib.Core.List.{List}
 use lib.ListN.{length}
-use Rattle.bisimulation.specs.Automaton.{Automaton}
-use Rattle.rules.specs.Limits.{limits}
-use Rattle.rules.specs.Model.{Entry, automatonOf}
-use Rattle.rules.specs.Reading.{statesOf, countOf, entryCountAt, afterTransition, entriesAt, modelAt, placeOf}
-use Rattle.rules.specs.SoundModel.{Each, sumOver, SoundModel}
-use Rattle.rules.specs.SoundModelLaws.{StatesFrom}
+use Rattle.bisimulation.specs.definitions.Automaton.{Automaton}
+use Rattle.rules.specs.definitions.Limits.{limits}
+use Rattle.rules.specs.definitions.Model.{Entry, automatonOf}
+use Rattle.rules.specs.definitions.Reading.{statesOf, countOf, entryCountAt, afterTransition, entriesAt, modelAt, placeOf}
+use Rattle.rules.specs.definitions.SoundModel.{Each, sumOver, SoundModel}
+use Rattle.rules.specs.argument.SoundModelLaws.{StatesFrom}
 use Rattle.model.specs.Scanned.{PlacesHeld}
-use Rattle.record.specs.declared.Fields.{Fields}
+use Rattle.model_records.specs.declared.Fields.{Fields}
 
 -- the automaton of a model file
 abbrev pub automatonIn : List ℕ → Automaton

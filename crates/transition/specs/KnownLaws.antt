@@ -4,22 +4,22 @@ use mathlib.Core.Path.{_≡_, refl, sym, _∙_, ap, subst}
 use mathlib.Core.List.{List}
 use lib.ListN.{length, getD}
 use native.Mathlib.Omega.{arith}
-use Rattle.bisimulation.specs.Prices.{priceOfTargets}
-use Rattle.bisimulation.specs.SumLaws.{sumℤCong}
+use Rattle.bisimulation.specs.definitions.Prices.{priceOfTargets}
+use Rattle.bisimulation.specs.argument.SumLaws.{sumℤCong}
 use lib.IntN.{ℤ, pos, _*ℤ_}
-use Rattle.rules.specs.Limits.{limits}
-use Rattle.rules.specs.Model.{Entry, Transition, noTransition, automatonOf}
-use Rattle.rules.specs.Reading.{Scan, sound, scanWhole, readWhole, statesOf, countOf, sourceAt, actionAt, denominatorAt, entryCountAt, afterTransition, transitionAt, modelAt, placeOf, readingOf, model}
-use Rattle.rules.specs.ReadingLaws.{Sound, Tells, whole-tells}
-use Rattle.rules.specs.SoundModel.{Bytes, SoundModel, TransitionRules}
-use Rattle.rules.specs.SoundModelLaws.{each-at, from-along}
-use Rattle.rules.specs.ReadSound.{read-whole-sound}
-use Rattle.rules.specs.AnswerLaws.{labels-length}
-use Rattle.rules.specs.ModelAutomaton.{length-transitionsAt, automaton-states, automaton-transitions, automaton-source, automaton-action, automaton-denominator, automaton-weight, transition-is}
-use Rattle.rules.specs.EntryPrices.{priceOfEntries, price-of-entries}
-use Rattle.record.specs.Fields.{FieldsAt}
+use Rattle.rules.specs.definitions.Limits.{limits}
+use Rattle.rules.specs.definitions.Model.{Entry, Transition, noTransition, automatonOf}
+use Rattle.rules.specs.definitions.Reading.{Scan, sound, scanWhole, readWhole, statesOf, countOf, sourceAt, actionAt, denominatorAt, entryCountAt, afterTransition, transitionAt, modelAt, placeOf, readingOf, model}
+use Rattle.rules.specs.argument.ReadingLaws.{Sound, Tells, whole-tells}
+use Rattle.rules.specs.definitions.SoundModel.{Bytes, SoundModel, TransitionRules}
+use Rattle.rules.specs.argument.SoundModelLaws.{each-at, from-along}
+use Rattle.rules.specs.argument.ReadSound.{read-whole-sound}
+use Rattle.rules.specs.argument.AnswerLaws.{labels-length}
+use Rattle.rules.specs.argument.ModelAutomaton.{length-transitionsAt, automaton-states, automaton-transitions, automaton-source, automaton-action, automaton-denominator, automaton-weight, transition-is}
+use Rattle.rules.specs.argument.EntryPrices.{priceOfEntries, price-of-entries}
+use Rattle.model_records.specs.Fields.{FieldsAt}
 use Rattle.model.specs.Scanned.{PlacesHeld}
-use Rattle.record.specs.declared.Fields.{Fields}
+use Rattle.model_records.specs.declared.Fields.{Fields}
 use Rattle.transition.specs.Known.{automatonIn, Known, KnownTransition, FieldsOf, entriesOf, EntriesKnown}
 
 -- what the reader's answer tells
@@ -120,7 +120,7 @@ module _ {s table : List ℕ} {r : ℕ} (t : KnownTransition s table r) where
       }
     where
       lib-each : ℕ → Type 0
-      lib-each x = Rattle.rules.specs.SoundModel.Each (λ (e : Entry). e .state < x) (entriesOf s r)
+      lib-each x = Rattle.rules.specs.definitions.SoundModel.Each (λ (e : Entry). e .state < x) (entriesOf s r)
 
   -- 'the sum of p(v)A(v)' is the sum over its entries
   pub price-known : (X : ℕ → ℤ) → priceOfTargets (automatonIn s) X r ≡ priceOfEntries (entriesOf s r) X
@@ -128,4 +128,4 @@ module _ {s table : List ℕ} {r : ℕ} (t : KnownTransition s table r) where
   price-known X =
       sumℤCong (automatonIn s .states) _ _ (λ v l. ap (λ (p : ℕ). pos p *ℤ X v) (automaton-weight s r below-count v))
       ∙ price-of-entries (automatonIn s .states) (entriesOf s r) 0 X (entries-known .ascend)
-      (subst (λ (x : ℕ). Rattle.rules.specs.SoundModel.Each (λ (e : Entry). e .state < x) (entriesOf s r)) (sym (known-states (t .known))) (entries-known .states))
+      (subst (λ (x : ℕ). Rattle.rules.specs.definitions.SoundModel.Each (λ (e : Entry). e .state < x) (entriesOf s r)) (sym (known-states (t .known))) (entries-known .states))

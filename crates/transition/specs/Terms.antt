@@ -4,7 +4,7 @@ use mathlib.Core.Path.{_≡_}
 use mathlib.Core.List.{List}
 use lib.IntN.{ℤ, pos, _+ℤ_, _*ℤ_, natAbs}
 use lib.Signed.{mag}
-use Rattle.rules.specs.Bytes.{byteAt, twoAt}
+use Rattle.rules.specs.definitions.Bytes.{byteAt, twoAt}
 use Rattle.transition.specs.declared.Entry.{Entry}
 
 -- one entry of a transition, 'state 1, weight 2', and the place moved past it

@@ -5,7 +5,7 @@ ghost use Rattle.transition.specs.Known.{KnownTransition, FieldsOf};
 ghost use Rattle.transition.specs.Terms.{EntryTaken, Addable, WithTerm};
 use field::Cursor;
 use model::Places;
-use record::Fields;
+use model_records::Fields;
 
 pub struct Entry {
     pub state: usize,
@@ -18,7 +18,7 @@ pub fn fields_of(s: &[u8], places: &Places, r: usize) -> Fields
     requires { ⌜ KnownTransition (now s) (now places) r ⌝ }
     ensures { λ x. ⌜ FieldsOf (now (s .entry)) r x ⌝ }
 {
-    record::fields_at(s, places[r])
+    model_records::fields_at(s, places[r])
 }
 
 // The entry at a place.

@@ -3,8 +3,8 @@ use Prim.Native.Nat.{ℕ, _+_, _≤_, _<_}
 use mathlib.Core.Path.{_≡_}
 use mathlib.Core.List.{List, [], _∷_, _++_}
 use lib.ListN.{length, take, drop}
-use Rattle.rules.specs.Bytes.{twoBytes}
-use Rattle.rules.specs.Model.{Transition, Model, transitionsBytes, modelBytes}
+use Rattle.rules.specs.definitions.Bytes.{twoBytes}
+use Rattle.rules.specs.definitions.Model.{Transition, Model, transitionsBytes, modelBytes}
 
 -- the bytes stand from a place on, what was before them and what is behind them is as it was; and the place after them
 pub record Appends (bytes : List ℕ) (at : ℕ) (before after : List ℕ) (next : ℕ) : Type 0 where

@@ -6,8 +6,8 @@ use lib.ListN.{length, take, drop, set, length-set, length-append, take-append-d
 use lib.Seq.{length-take-le, drop-drop, take-all, drop-length, take-append-seam, drop-append-seam}
 use native.Mathlib.Omega.{arith}
 use borrow.Rule.Slice.PartMut.{midOf, putMid, same-len-mid, post-is, mid-len}
-use Rattle.rules.specs.Bytes.{twoBytes}
-use Rattle.rules.specs.Model.{Transition, headBytes, labelsBytes, transitionsBytes, modelBytes}
+use Rattle.rules.specs.definitions.Bytes.{twoBytes}
+use Rattle.rules.specs.definitions.Model.{Transition, headBytes, labelsBytes, transitionsBytes, modelBytes}
 use Rattle.writer.specs.Appends.{Appends, headBytesOf, WritesModel}
 
 -- one byte

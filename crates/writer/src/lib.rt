@@ -3,7 +3,7 @@
 ghost use Prim.Native.Nat.{_+_, _≤_, _<_};
 ghost use lib.ListN.{length};
 ghost use mathlib.Core.List.{[], _∷_};
-ghost use Rattle.rules.specs.Bytes.{twoBytes};
+ghost use Rattle.rules.specs.definitions.Bytes.{twoBytes};
 ghost use Rattle.writer.specs.Appends.{Appends, startBytes, fixedBytes, headBytesOf, CanWriteModel, WritesModel};
 
 // A field of one byte.

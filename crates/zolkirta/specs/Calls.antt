@@ -4,21 +4,21 @@ use mathlib.Core.Path.{_≡_}
 use mathlib.Core.Logic.{_↔_, _⊎_}
 use mathlib.Core.List.{List, _++_}
 use lib.ListN.{length, take, drop}
-use Rattle.bisimulation.specs.Choice.{ifSame}
-use Rattle.bisimulation.specs.StepRule.{Met}
-use Rattle.rules.specs.Limits.{limits}
-use Rattle.rules.specs.Model.{Model, HoldOneAutomaton}
-use Rattle.rules.specs.Reading.{statesOf}
-use Rattle.rules.specs.SoundModel.{Bytes}
-use Rattle.rules.specs.PlainRule.{plainRule}
-use Rattle.rules.specs.PlainSays.{plainSays}
-use Rattle.rules.specs.Judging.{AcceptedFor, NameSameBlocks}
-use Rattle.rules.specs.Accepted.{Accepted}
-use Rattle.rules.specs.Quotient.{mergedFile}
-use Rattle.rules.specs.Demand3.{HoldsModel, LargestBlockPairs}
-use Rattle.rules.specs.Answers.{Outcome, fetchAnswer, stretchIn, stretchOf, FetchNumber, JudgeNumber, ReduceNumber, judgeOutcome, reduceOutcome}
-use Rattle.verdict.specs.declared.Answer.{Answer}
-use Rattle.verdict.specs.Answered.{answered, OutcomeIs}
+use Rattle.bisimulation.specs.definitions.Choice.{ifSame}
+use Rattle.bisimulation.specs.definitions.StepRule.{Met}
+use Rattle.rules.specs.definitions.Limits.{limits}
+use Rattle.rules.specs.definitions.Model.{Model, HoldOneAutomaton}
+use Rattle.rules.specs.definitions.Reading.{statesOf}
+use Rattle.rules.specs.definitions.SoundModel.{Bytes}
+use Rattle.rules.specs.definitions.PlainRule.{plainRule}
+use Rattle.rules.specs.definitions.PlainSays.{plainSays}
+use Rattle.rules.specs.definitions.Judging.{AcceptedFor, NameSameBlocks}
+use Rattle.rules.specs.definitions.Accepted.{Accepted}
+use Rattle.rules.specs.definitions.Quotient.{mergedFile}
+use Rattle.rules.specs.definitions.Demand3.{HoldsModel, LargestBlockPairs}
+use Rattle.rules.specs.definitions.Answers.{Outcome, fetchAnswer, stretchIn, stretchOf, FetchNumber, JudgeNumber, ReduceNumber, judgeOutcome, reduceOutcome}
+use Rattle.answer.specs.declared.Answer.{Answer}
+use Rattle.answer.specs.Answered.{answered, OutcomeIs}
 
 -- a fetch answers what document 01 says, with one of its numbers: 0 to 9 or 24
 pub record FetchAnswered (model : List ℕ) (state : ℕ) (r : Answer) : Type 0 where

@@ -6,23 +6,23 @@ use mathlib.Core.List.{List, _++_}
 use lib.ListN.{length, take, drop}
 use lib.Seq.{take-append-seam}
 use native.Mathlib.Omega.{arith}
-use Rattle.bisimulation.specs.StepRule.{Met}
-use Rattle.rules.specs.Limits.{limits}
-use Rattle.rules.specs.Model.{Model}
-use Rattle.rules.specs.Reading.{statesOf}
-use Rattle.rules.specs.SoundModel.{Bytes}
-use Rattle.rules.specs.PlainRule.{plainRule}
-use Rattle.rules.specs.PlainSays.{plainSays}
-use Rattle.rules.specs.Judging.{AcceptedFor, NameSameBlocks, accepted}
-use Rattle.rules.specs.Accepted.{Accepted}
-use Rattle.rules.specs.Demand3.{LargestBlocks}
-use Rattle.rules.specs.Demand3Holds.{plain-accepted, plain-demand3, plain-largest-pairs, plain-whole}
-use Rattle.rules.specs.AnswerLaws.{read-states}
-use Rattle.rules.specs.Quotient.{mergedFile}
-use Rattle.rules.specs.QuotientHolds.{plain-holds, itself}
-use Rattle.rules.specs.Answers.{Outcome, filled, mergedOutcome, JudgeNumber, ReduceNumber, judgeOutcome, reduceOutcome}
-use Rattle.rules.specs.JudgeOutcome.{AcceptedModel, AnsweredZero, outcome-number, outcome-unwritten, answered-zero, zero-answered}
-use Rattle.rules.specs.ReduceOutcome.{reduce-unwritten, file-fits, fits-zero, short-told, zero-fits, told-short, reduce-told, reduce-number, reduce-found}
+use Rattle.bisimulation.specs.definitions.StepRule.{Met}
+use Rattle.rules.specs.definitions.Limits.{limits}
+use Rattle.rules.specs.definitions.Model.{Model}
+use Rattle.rules.specs.definitions.Reading.{statesOf}
+use Rattle.rules.specs.definitions.SoundModel.{Bytes}
+use Rattle.rules.specs.definitions.PlainRule.{plainRule}
+use Rattle.rules.specs.definitions.PlainSays.{plainSays}
+use Rattle.rules.specs.definitions.Judging.{AcceptedFor, NameSameBlocks, accepted}
+use Rattle.rules.specs.definitions.Accepted.{Accepted}
+use Rattle.rules.specs.definitions.Demand3.{LargestBlocks}
+use Rattle.rules.specs.argument.Demand3Holds.{plain-accepted, plain-demand3, plain-largest-pairs, plain-whole}
+use Rattle.rules.specs.argument.AnswerLaws.{read-states}
+use Rattle.rules.specs.definitions.Quotient.{mergedFile}
+use Rattle.rules.specs.argument.QuotientHolds.{plain-holds, itself}
+use Rattle.rules.specs.definitions.Answers.{Outcome, filled, mergedOutcome, JudgeNumber, ReduceNumber, judgeOutcome, reduceOutcome}
+use Rattle.rules.specs.argument.JudgeOutcome.{AcceptedModel, AnsweredZero, outcome-number, outcome-unwritten, answered-zero, zero-answered}
+use Rattle.rules.specs.argument.ReduceOutcome.{reduce-unwritten, file-fits, fits-zero, short-told, zero-fits, told-short, reduce-told, reduce-number, reduce-found}
 use Rattle.zolkirta.specs.Calls.{Demands, KeepsRulesOn, LargestOf, ReduceDemands}
 
 -- a judgement accepts one list of blocks

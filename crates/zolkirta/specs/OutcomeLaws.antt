@@ -6,28 +6,28 @@ use lib.ListN.{length, take, drop, length-drop}
 use lib.Seq.{take-all, length-take-le}
 use native.Mathlib.Nat.{add-sub-cancel-left}
 use native.Mathlib.Omega.{arith}
-use Rattle.bisimulation.specs.Choice.{ifSame}
-use Rattle.bisimulation.specs.ChoiceLaws.{same, notSame, eitherSame, eitherLess}
-use Rattle.rules.specs.Limits.{limits}
-use Rattle.rules.specs.Reading.{Reading, modelAt}
-use Rattle.rules.specs.SoundModel.{Bytes}
-use Rattle.rules.specs.PlainRule.{plainRule}
-use Rattle.rules.specs.Judging.{AcceptedFor, judgeCertificate, judgeReading, judge}
-use Rattle.rules.specs.Answers as rules
-use Rattle.rules.specs.Answers.{FetchNumber, fetchAnswer, Outcome, answerWithoutPlace, stretchIn, stretchOf, unwritten, filled, mergedOutcome, judgeOutcome, reduceOutcome}
-use Rattle.rules.specs.AnswerLaws.{fetch-number, fetch-inside}
-use Rattle.rules.specs.JudgeOutcome.{outcome-accepted}
-use Rattle.rules.specs.ReduceOutcome.{file-fits, file-short, reduce-told}
-use Rattle.rules.specs.Quotient.{mergedFile}
-use Rattle.rules.specs.QuotientLaws.{NumberedBlocks}
-use Rattle.rules.specs.QuotientHolds.{plain-holds, plain-numbered}
-use Rattle.quotient.specs.File.{CanWriteFile, FileWritten}
+use Rattle.bisimulation.specs.definitions.Choice.{ifSame}
+use Rattle.bisimulation.specs.argument.ChoiceLaws.{same, notSame, eitherSame, eitherLess}
+use Rattle.rules.specs.definitions.Limits.{limits}
+use Rattle.rules.specs.definitions.Reading.{Reading, modelAt}
+use Rattle.rules.specs.definitions.SoundModel.{Bytes}
+use Rattle.rules.specs.definitions.PlainRule.{plainRule}
+use Rattle.rules.specs.definitions.Judging.{AcceptedFor, judgeCertificate, judgeReading, judge}
+use Rattle.rules.specs.definitions.Answers as rules
+use Rattle.rules.specs.definitions.Answers.{FetchNumber, fetchAnswer, Outcome, answerWithoutPlace, stretchIn, stretchOf, unwritten, filled, mergedOutcome, judgeOutcome, reduceOutcome}
+use Rattle.rules.specs.argument.AnswerLaws.{fetch-number, fetch-inside}
+use Rattle.rules.specs.argument.JudgeOutcome.{outcome-accepted}
+use Rattle.rules.specs.argument.ReduceOutcome.{file-fits, file-short, reduce-told}
+use Rattle.rules.specs.definitions.Quotient.{mergedFile}
+use Rattle.rules.specs.argument.QuotientLaws.{NumberedBlocks}
+use Rattle.rules.specs.argument.QuotientHolds.{plain-holds, plain-numbered}
+use Rattle.merged_model.specs.File.{CanWriteFile, FileWritten}
 use Rattle.transition.specs.Known.{automatonIn}
 use Rattle.transition.specs.KnownLaws.{known}
-use Rattle.verdict.specs.declared.Answer.{Answer}
-use Rattle.verdict.specs.Answered.{answered, StretchInside, OutcomeIs}
-use Rattle.verdict.specs.Verdicts.{AcceptedAt}
-use Rattle.verdict.specs.VerdictLaws.{without-stretch, labels-are}
+use Rattle.answer.specs.declared.Answer.{Answer}
+use Rattle.answer.specs.Answered.{answered, StretchInside, OutcomeIs}
+use Rattle.answer.specs.Verdicts.{AcceptedAt}
+use Rattle.answer.specs.VerdictLaws.{without-stretch, labels-are}
 use Rattle.zolkirta.specs.Calls.{partFrom, sliceOf, FetchHandedBack, HandedBack, Demands, JudgeAnswered, JudgeHandedBack, ReduceDemands, ReduceAnswered, ReduceHandedBack}
 use Rattle.zolkirta.specs.Parts.{HandsBack, Reduced}
 

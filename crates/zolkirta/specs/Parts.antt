@@ -2,11 +2,11 @@
 use Prim.Native.Nat.{ℕ}
 use mathlib.Core.Path.{_≡_}
 use mathlib.Core.List.{List}
-use Rattle.rules.specs.Reading.{modelAt}
-use Rattle.rules.specs.Quotient.{mergedFile}
-use Rattle.rules.specs.Answers.{stretchOf, mergedOutcome}
-use Rattle.verdict.specs.declared.Answer.{Answer}
-use Rattle.verdict.specs.Answered.{answered}
+use Rattle.rules.specs.definitions.Reading.{modelAt}
+use Rattle.rules.specs.definitions.Quotient.{mergedFile}
+use Rattle.rules.specs.definitions.Answers.{stretchOf, mergedOutcome}
+use Rattle.answer.specs.declared.Answer.{Answer}
+use Rattle.answer.specs.Answered.{answered}
 use Rattle.zolkirta.specs.Calls.{partFrom, sliceOf}
 
 -- an answer handed back: its numbers, and its stretch as a part of its file

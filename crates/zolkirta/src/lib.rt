@@ -2,16 +2,16 @@
 ghost use mathlib.Core.Path.{_≡_};
 ghost use lib.ListN.{length};
 ghost use denote.Ref.{ptr};
-ghost use Rattle.rules.specs.Limits.{limits};
-ghost use Rattle.rules.specs.Answers.{runAnswer, fetchAnswer};
-ghost use Rattle.verdict.specs.Answered.{answered, StretchInside};
+ghost use Rattle.rules.specs.definitions.Limits.{limits};
+ghost use Rattle.rules.specs.definitions.Answers.{runAnswer, fetchAnswer};
+ghost use Rattle.answer.specs.Answered.{answered, StretchInside};
 ghost use Rattle.zolkirta.specs.Calls.{FetchAnswered, FetchHandedBack, JudgeAnswered, JudgeHandedBack, ReduceAnswered, ReduceHandedBack};
 ghost use Rattle.zolkirta.specs.Parts.{HandsBack, Reduced};
-ghost use Rattle.quotient.specs.File.{CanWriteFile};
+ghost use Rattle.merged_model.specs.File.{CanWriteFile};
+use answer::Answer;
+use answer::Verdict;
+use fetch::Fetched;
 use model::Places;
-use runs::Fetched;
-use verdict::Answer;
-use verdict::Verdict;
 
 fn run_from(start: usize, end: usize) -> Answer
     ensures { λ r. ⌜ answered r ≡ runAnswer start end ⌝ }
@@ -26,7 +26,7 @@ fn run_from(start: usize, end: usize) -> Answer
             written: 0,
         };
     }
-    verdict::without_place(0, 0)
+    answer::without_place(0, 0)
 }
 
 // Hands an answer back: the tail of the slice that holds the record at fault, empty where none does, and the numbers beside it.
@@ -55,11 +55,11 @@ fn hand_back<'a>(
 fn fetch_answer(model: &[u8], state: u32) -> Answer
     ensures { λ r. ⌜ answered r ≡ fetchAnswer limits (now (model .entry)) state ⌝ }
 {
-    let fetched = runs::fetch_run(model, state as usize);
+    let fetched = fetch::fetch_run(model, state as usize);
     match fetched {
         Fetched::Found { start, end } => run_from(start, end),
-        Fetched::NoState => verdict::without_place(24, 0),
-        Fetched::Unsound { number, place } => verdict::refusal_in(number, 1, place, model.len()),
+        Fetched::NoState => answer::without_place(24, 0),
+        Fetched::Unsound { number, place } => answer::refusal_in(number, 1, place, model.len()),
     }
 }
 
@@ -89,12 +89,12 @@ pub extern "C" fn zolkirta_fetch(model: &[u8], state: u32) -> Answer
 fn judge_answer(model: &[u8], certificate: &[u8], blocks: &mut [u8]) -> Answer
     ensures { λ r. ⌜ JudgeAnswered (now (model .entry)) (now (certificate .entry)) (now (blocks .entry)) (now (blocks .exit)) r ⌝ }
 {
-    let wrong = record::head_fault(model);
+    let wrong = model_records::head_fault(model);
     if wrong != 0 {
-        return verdict::refusal_in(wrong, 1, 0, model.len());
+        return answer::refusal_in(wrong, 1, 0, model.len());
     }
     let mut places = model::no_places();
-    let found = verdict::judge_files(model, certificate, &mut places, blocks.len());
+    let found = answer::judge_files(model, certificate, &mut places, blocks.len());
     match found {
         Verdict::Accepted {
             states,
@@ -102,7 +102,7 @@ fn judge_answer(model: &[u8], certificate: &[u8], blocks: &mut [u8]) -> Answer
             blocks: at,
         } => {
             bytes::copy(&certificate[at..at + states], blocks);
-            verdict::without_place(0, states)
+            answer::without_place(0, states)
         }
         Verdict::Refused(answer) => answer,
     }
@@ -145,22 +145,22 @@ fn reduce_accepted(
     ensures { λ r. ⌜ Reduced (now (model .entry)) (now (blocks .entry)) (now (out .entry)) (now (out .exit)) r ⌝ }
 {
     let room = out.len();
-    let size = quotient::write_file(model, n, count, places, blocks, out);
+    let size = merged_model::write_file(model, n, count, places, blocks, out);
     if room < size {
-        return verdict::without_place(23, 0);
+        return answer::without_place(23, 0);
     }
-    verdict::without_place(0, size)
+    answer::without_place(0, size)
 }
 
 fn reduce_answer(model: &[u8], certificate: &[u8], out: &mut [u8]) -> Answer
     ensures { λ r. ⌜ ReduceAnswered (now (model .entry)) (now (certificate .entry)) (now (out .entry)) (now (out .exit)) r ⌝ }
 {
-    let wrong = record::head_fault(model);
+    let wrong = model_records::head_fault(model);
     if wrong != 0 {
-        return verdict::refusal_in(wrong, 1, 0, model.len());
+        return answer::refusal_in(wrong, 1, 0, model.len());
     }
     let mut places = model::no_places();
-    let found = verdict::judge_files(model, certificate, &mut places, 64);
+    let found = answer::judge_files(model, certificate, &mut places, 64);
     match found {
         Verdict::Accepted {
             states,

@@ -5,8 +5,8 @@ use mathlib.Core.Path.{_≡_, refl, sym, _∙_}
 use lib.ListN.{length, take, drop}
 use lib.ListN.{length-drop}
 use lib.Seq.{length-take-le}
-use Rattle.rules.specs.Certificate.{blocksFault, pairsFault}
-use Rattle.bisimulation.specs.ChoiceLaws.{less, notLess, same, notSame, isTrue, isFalse, via}
+use Rattle.rules.specs.definitions.Certificate.{blocksFault, pairsFault}
+use Rattle.bisimulation.specs.argument.ChoiceLaws.{less, notLess, same, notSame, isTrue, isFalse, via}
 use Rattle.field.specs.Taken.{taken-at}
 use Rattle.fault.specs.FaultsLaws.{first-stops, first-passes}
 use Rattle.blocks.specs.BlocksLaws.{numbered-of, no-number, small-part, pairs-fault}

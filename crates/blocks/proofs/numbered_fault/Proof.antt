@@ -2,10 +2,10 @@
 use native.Mathlib.Omega.{arith}
 use Prim.Native.Nat.{ℕ, _+_, _≤_}
 use mathlib.Core.Path.{_≡_, refl, _∙_}
-use Rattle.rules.specs.Bytes.{byteAt}
-use Rattle.rules.specs.Certificate.{numberedFault}
-use Rattle.bisimulation.specs.Choice.{ifSame}
-use Rattle.bisimulation.specs.ChoiceLaws.{via, less, notLess, eitherSame}
+use Rattle.rules.specs.definitions.Bytes.{byteAt}
+use Rattle.rules.specs.definitions.Certificate.{numberedFault}
+use Rattle.bisimulation.specs.definitions.Choice.{ifSame}
+use Rattle.bisimulation.specs.argument.ChoiceLaws.{via, less, notLess, eitherSame}
 use Rattle.blocks.specs.BlocksLaws.{numbered-turn, numbered-end}
 use borrow.Author.Needs.{needs}
 use Rattle.blocks.proofs.numbered_fault.Statement.{statement}

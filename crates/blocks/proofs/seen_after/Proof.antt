@@ -1,7 +1,7 @@
 -- `seen_after` meets its contract.
 use native.Mathlib.Omega.{arith}
 use mathlib.Core.Path.{refl}
-use Rattle.bisimulation.specs.ChoiceLaws.{same, notSame}
+use Rattle.bisimulation.specs.argument.ChoiceLaws.{same, notSame}
 use borrow.Author.Needs.{needs}
 use Rattle.blocks.proofs.seen_after.Statement.{statement}
 use Rattle.blocks.proofs.seen_after.Tie as tie

@@ -5,7 +5,7 @@ use mathlib.Core.Bool.{true}
 use native.Mathlib.Omega.{arith}
 use borrow.Author.Count.{below-none, below-more}
 use borrow.Author.Tests.{not-true, not-false}
-use Rattle.bisimulation.specs.ChoiceLaws.{below-all, not-all}
+use Rattle.bisimulation.specs.argument.ChoiceLaws.{below-all, not-all}
 use Rattle.transition.specs.Known.{automatonIn}
 use Rattle.transition.specs.KnownLaws.{known-transition}
 use Rattle.prices.specs.Prices.{priceIn}

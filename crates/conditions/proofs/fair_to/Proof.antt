@@ -1,7 +1,7 @@
 -- `fair_to` meets its contract: each way by the action.
 use native.Mathlib.Omega.{arith}
 use mathlib.Core.Path.{refl}
-use Rattle.bisimulation.specs.ChoiceLaws.{same, notSame}
+use Rattle.bisimulation.specs.argument.ChoiceLaws.{same, notSame}
 use Rattle.conditions.specs.Conditions.{fairTo}
 use borrow.Author.Needs.{needs}
 use Rattle.conditions.proofs.fair_to.Statement.{statement}

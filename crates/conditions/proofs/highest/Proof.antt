@@ -3,7 +3,7 @@ use Prim.Native.Nat.{_-_}
 use native.Mathlib.Omega.{arith}
 use mir.Syntax.{w64}
 use mir.Val.{toZ}
-use Rattle.rules.specs.Limits.{limits}
+use Rattle.rules.specs.definitions.Limits.{limits}
 use Rattle.conditions.specs.HighestLaws.{Seeking, seek-start, seek-turn, seek-end}
 use Rattle.conditions.proofs.highest.Statement.{statement}
 use Rattle.conditions.proofs.highest.Tie as tie

@@ -1,6 +1,6 @@
 -- `in_question` meets its contract, test by test.
 use mathlib.Core.Path.{refl}
-use Rattle.bisimulation.specs.ChoiceLaws.{same, notSame}
+use Rattle.bisimulation.specs.argument.ChoiceLaws.{same, notSame}
 use native.Mathlib.Omega.{arith}
 use Rattle.entries_k.specs.Taking.{inQuestionOf}
 use Rattle.entries_k.proofs.in_question.Statement.{statement}

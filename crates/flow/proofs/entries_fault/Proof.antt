@@ -2,10 +2,10 @@
 use mathlib.Core.Path.{refl, _∙_}
 use native.Mathlib.Omega.{arith}
 use Rattle.transition.specs.KnownLaws.{known-transition}
-use Rattle.cells.specs.MovingLaws.{minus-back}
+use Rattle.remainders.specs.MovingLaws.{minus-back}
 use Rattle.flow.specs.FlowLaws.{w-count, after-w}
 use Rattle.flow.specs.DifferencesLaws.{decided}
-use Rattle.flow.specs.JudgedLaws.{judged-refused, middle-is, can-give, can-take-ks, can-ask, k-fault, k-passed, k-refused, count-missing, ws-missing, can-take-ws, w-fault, w-refused, judged}
+use Rattle.flow.specs.FlowJudgedLaws.{judged-refused, middle-is, can-give, can-take-ks, can-ask, k-fault, k-passed, k-refused, count-missing, ws-missing, can-take-ws, w-fault, w-refused, judged}
 use borrow.Author.Needs.{needs}
 use Rattle.flow.proofs.entries_fault.Statement.{statement}
 use Rattle.flow.proofs.entries_fault.Tie as tie

@@ -2,11 +2,11 @@
 use Prim.Native.Nat.{_+_}
 use mathlib.Core.Path.{refl}
 use native.Mathlib.Omega.{arith}
-use Rattle.bisimulation.specs.ChoiceLaws.{less, notLess, same, notSame}
-use Rattle.rules.specs.Certificate.{flowFault}
+use Rattle.bisimulation.specs.argument.ChoiceLaws.{less, notLess, same, notSame}
+use Rattle.rules.specs.definitions.Certificate.{flowFault}
 use Rattle.field.specs.Taken.{taken-at}
 use Rattle.flow.specs.FlowLaws.{k-count, after-k}
-use Rattle.flow.specs.JudgedLaws.{judged-refused}
+use Rattle.flow.specs.FlowJudgedLaws.{judged-refused}
 use borrow.Author.Needs.{needs}
 use Rattle.flow.proofs.flow_fault.Statement.{statement}
 use Rattle.flow.proofs.flow_fault.Tie as tie

@@ -1,7 +1,7 @@
 -- `verdict` meets its contract, test by test.
 use native.Mathlib.Omega.{arith}
-use Rattle.bisimulation.specs.ChoiceLaws.{same, notSame}
-use Rattle.flow.specs.Judged.{verdictOf}
+use Rattle.bisimulation.specs.argument.ChoiceLaws.{same, notSame}
+use Rattle.flow.specs.FlowJudged.{verdictOf}
 use borrow.Author.Needs.{needs}
 use Rattle.flow.proofs.verdict.Statement.{statement}
 use Rattle.flow.proofs.verdict.Tie as tie

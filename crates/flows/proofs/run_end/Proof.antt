@@ -1,7 +1,7 @@
 -- `run_end` meets its contract.
 use native.Mathlib.Omega.{arith}
 use mathlib.Core.Path.{refl, sym, _∙_}
-use Rattle.bisimulation.specs.ChoiceLaws.{same, notSame, isTrue, isFalse}
+use Rattle.bisimulation.specs.argument.ChoiceLaws.{same, notSame, isTrue, isFalse}
 use borrow.Author.Tests.{not-true, not-false}
 use Rattle.flows.specs.Runs.{runEnd}
 use borrow.Author.Needs.{needs}

@@ -2,7 +2,7 @@
 use native.Mathlib.Omega.{arith}
 use mathlib.Core.Path.{ap₂}
 use lib.Dec.{eqb}
-use Rattle.rules.specs.Certificate.{sameBlock}
+use Rattle.rules.specs.definitions.Certificate.{sameBlock}
 use Rattle.flows.specs.RunsLaws.{block-byte}
 use borrow.Author.Needs.{needs}
 use Rattle.flows.proofs.same_block.Statement.{statement}

@@ -1,7 +1,7 @@
 -- `scan_model` meets its contract: the labels and the transitions in the order of `scanModel`.
-use Rattle.rules.specs.ReadingLaws.{refuse-stops, refuse-passes, head-passed, labels-passed}
-use Rattle.rules.specs.Reading.{Scan, refused, scanModel, labelsFault}
-use Rattle.rules.specs.Limits.{limits}
+use Rattle.rules.specs.argument.ReadingLaws.{refuse-stops, refuse-passes, head-passed, labels-passed}
+use Rattle.rules.specs.definitions.Reading.{Scan, refused, scanModel, labelsFault}
+use Rattle.rules.specs.definitions.Limits.{limits}
 use Prim.Native.Nat.{ℕ}
 use mathlib.Core.Path.{_≡_, refl, sym, _∙_, ap}
 use native.Mathlib.Omega.{arith}

@@ -1,15 +1,15 @@
 -- `scan_transitions` meets its contract. The invariant is `Walked`.
 use Rattle.model.specs.Places.{none-held, one-more-held}
 use Rattle.model.specs.Scanned.{PlacesHeld}
-use Rattle.rules.specs.ReadingLaws.{scanTransitions-turn, scanTransitions-end, refuse-stops, refuse-passes, transition-passed, placeOf-next}
-use Rattle.rules.specs.Reading.{scanTransitions, placeOf, afterTransition}
-use Rattle.rules.specs.Limits.{limits}
+use Rattle.rules.specs.argument.ReadingLaws.{scanTransitions-turn, scanTransitions-end, refuse-stops, refuse-passes, transition-passed, placeOf-next}
+use Rattle.rules.specs.definitions.Reading.{scanTransitions, placeOf, afterTransition}
+use Rattle.rules.specs.definitions.Limits.{limits}
 use denote.Ref.{now}
 use lib.ListN.{length, set, length-set}
 use Prim.Native.Nat.{ℕ, _+_, _*_, _-_, _≤_, _<_}
 use mathlib.Core.List.{List}
 use mathlib.Core.Path.{_≡_, refl, sym, _∙_, ap, subst}
-use Rattle.bisimulation.specs.ChoiceLaws.{via}
+use Rattle.bisimulation.specs.argument.ChoiceLaws.{via}
 use native.Mathlib.Omega.{arith}
 use Rattle.model.proofs.scan_transitions.Statement.{statement}
 use Rattle.model.proofs.scan_transitions.Tie as tie

@@ -2,10 +2,10 @@
 use borrow.Author.Needs.{needs}
 use Rattle.model.specs.Scanned.{scanOf, PlacesOf}
 use Rattle.model.specs.declared.Scanned.{Scanned}
-use Rattle.rules.specs.Reading.{scanWhole, refuseBytesLeft}
+use Rattle.rules.specs.definitions.Reading.{scanWhole, refuseBytesLeft}
 use denote.Ref.{now}
 use mathlib.Core.Path.{refl, sym, _∙_, ap, subst}
-use Rattle.bisimulation.specs.ChoiceLaws.{via, less, notLess}
+use Rattle.bisimulation.specs.argument.ChoiceLaws.{via, less, notLess}
 use native.Mathlib.Omega.{arith}
 use Rattle.model.proofs.scan_whole.Statement.{statement}
 use Rattle.model.proofs.scan_whole.Tie as tie

@@ -5,7 +5,7 @@ use mathlib.Core.Path.{_≡_, _∙_, ap, subst}
 use mir.Syntax.{w64}
 use mir.Facts.{toZ-ofZ}
 use denote.Ref.{now}
-use Rattle.rules.specs.Bytes.{signedAt}
+use Rattle.rules.specs.definitions.Bytes.{signedAt}
 use Rattle.prices.specs.Prices.{HoldsPrices}
 use Rattle.prices.specs.PricesLaws.{none-held, one-more-held}
 use borrow.Author.Needs.{needs}

@@ -2,10 +2,10 @@
 use native.Mathlib.Omega.{arith}
 use mathlib.Core.Path.{sym, _∙_}
 use borrow.Author.Tests.{not-true, not-false}
-use Rattle.bisimulation.specs.ChoiceLaws.{isTrue, isFalse}
+use Rattle.bisimulation.specs.argument.ChoiceLaws.{isTrue, isFalse}
 use Rattle.transition.specs.KnownLaws.{known-own, known-states, few-states, known-transition}
 use Rattle.conditions.specs.Conditions.{conditionsFault}
-use Rattle.refutation.specs.JudgedLaws.{prices-there}
+use Rattle.refutation.specs.RefutationLaws.{prices-there}
 use borrow.Author.Needs.{needs}
 use Rattle.refutation.proofs.conditions_fault.Statement.{statement}
 use Rattle.refutation.proofs.conditions_fault.Tie as tie

@@ -2,10 +2,10 @@
 use native.Mathlib.Omega.{arith}
 use mathlib.Core.Path.{refl, _∙_}
 use borrow.Author.Tests.{not-true, not-false}
-use Rattle.bisimulation.specs.ChoiceLaws.{less, notLess, same, notSame, isTrue, isFalse}
-use Rattle.rules.specs.Certificate.{pairFault}
+use Rattle.bisimulation.specs.argument.ChoiceLaws.{less, notLess, same, notSame, isTrue, isFalse}
+use Rattle.rules.specs.definitions.Certificate.{pairFault}
 use Rattle.transition.specs.KnownLaws.{known-states, known-transitions, few-states, known-transition}
-use Rattle.refutation.specs.JudgedLaws.{pair-refused, pair-bit}
+use Rattle.refutation.specs.RefutationLaws.{pair-refused, pair-bit}
 use borrow.Author.Needs.{needs}
 use Rattle.refutation.proofs.pair_fault.Statement.{statement}
 use Rattle.refutation.proofs.pair_fault.Tie as tie

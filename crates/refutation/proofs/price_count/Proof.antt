@@ -1,7 +1,7 @@
 -- `price_count` meets its contract: twice or three times the states.
 use native.Mathlib.Omega.{arith}
 use Rattle.transition.specs.KnownLaws.{few-states}
-use Rattle.refutation.specs.JudgedLaws.{count-internal, count-external}
+use Rattle.refutation.specs.RefutationLaws.{count-internal, count-external}
 use borrow.Author.Needs.{needs}
 use Rattle.refutation.proofs.price_count.Statement.{statement}
 use Rattle.refutation.proofs.price_count.Tie as tie

@@ -3,7 +3,7 @@ use native.Mathlib.Omega.{arith}
 use mathlib.Core.Path.{_∙_}
 use Rattle.transition.specs.KnownLaws.{few-states, known-transition}
 use Rattle.prices.specs.PricesLaws.{prices-small}
-use Rattle.refutation.specs.JudgedLaws.{count-internal, count-external, count-least, judged-internal, judged-external}
+use Rattle.refutation.specs.RefutationLaws.{count-internal, count-external, count-least, judged-internal, judged-external}
 use Rattle.refutation.proofs.prices_fault.Statement.{statement}
 use Rattle.refutation.proofs.prices_fault.Tie as tie
 

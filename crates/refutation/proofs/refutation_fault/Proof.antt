@@ -1,11 +1,11 @@
 -- `refutation_fault` meets its contract: each test in its order.
 use native.Mathlib.Omega.{arith}
 use mathlib.Core.Path.{sym, _∙_}
-use Rattle.bisimulation.specs.ChoiceLaws.{less, notLess, same, notSame}
-use Rattle.rules.specs.Certificate.{refutationFault}
+use Rattle.bisimulation.specs.argument.ChoiceLaws.{less, notLess, same, notSame}
+use Rattle.rules.specs.definitions.Certificate.{refutationFault}
 use Rattle.field.specs.Taken.{taken-at}
 use Rattle.transition.specs.KnownLaws.{few-states, known-transition}
-use Rattle.refutation.specs.JudgedLaws.{head-read, pair-kept, pair-passed, count-most, after-is, prices-are}
+use Rattle.refutation.specs.RefutationLaws.{head-read, pair-kept, pair-passed, count-most, after-is, prices-are}
 use borrow.Author.Needs.{needs}
 use Rattle.refutation.proofs.refutation_fault.Statement.{statement}
 use Rattle.refutation.proofs.refutation_fault.Tie as tie

@@ -1,5 +1,5 @@
 -- `start` meets its contract: each field stands behind the one before it.
-use Rattle.rules.specs.Bytes.{twoBytes}
+use Rattle.rules.specs.definitions.Bytes.{twoBytes}
 use Rattle.writer.specs.AppendsLaws.{append-more}
 use borrow.Author.Needs.{needs}
 use Rattle.writer.proofs.start.Statement.{statement}

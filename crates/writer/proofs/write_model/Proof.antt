@@ -1,6 +1,6 @@
 -- `write_model` meets its contract: each record stands behind the one before it.
 use mathlib.Core.Path.{refl}
-use Rattle.rules.specs.Bytes.{twoBytes}
+use Rattle.rules.specs.definitions.Bytes.{twoBytes}
 use Rattle.writer.specs.AppendsLaws.{append-model}
 use borrow.Author.Needs.{needs}
 use Rattle.writer.proofs.write_model.Statement.{statement}

@@ -1,14 +1,14 @@
 -- `fetch_answer` meets its contract: each case of the fetch is answered as `answerOf` says.
-use Rattle.runs.specs.Fetched.{answerOf}
-use Rattle.rules.specs.AnswerLaws.{fetch-refusal}
-use Rattle.rules.specs.Limits.{limits}
-use Rattle.rules.specs.Answers.{Answer, fetchAnswer}
+use Rattle.fetch.specs.Fetched.{answerOf}
+use Rattle.rules.specs.argument.AnswerLaws.{fetch-refusal}
+use Rattle.rules.specs.definitions.Limits.{limits}
+use Rattle.rules.specs.definitions.Answers.{Answer, fetchAnswer}
 use Prim.Native.Nat.{ℕ}
 use mathlib.Core.List.{List}
 use mathlib.Core.Path.{_≡_, sym, _∙_, ap}
 use native.Mathlib.Omega.{arith}
 use borrow.Author.Needs.{needs}
-use Rattle.verdict.specs.VerdictLaws.{without-as, refusal-as}
+use Rattle.answer.specs.VerdictLaws.{without-as, refusal-as}
 use Rattle.zolkirta.proofs.fetch_answer.Statement.{statement}
 use Rattle.zolkirta.proofs.fetch_answer.Tie as tie
 

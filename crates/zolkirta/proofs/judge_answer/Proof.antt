@@ -1,11 +1,11 @@
 -- `judge_answer` meets its contract: the blocks are copied from the certificate, or the refusal stands; the demands follow.
 use native.Mathlib.Omega.{arith}
 use mathlib.Core.Path.{ap, refl, sym, _∙_}
-use Rattle.rules.specs.Bytes.{byteAt}
-use Rattle.rules.specs.SoundModel.{Bytes}
-use Rattle.rules.specs.Answers.{Answer}
+use Rattle.rules.specs.definitions.Bytes.{byteAt}
+use Rattle.rules.specs.definitions.SoundModel.{Bytes}
+use Rattle.rules.specs.definitions.Answers.{Answer}
 use Rattle.zolkirta.specs.CallsLaws.{demands-hold}
-use Rattle.verdict.specs.VerdictLaws.{without-as, found-accepted, found-refused, refused-as, head-told}
+use Rattle.answer.specs.VerdictLaws.{without-as, found-accepted, found-refused, refused-as, head-told}
 use Rattle.zolkirta.specs.OutcomeLaws.{part-length, accepted-is}
 use borrow.Author.Needs.{needs}
 use Rattle.zolkirta.proofs.judge_answer.Statement.{statement}

@@ -1,6 +1,6 @@
 -- `reduce_accepted` meets its contract: the file was written, or there was no room for it.
 use native.Mathlib.Omega.{arith}
-use Rattle.verdict.specs.VerdictLaws.{without-as}
+use Rattle.answer.specs.VerdictLaws.{without-as}
 use Rattle.zolkirta.specs.OutcomeLaws.{reduced-short, reduced-whole}
 use borrow.Author.Needs.{needs}
 use Rattle.zolkirta.proofs.reduce_accepted.Statement.{statement}

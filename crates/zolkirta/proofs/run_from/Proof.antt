@@ -1,6 +1,6 @@
 -- `run_from` meets its contract.
-use Rattle.bisimulation.specs.ChoiceLaws.{less, notLess}
-use Rattle.rules.specs.Answers.{runAnswer}
+use Rattle.bisimulation.specs.argument.ChoiceLaws.{less, notLess}
+use Rattle.rules.specs.definitions.Answers.{runAnswer}
 use mathlib.Core.Path.{refl}
 use native.Mathlib.Omega.{arith}
 use borrow.Author.Needs.{needs}

@@ -1,7 +1,7 @@
 -- `zolkirta_fetch` meets its contract.
-use Rattle.rules.specs.AnswerLaws.{fetch-number}
-use Rattle.rules.specs.Answers.{Answer, FetchNumber}
-use Rattle.rules.specs.Limits.{limits}
+use Rattle.rules.specs.argument.AnswerLaws.{fetch-number}
+use Rattle.rules.specs.definitions.Answers.{Answer, FetchNumber}
+use Rattle.rules.specs.definitions.Limits.{limits}
 use mathlib.Core.Path.{ap, subst⁻¹}
 use borrow.Author.Needs.{needs}
 use Rattle.zolkirta.proofs.zolkirta_fetch.Statement.{statement}

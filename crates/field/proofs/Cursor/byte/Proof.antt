@@ -1,6 +1,6 @@
 -- `Cursor::byte` meets its contract: the element of the slice is the field.
 use native.Mathlib.Omega.{arith}
-use Rattle.rules.specs.Bytes.{byteAt}
+use Rattle.rules.specs.definitions.Bytes.{byteAt}
 use borrow.Author.Needs.{needs}
 use Rattle.field.proofs.Cursor.byte.Statement.{statement}
 use Rattle.field.proofs.Cursor.byte.Tie as tie

@@ -1,6 +1,6 @@
 -- `Cursor::pair` meets its contract: the two elements are below 256, so the sum fits and is the field.
 use native.Mathlib.Omega.{arith}
-use Rattle.rules.specs.Bytes.{byteAt, twoAt}
+use Rattle.rules.specs.definitions.Bytes.{byteAt, twoAt}
 use borrow.Author.Needs.{needs}
 use Rattle.field.proofs.Cursor.pair.Statement.{statement}
 use Rattle.field.proofs.Cursor.pair.Tie as tie

@@ -1,6 +1,6 @@
 -- `Cursor::quad` meets its contract: the second pair stands two bytes after the first.
 use native.Mathlib.Omega.{arith}
-use Rattle.rules.specs.Bytes.{fourAt}
+use Rattle.rules.specs.definitions.Bytes.{fourAt}
 use Rattle.field.specs.Taken.{taken-at}
 use borrow.Author.Needs.{needs}
 use Rattle.field.proofs.Cursor.quad.Statement.{statement}

@@ -1,0 +1,31 @@
+-- What a call answers, in document 01's terms.
+use Prim.Native.Nat.{ℕ, _+_, _≤_}
+use mathlib.Core.Path.{_≡_}
+use mathlib.Core.List.{List}
+use lib.ListN.{length}
+use Rattle.bisimulation.specs.definitions.Choice.{ifSame}
+use Rattle.rules.specs.definitions.Answers as rules
+use Rattle.rules.specs.definitions.Answers.{Outcome}
+use Rattle.answer.specs.declared.Answer.{Answer}
+
+-- the struct of numbers as document 01's answer
+abbrev pub answered : Answer → rules.Answer
+answered a =
+    record {
+      number = a .number;
+      file = a .file;
+      place = a .place;
+      stretchStart = a .«stretch_start»;
+      stretchLength = a .«stretch_length»;
+      written = a .written;
+    }
+
+-- the stretch of an answer lies in its file
+pub record StretchInside (model certificate : List ℕ) (r : Answer) : Type 0 where
+  pub fits : r .«stretch_start» + r .«stretch_length» ≤ ifSame (r .file) 2 (length certificate) (length model)
+
+-- a call's answer and the lent buffer afterwards are those of an outcome of document 01
+pub record OutcomeIs (o : Outcome) (model certificate after : List ℕ) (r : Answer) : Type 0 where
+  pub answer : answered r ≡ o .answer
+  pub buffer : after ≡ o .buffer
+  pub inside : StretchInside model certificate r

@@ -1,0 +1,19 @@
+-- Laws and theorems: the argument, which the prover has read.
+pub mod ChoiceLaws
+pub mod SumLaws
+pub mod Product
+pub mod ProductLaws
+pub mod PairsLaws
+pub mod LargestPairs
+pub mod PairsLeftLaws
+pub mod BlocksLargest
+pub mod Spelling
+pub mod Value
+pub mod ValueLaws
+pub mod Layers
+pub mod Raised
+pub mod RaisedLaws
+pub mod Duality
+pub mod Own
+pub mod Respelled
+pub mod Plain

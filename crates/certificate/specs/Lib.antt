@@ -1,0 +1,2 @@
+pub mod CertificateJudged
+pub mod Refuting

@@ -1,4 +1,0 @@
-pub mod Kept
-pub mod DistinctLaws
-pub mod RoomLaws
-pub mod KeptLaws

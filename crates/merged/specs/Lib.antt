@@ -1,4 +1,0 @@
-pub mod Merged
-pub mod Weights
-pub mod WeightsLaws
-pub mod MergedLaws

@@ -1,0 +1,78 @@
+-- `add_weights` meets its contract. The invariant is `Adding`.
+use native.Mathlib.Omega.{arith}
+use borrow.Author.Needs.{needs}
+use Rattle.transition.specs.Known.{entriesOf}
+use Rattle.merged_transition.specs.WeightsLaws.{Adding, adding-start, adding-state, adding-block, adding-fits, adding-turn, adding-end}
+use Rattle.merged_transition.proofs.add_weights.Statement.{statement}
+use Rattle.merged_transition.proofs.add_weights.Tie as tie
+
+abbrev Inv-loop : tie.InvT-loop
+Inv-loop s places r blocks weights₀ left₀ place₀ weights left place =
+    Adding s blocks (entriesOf s r) weights left (place .at)
+
+abbrev μ-loop : tie.MeasureT-loop
+μ-loop s places r blocks weights₀ left₀ place₀ weights left place = left
+
+fields-of-requires : tie.Need-fields-of-requires Inv-loop μ-loop
+fields-of-requires c κs = search needs
+
+loop-holds : tie.Need-loop-holds Inv-loop μ-loop
+loop-holds c = adding-start (c .before .before .before .before .pre) (c .before .fields-of .ensures)
+
+entry-at-requires : tie.Need-entry-at-requires Inv-loop μ-loop
+entry-at-requires c κs = omega arith
+
+block-of-requires : tie.Need-block-of-requires Inv-loop μ-loop
+block-of-requires c κs = adding-state _ (c .before .before .loop .inv) (omega arith) (c .entry-at .ensures)
+
+element-copy-out-sum : tie.Need-element-copy-out-sum Inv-loop μ-loop
+element-copy-out-sum c =
+    adding-block _ (c .before .before .before .loop .inv) (omega arith) (c .before .entry-at .ensures) (c .block-of .ensures .0)
+
+mul-sum : tie.Need-mul-sum Inv-loop μ-loop
+mul-sum c = record { fits = omega (arith, element-copy-out-sum c) }
+
+add-sum : tie.Need-add-sum Inv-loop μ-loop
+add-sum c =
+    record {
+      fits = omega (arith, adding-fits (c .before .before .before .before .before .loop .inv) (element-copy-out-sum (c .before .before)), c .before .before .before .entry-at .ensures .small);
+    }
+
+mul-weights : tie.Need-mul-weights Inv-loop μ-loop
+mul-weights c = record { fits = omega (arith, element-copy-out-sum (c .before .before)) }
+
+element-write-weights : tie.Need-element-write-weights Inv-loop μ-loop
+element-write-weights c = element-copy-out-sum (c .before .before)
+
+sub-left : tie.Need-sub-left Inv-loop μ-loop
+sub-left c = omega arith
+
+loop-less : tie.Need-loop-less Inv-loop μ-loop
+loop-less c = omega arith
+
+loop-again : tie.Need-loop-again Inv-loop μ-loop
+loop-again c =
+    adding-turn _ (c .before .before .before .before .before .before .loop .inv) (omega arith) (c .before .before .before .before .entry-at .ensures) (c .before .before .before .block-of .ensures .0) (omega arith)
+
+returns : tie.Need-returns Inv-loop μ-loop
+returns c = adding-end _ (c .before .loop .inv) (omega arith)
+
+pub add-weights-spec : {M : Type 1} → statement M
+add-weights-spec =
+    tie.close
+    (tie.spec
+    Inv-loop
+    μ-loop
+    fields-of-requires
+    loop-holds
+    entry-at-requires
+    block-of-requires
+    mul-sum
+    element-copy-out-sum
+    add-sum
+    mul-weights
+    element-write-weights
+    sub-left
+    loop-less
+    loop-again
+    returns)

@@ -1,0 +1,43 @@
+-- `write_entry` meets its contract: a block without a weight has no entry.
+use native.Mathlib.Omega.{arith}
+use Rattle.merged_transition.specs.WeightsLaws.{entry-room, wrote-none, wrote-some}
+use borrow.Author.Needs.{needs}
+use Rattle.merged_transition.proofs.write_entry.Statement.{statement}
+use Rattle.merged_transition.proofs.write_entry.Tie as tie
+
+mul-weight : tie.Need-mul-weight
+mul-weight c = search needs
+
+element-copy-out-weight : tie.Need-element-copy-out-weight
+element-copy-out-weight c = search needs
+
+returns : tie.Need-returns
+returns c = wrote-none (c .before .before .before .pre) (omega arith)
+
+mul-weights : tie.Need-mul-weights
+mul-weights c = search needs
+
+element-write-weights : tie.Need-element-write-weights
+element-write-weights c = search needs
+
+entry-requires : tie.Need-entry-requires
+entry-requires c κs = (entry-room (c .before .before .before .before .pre) (λ e. absurd (omega arith)), omega arith, omega arith)
+
+same-length : tie.Need-same-length
+same-length c = search needs
+
+returns-2 : tie.Need-returns-2
+returns-2 c = wrote-some (c .before .before .before .before .before .before .before .pre) (λ e. absurd (omega arith)) (c .before .before .entry .ensures)
+
+pub write-entry-spec : {M : Type 1} → statement M
+write-entry-spec =
+    tie.close
+    (tie.spec
+    mul-weight
+    element-copy-out-weight
+    returns
+    mul-weights
+    element-write-weights
+    entry-requires
+    same-length
+    returns-2)

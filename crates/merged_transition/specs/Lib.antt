@@ -1,0 +1,4 @@
+pub mod MergedTransition
+pub mod Weights
+pub mod WeightsLaws
+pub mod MergedTransitionLaws

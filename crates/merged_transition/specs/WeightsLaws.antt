@@ -1,0 +1,346 @@
+-- Laws of the weights by block and of their entries.
+use Prim.Native.Nat.{ℕ, zero, suc, _+_, _*_, _-_, _≤_, _<_}
+use mathlib.Core.Path.{_≡_, refl, sym, _∙_, ap, ap₂, subst}
+use mathlib.Core.List.{List, [], _∷_, _++_, append-assoc, append-nil}
+use lib.ListN.{length, getD, set, length-set, length-append, replicate, length-replicate, getD-replicate, take-append-drop}
+use lib.Seq.{getD-set-same, getD-set-other}
+use native.Mathlib.Decide.{ℕ-discrete}
+use native.Mathlib.Omega.{arith}
+use Rattle.bisimulation.specs.definitions.Choice.{ifSame}
+use Rattle.bisimulation.specs.argument.ChoiceLaws.{same, notSame, eitherSame}
+use Rattle.rules.specs.definitions.Bytes.{byteAt, twoAt, twoBytes}
+use Rattle.rules.specs.definitions.Limits.{limits}
+use Rattle.rules.specs.definitions.Model.{Entry, entriesBytes}
+use Rattle.rules.specs.definitions.Reading.{entryCountAt, entriesAt, placeOf}
+use Rattle.rules.specs.argument.ReadBack.{entriesBytes-length}
+use Rattle.rules.specs.definitions.Quotient.{weightToBlock, blockEntries}
+use Rattle.rules.specs.definitions.SoundModel.{Each, sumOver}
+use Rattle.model_records.specs.declared.Fields.{Fields}
+use Rattle.transition.specs.declared.Entry as read
+use Rattle.transition.specs.Known.{FieldsOf, entriesOf}
+use Rattle.transition.specs.KnownLaws.{entries-known}
+use Rattle.transition.specs.Terms.{EntryTaken}
+use Rattle.writer.specs.Appends.{Appends}
+use Rattle.writer.specs.AppendsLaws.{append-more}
+use Rattle.merged_transition.specs.MergedTransition.{NoWeights}
+use Rattle.merged_transition.specs.Weights.{weightIn, entryOf, weightEntries, CanAdd, WeightsOf, CanCount, CanWriteEntry, WroteEntry, CanWriteEntries, WroteEntries}
+
+-- no weights
+pub no-weights : NoWeights (replicate 64 0)
+no-weights = record { size = length-replicate {A = ℕ} 64 0; none = λ b h. getD-replicate {A = ℕ} 64 b 0 0 h }
+
+-- a weight to a block is at most the whole, and none leads past the blocks of the states
+pub weight-light : (blocks : List ℕ) (es : List Entry) (b : ℕ) → weightToBlock blocks es b ≤ sumOver (λ (e : Entry). e .weight) es
+unfolding weightToBlock sumOver
+weight-light blocks [] b = omega arith
+weight-light blocks (e ∷ es) b =
+    let here : ifSame (getD blocks (e .state) 0) b (e .weight) 0 ≤ e .weight = eitherSame (λ (x : ℕ). x ≤ e .weight) _ _ (omega arith) (omega arith) in
+    omega (arith, here, weight-light blocks es b)
+
+pub weight-past : (blocks : List ℕ) (n k : ℕ) → ((v : ℕ) → v < n → getD blocks v 0 < k) → (es : List Entry) → Each (λ (e : Entry). e .state < n) es → (b : ℕ) → k ≤ b → weightToBlock blocks es b ≡ 0
+unfolding weightToBlock Each
+weight-past blocks n k below [] known b h = refl
+weight-past blocks n k below (e ∷ es) known b h =
+    let there = below (e .state) (known .0) in
+    let here : 0 ≡ ifSame (getD blocks (e .state) 0) b (e .weight) 0 = notSame (e .weight) (λ q. absurd (omega arith)) refl in
+    omega (arith, here, weight-past blocks n k below es (known .1) b h)
+
+-- what is known before each entry of a transition: the weights so far and the entries left make up the whole
+pub record Adding (s blocks : List ℕ) (all : List Entry) (weights : List ℕ) (left at : ℕ) : Type 0 where
+  pub inside : at + 3 * left ≤ length s
+  pub states : Each (λ (e : Entry). e .state < length blocks) (entriesAt s left at)
+  pub below : (v : ℕ) → v < length blocks → getD blocks v 0 < limits .states
+  pub size : length weights ≡ limits .states
+  pub makesUp : (b : ℕ) → b < limits .states → weightIn weights b + weightToBlock blocks (entriesAt s left at) b ≡ weightToBlock blocks all b
+  pub light : (b : ℕ) → weightToBlock blocks all b ≤ 65535
+
+pub adding-start : {s places blocks weights : List ℕ} {r : ℕ} → CanAdd s places r blocks weights → {f : Fields} → FieldsOf s r f → Adding s blocks (entriesOf s r) weights (f .count) (f .entries .at)
+adding-start {s} {places} {blocks} {weights} {r} a {f} t =
+    let k = entries-known (a .transition) in
+    subst (λ (n : ℕ). Adding s blocks (entriesOf s r) weights n (f .entries .at)) (sym (t .count))
+    (subst (λ (p : ℕ). Adding s blocks (entriesOf s r) weights (entryCountAt s (placeOf s r)) p) (sym (t .entries))
+    (record {
+      inside = k .inside;
+      states = subst (λ (n : ℕ). Each (λ (e : Entry). e .state < n) (entriesOf s r)) (sym (a .whole)) (k .states);
+      below = λ v h. a .below v (omega (arith, h, a .whole));
+      size = a .none .size;
+      makesUp = λ b h. omega (arith, a .none .none b h);
+      light = λ b. omega (arith, weight-light blocks (entriesOf s r) b, k .whole, k .light);
+    }))
+
+module _ {s blocks : List ℕ} {all : List Entry} where
+  pub adding-state : (left : ℕ) {at : ℕ} {weights : List ℕ} {e : read.Entry} → Adding s blocks all weights left at → 0 < left → EntryTaken s at e → e .state < length blocks
+  unfolding Each entriesAt
+  adding-state zero h some t = absurd (omega arith)
+  adding-state (suc left) h some t = omega (arith, h .states .0, t .state)
+
+  pub adding-block : (left : ℕ) {at : ℕ} {weights : List ℕ} {e : read.Entry} {b : ℕ} → Adding s blocks all weights left at → 0 < left → EntryTaken s at e → b ≡ getD blocks (e .state) 0 → b < limits .states
+  adding-block left {e = e} h some t q = omega (arith, h .below (e .state) (adding-state left h some t), q)
+
+  pub adding-fits : {left at : ℕ} {weights : List ℕ} {b : ℕ} → Adding s blocks all weights left at → b < limits .states → weightIn weights b ≤ 65535
+  adding-fits {b = b} h less = omega (arith, h .makesUp b less, h .light b)
+
+  one-turn : (left at : ℕ) (weights : List ℕ) (e : read.Entry) (b total : ℕ) → Adding s blocks all weights (suc left) at → EntryTaken s at e → b ≡ getD blocks (e .state) 0 → total ≡ weightIn weights b + e .weight → Adding s blocks all (set weights b total) left (at + 3)
+  unfolding Each entriesAt weightToBlock
+  one-turn left at weights e b total h t q u =
+      record {
+        inside = omega (arith, h .inside);
+        states = h .states .1;
+        below = h .below;
+        size = length-set weights b total ∙ h .size;
+        makesUp = λ i less. go i less (ℕ-discrete i b);
+        light = h .light;
+      }
+    where
+      there : b ≡ getD blocks (byteAt s at) 0
+      there = q ∙ ap (λ (v : ℕ). getD blocks v 0) (t .state)
+
+      go : (i : ℕ) → i < limits .states → Dec (i ≡ b) → weightIn (set weights b total) i + weightToBlock blocks (entriesAt s left (at + 3)) i ≡ weightToBlock blocks all i
+      go i less (yes p) =
+          let here : twoAt s (at + 1) ≡ ifSame (getD blocks (byteAt s at) 0) i (twoAt s (at + 1)) 0 = same 0 (sym there ∙ sym p) refl in
+          let new : weightIn (set weights b total) i ≡ total = ap (weightIn (set weights b total)) p ∙ getD-set-same weights b total 0 (omega (arith, less, p, h .size)) in
+          let old : weightIn weights i ≡ weightIn weights b = ap (weightIn weights) p in
+          omega (arith, h .makesUp i less, here, new, old, u, t .weight)
+      go i less (no p) =
+          let here : 0 ≡ ifSame (getD blocks (byteAt s at) 0) i (twoAt s (at + 1)) 0 = notSame _ (λ d. p (sym d ∙ sym there)) refl in
+          omega (arith, h .makesUp i less, here, getD-set-other weights b i total 0 p)
+
+  pub adding-turn : (left : ℕ) {at : ℕ} {weights : List ℕ} {e : read.Entry} {b total : ℕ} → Adding s blocks all weights left at → 0 < left → EntryTaken s at e → b ≡ getD blocks (e .state) 0 → total ≡ weightIn weights b + e .weight → Adding s blocks all (set weights b total) (left - 1) (e .next .at)
+  adding-turn zero h some t q u = absurd (omega arith)
+  adding-turn (suc left) {at} {weights} {e} {b} {total} h some t q u =
+      let one : left ≡ suc left - 1 = omega arith in
+      subst (λ (k : ℕ). Adding s blocks all (set weights b total) k (e .next .at)) one
+      (subst (λ (p : ℕ). Adding s blocks all (set weights b total) left p) (sym (t .next))
+      (one-turn left at weights e b total h t q u))
+
+  pub adding-end : (left : ℕ) {at : ℕ} {weights : List ℕ} → Adding s blocks all weights left at → left ≤ 0 → WeightsOf blocks all weights
+  unfolding entriesAt weightToBlock
+  adding-end zero h none = record { size = h .size; held = λ b less. omega (arith, h .makesUp b less) }
+  adding-end (suc left) h none = absurd (omega arith)
+
+-- the entries by weights that are the same
+pub entries-same : (f g : ℕ → ℕ) (k : ℕ) → ((b : ℕ) → b < k → f b ≡ g b) → weightEntries f k ≡ weightEntries g k
+unfolding weightEntries
+entries-same f g zero h = refl
+entries-same f g (suc b) h =
+    ap₂ (λ (l : List Entry) (w : ℕ). l ++ entryOf w b) (entries-same f g b (λ i less. h i (omega arith))) (h b (omega arith))
+
+-- those by the weights of a transition are the merged ones
+entries-last : (blocks : List ℕ) (es : List Entry) (left b : ℕ) → blockEntries blocks es (suc left) b ≡ blockEntries blocks es left b ++ entryOf (weightToBlock blocks es (b + left)) (b + left)
+unfolding blockEntries
+entries-last blocks es zero b =
+    let e : b ≡ b + 0 = omega arith in
+    append-nil (entryOf (weightToBlock blocks es b) b) ∙ ap (λ (i : ℕ). entryOf (weightToBlock blocks es i) i) e
+entries-last blocks es (suc left) b =
+    let e : b + 1 + left ≡ b + suc left = omega arith in
+    let first = entryOf (weightToBlock blocks es b) b in
+    ap (λ (l : List Entry). first ++ l) (entries-last blocks es left (b + 1))
+    ∙ ap (λ (i : ℕ). first ++ (blockEntries blocks es left (b + 1) ++ entryOf (weightToBlock blocks es i) i)) e
+    ∙ sym (append-assoc first (blockEntries blocks es left (b + 1)) (entryOf (weightToBlock blocks es (b + suc left)) (b + suc left)))
+
+pub entries-merged : (blocks : List ℕ) (es : List Entry) (k : ℕ) → weightEntries (weightToBlock blocks es) k ≡ blockEntries blocks es k 0
+unfolding weightEntries blockEntries
+entries-merged blocks es zero = refl
+entries-merged blocks es (suc b) =
+    let e : b ≡ 0 + b = omega arith in
+    ap (λ (l : List Entry). l ++ entryOf (weightToBlock blocks es b) b) (entries-merged blocks es b)
+    ∙ ap (λ (i : ℕ). blockEntries blocks es b 0 ++ entryOf (weightToBlock blocks es i) i) e
+    ∙ sym (entries-last blocks es b 0)
+
+-- a block has one entry at most
+entry-few : (weight b : ℕ) → length (entryOf weight b) ≤ 1
+entry-few weight b = eitherSame (λ (l : List Entry). length l ≤ 1) _ _ (omega arith) (omega arith)
+
+pub entries-few : (f : ℕ → ℕ) (k : ℕ) → length (weightEntries f k) ≤ k
+unfolding weightEntries
+entries-few f zero = omega arith
+entries-few f (suc b) =
+    omega (arith, length-append (weightEntries f b) (entryOf (f b) b), entries-few f b, entry-few (f b) b)
+
+pub entries-grow : (f : ℕ → ℕ) (b k : ℕ) → b < k → length (weightEntries f b) + length (entryOf (f b) b) ≤ length (weightEntries f k)
+unfolding weightEntries
+entries-grow f b zero h = absurd (omega arith)
+entries-grow f b (suc k) h = go (ℕ-discrete b k) (entries-grow f b k)
+  where
+    go : Dec (b ≡ k) → (b < k → length (weightEntries f b) + length (entryOf (f b) b) ≤ length (weightEntries f k)) → length (weightEntries f b) + length (entryOf (f b) b) ≤ length (weightEntries f k ++ entryOf (f k) k)
+    go (yes q) ih = subst (λ (i : ℕ). length (weightEntries f b) + length (entryOf (f b) b) ≤ length (weightEntries f i ++ entryOf (f i) i)) q (omega (arith, length-append (weightEntries f b) (entryOf (f b) b)))
+    go (no q) ih = omega (arith, length-append (weightEntries f k) (entryOf (f k) k), ih (omega arith))
+
+-- weights that differ at one block at most differ in one entry at most
+one-differs : (f g : ℕ → ℕ) (c : ℕ) → ((b : ℕ) → (b ≡ c → ⊥) → f b ≡ g b) → (k : ℕ) → length (weightEntries f k) ≤ length (weightEntries g k) + 1
+unfolding weightEntries
+one-differs f g c h zero = omega arith
+one-differs f g c h (suc k) = go (ℕ-discrete k c) (one-differs f g c h k)
+  where
+    go : Dec (k ≡ c) → length (weightEntries f k) ≤ length (weightEntries g k) + 1 → length (weightEntries f k ++ entryOf (f k) k) ≤ length (weightEntries g k ++ entryOf (g k) k) + 1
+    go (yes q) ih =
+        let below : length (weightEntries f k) ≡ length (weightEntries g k) = ap length (entries-same f g k (λ b less. h b (λ e. absurd (omega arith)))) in
+        omega (arith, below, length-append (weightEntries f k) (entryOf (f k) k), length-append (weightEntries g k) (entryOf (g k) k), entry-few (f k) k)
+    go (no q) ih =
+        let here : length (entryOf (f k) k) ≡ length (entryOf (g k) k) = ap (λ (w : ℕ). length (entryOf w k)) (h k q) in
+        omega (arith, here, ih, length-append (weightEntries f k) (entryOf (f k) k), length-append (weightEntries g k) (entryOf (g k) k))
+
+entry-none : {weight : ℕ} (b : ℕ) → weight ≡ 0 → [] ≡ entryOf weight b
+entry-none b e = same _ e refl
+
+entry-some : {weight : ℕ} (b : ℕ) → (weight ≡ 0 → ⊥) → (record { state = b; weight = weight } ∷ []) ≡ entryOf weight b
+entry-some b n = notSame _ n refl
+
+no-entries : (f : ℕ → ℕ) → ((b : ℕ) → f b ≡ 0) → (k : ℕ) → [] ≡ weightEntries f k
+unfolding weightEntries
+no-entries f h zero = refl
+no-entries f h (suc b) = ap₂ (λ (xs ys : List Entry). xs ++ ys) (no-entries f h b) (entry-none b (h b))
+
+-- each of them takes one of the transition's entries at least
+pub entries-shorter : (s blocks : List ℕ) (k left at : ℕ) → length (weightEntries (weightToBlock blocks (entriesAt s left at)) k) ≤ left
+unfolding entriesAt weightToBlock
+entries-shorter s blocks k zero at =
+    let none : 0 ≡ length (weightEntries (weightToBlock blocks []) k) = ap length (no-entries (weightToBlock blocks []) (λ b. refl) k) in
+    omega (arith, none)
+entries-shorter s blocks k (suc left) at =
+    omega (arith, entries-shorter s blocks k left (at + 3), one-differs (weightToBlock blocks (entriesAt s (suc left) at)) (weightToBlock blocks (entriesAt s left (at + 3))) (getD blocks (byteAt s at) 0) other k)
+  where
+    other : (b : ℕ) → (b ≡ getD blocks (byteAt s at) 0 → ⊥) → weightToBlock blocks (entriesAt s (suc left) at) b ≡ weightToBlock blocks (entriesAt s left (at + 3)) b
+    other b o =
+        let here : 0 ≡ ifSame (getD blocks (byteAt s at) 0) b (twoAt s (at + 1)) 0 = notSame (twoAt s (at + 1)) (λ q. o (sym q)) refl in
+        omega (arith, here)
+
+-- what is known before each block that is counted, from the last one down: the count and the blocks left make up the whole
+pub record Counting (weights : List ℕ) (k b count : ℕ) : Type 0 where
+  pub table : CanCount weights k
+  pub among : b ≤ k
+  pub makesUp : count + length (weightEntries (weightIn weights) b) ≡ length (weightEntries (weightIn weights) k)
+
+pub counting-start : {weights : List ℕ} {k : ℕ} → CanCount weights k → Counting weights k k 0
+counting-start h = record { table = h; among = omega arith; makesUp = omega arith }
+
+pub counting-fits : {weights : List ℕ} {k b count : ℕ} → Counting weights k b count → count < 256
+counting-fits {weights} {k} h = omega (arith, h .makesUp, entries-few (weightIn weights) k, h .table .few)
+
+one-counted : (weight b count now : ℕ) → now ≡ ifSame weight 0 count (count + 1) → now ≡ count + length (entryOf weight b)
+one-counted weight b count now e = go (ℕ-discrete weight 0)
+  where
+    go : Dec (weight ≡ 0) → now ≡ count + length (entryOf weight b)
+    go (yes q) =
+        let this : count ≡ ifSame weight 0 count (count + 1) = same _ q refl in
+        omega (arith, e, this, ap length (entry-none b q))
+    go (no q) =
+        let this : count + 1 ≡ ifSame weight 0 count (count + 1) = notSame _ q refl in
+        omega (arith, e, this, ap length (entry-some b q))
+
+pub counting-turn : {weights : List ℕ} {k : ℕ} (b : ℕ) {count now : ℕ} → Counting weights k b count → 0 < b → now ≡ ifSame (weightIn weights (b - 1)) 0 count (count + 1) → Counting weights k (b - 1) now
+unfolding weightEntries
+counting-turn zero h some e = absurd (omega arith)
+counting-turn {weights} {k} (suc b) {count} {now} h some e =
+    let one : suc b - 1 ≡ b = omega arith in
+    subst (λ (i : ℕ). Counting weights k i now) (sym one)
+    (record {
+      table = h .table;
+      among = omega (arith, h .among);
+      makesUp =
+          omega (
+            arith,
+            h .makesUp,
+            length-append (weightEntries (weightIn weights) b) (entryOf (weightIn weights b) b),
+            one-counted (weightIn weights b) b count now (subst (λ (i : ℕ). now ≡ ifSame (weightIn weights i) 0 count (count + 1)) one e),
+          );
+    })
+
+pub counting-end : {weights : List ℕ} {k : ℕ} (b : ℕ) {count : ℕ} → Counting weights k b count → b ≤ 0 → count ≡ length (weightEntries (weightIn weights) k)
+unfolding weightEntries
+counting-end zero h none = omega (arith, h .makesUp)
+counting-end (suc b) h none = absurd (omega arith)
+
+-- the bytes of entries after entries
+entries-bytes : (xs ys : List Entry) → entriesBytes (xs ++ ys) ≡ entriesBytes xs ++ entriesBytes ys
+unfolding entriesBytes twoBytes
+entries-bytes [] ys = refl
+entries-bytes (e ∷ xs) ys = ap (λ (l : List ℕ). e .state ∷ (twoBytes (e .weight) ++ l)) (entries-bytes xs ys)
+
+append-none : {at : ℕ} {out : List ℕ} → at ≤ length out → Appends [] at out out at
+append-none {at} {out} h = record { place = omega arith; room = h; size = refl; written = sym (take-append-drop at out) }
+
+-- the entry of one block
+module _ {weights : List ℕ} {b : ℕ} {out : List ℕ} {at : ℕ} (h : CanWriteEntry weights b out at) where
+  pub entry-room : (weightIn weights b ≡ 0 → ⊥) → at + 3 ≤ length out
+  entry-room n = omega (arith, h .room, ap length (entry-some b n))
+
+  pub wrote-none : weightIn weights b ≡ 0 → WroteEntry b weights weights at out out at
+  unfolding entriesBytes
+  wrote-none e =
+      record {
+        appended = subst (λ (es : List Entry). Appends (entriesBytes es) at out out at) (entry-none b e) (append-none (omega (arith, h .room)));
+        size = h .size;
+        gone = e;
+        kept = λ i n. refl;
+      }
+
+  pub wrote-some : {written : List ℕ} {next : ℕ} → (weightIn weights b ≡ 0 → ⊥) → Appends (b ∷ twoBytes (weightIn weights b)) at out written next → WroteEntry b weights (set weights b 0) at out written next
+  unfolding entriesBytes twoBytes
+  wrote-some {written} {next} n a =
+      record {
+        appended = subst (λ (es : List Entry). Appends (entriesBytes es) at out written next) (entry-some b n) a;
+        size = length-set weights b 0 ∙ h .size;
+        gone = getD-set-same weights b 0 0 (omega (arith, h .size, h .inside));
+        kept = λ i o. getD-set-other weights b i 0 0 o;
+      }
+
+-- what is known before each block that is written: the entries of those before it stand
+pub record Writing (before : List ℕ) (k : ℕ) (out : List ℕ) (at : ℕ) (weights written : List ℕ) (b next : ℕ) : Type 0 where
+  pub asked : CanWriteEntries before k out at
+  pub among : b ≤ k
+  pub done : WroteEntries b before weights at out written next
+
+module _ {before : List ℕ} {k : ℕ} {out : List ℕ} {at : ℕ} where
+  pub writing-start : CanWriteEntries before k out at → Writing before k out at before out 0 at
+  unfolding weightEntries entriesBytes
+  writing-start h =
+      record {
+        asked = h;
+        among = omega arith;
+        done = record { appended = append-none (omega (arith, h .room)); size = h .table .size; gone = λ i less. absurd (omega arith); kept = λ i le. refl };
+      }
+
+  pub writing-asks : {weights written : List ℕ} {b next : ℕ} → Writing before k out at weights written b next → b < k → CanWriteEntry weights b written next
+  writing-asks {weights} {written} {b} {next} h less =
+      let here : weightIn weights b ≡ weightIn before b = h .done .kept b (omega arith) in
+      let entry : length (entryOf (weightIn weights b) b) ≡ length (entryOf (weightIn before b) b) = ap (λ (w : ℕ). length (entryOf w b)) here in
+      record {
+        size = h .done .size;
+        inside = omega (arith, less, h .asked .table .few);
+        light = omega (arith, here, h .asked .light b less);
+        room = omega (arith, entry, h .asked .room, h .done .appended .place, h .done .appended .size, entriesBytes-length (weightEntries (weightIn before) b), entries-grow (weightIn before) b k less);
+      }
+
+  pub writing-turn : {weights written after more : List ℕ} {b next past : ℕ} → Writing before k out at weights written b next → b < k → WroteEntry b weights after next written more past → Writing before k out at after more (b + 1) past
+  unfolding weightEntries
+  writing-turn {weights} {written} {after} {more} {b} {next} {past} h less w =
+      record {
+        asked = h .asked;
+        among = omega arith;
+        done =
+            record {
+              appended = subst (λ (l : List ℕ). Appends l at out more past) bytes (append-more (h .done .appended) (w .appended));
+              size = w .size;
+              gone = λ i l. go i l (ℕ-discrete i b);
+              kept = λ i le. w .kept i (λ e. absurd (omega arith)) ∙ h .done .kept i (omega arith);
+            };
+      }
+    where
+      one : suc b ≡ b + 1
+      one = omega arith
+
+      bytes : entriesBytes (weightEntries (weightIn before) b) ++ entriesBytes (entryOf (weightIn weights b) b) ≡ entriesBytes (weightEntries (weightIn before) (b + 1))
+      bytes =
+          sym (entries-bytes (weightEntries (weightIn before) b) (entryOf (weightIn weights b) b))
+          ∙ ap (λ (x : ℕ). entriesBytes (weightEntries (weightIn before) b ++ entryOf x b)) (h .done .kept b (omega arith))
+          ∙ ap (λ (i : ℕ). entriesBytes (weightEntries (weightIn before) i)) one
+
+      go : (i : ℕ) → i < b + 1 → Dec (i ≡ b) → weightIn after i ≡ 0
+      go i l (yes q) = ap (weightIn after) q ∙ w .gone
+      go i l (no q) = w .kept i q ∙ h .done .gone i (omega arith)
+
+  pub writing-end : {weights written : List ℕ} {b next : ℕ} → Writing before k out at weights written b next → k ≤ b → WroteEntries k before weights at out written next
+  writing-end {weights} {written} {b} {next} h past =
+      let e : b ≡ k = omega (arith, h .among, past) in
+      subst (λ (i : ℕ). WroteEntries i before weights at out written next) e (h .done)

@@ -1,0 +1,117 @@
+// One transition merged by blocks: its weights added up by target block, and its record appended to a buffer.
+ghost use Prim.Native.Nat.{_+_, _<_};
+ghost use mathlib.Core.Path.{_≡_};
+ghost use lib.ListN.{length, getD};
+ghost use Rattle.bisimulation.specs.definitions.Choice.{ifSame};
+ghost use Rattle.transition.specs.Known.{entriesOf};
+ghost use Rattle.merged_transition.specs.MergedTransition.{NoWeights, CanMerge, Merged};
+ghost use Rattle.merged_transition.specs.Weights.{weightIn, weightEntries, CanAdd, WeightsOf, CanCount, CanWriteEntry, WroteEntry, CanWriteEntries, WroteEntries};
+use limits::STATES;
+use model::Places;
+
+// The weight to each block; all zero between transitions.
+pub type Weights = [usize; STATES];
+
+pub fn no_weights() -> Weights
+    ensures { λ r. ⌜ NoWeights r ⌝ }
+{
+    [0; STATES]
+}
+
+// The block of a state.
+pub fn block_of(blocks: &[u8], v: usize) -> usize
+    requires { ⌜ v < length (now blocks) ⌝ }
+    ensures { λ r. ⌜ (r ≡ getD (now (blocks .entry)) v 0) × (r < 256) ⌝ }
+{
+    blocks[v] as usize
+}
+
+// The weights of the transition r added up by target block.
+fn add_weights(s: &[u8], places: &Places, r: usize, blocks: &[u8], weights: &mut Weights)
+    requires { ⌜ CanAdd (now s) (now places) r (now blocks) (now weights) ⌝ }
+    ensures { λ x. ⌜ WeightsOf (now (blocks .entry)) (entriesOf (now (s .entry)) r) (now (weights .exit)) ⌝ }
+{
+    let t = transition::fields_of(s, places, r);
+    let mut left = t.count;
+    let mut place = t.entries;
+    while 0 < left {
+        let entry = transition::entry_at(s, place);
+        let b = block_of(blocks, entry.state);
+        let sum = weights[b] + entry.weight;
+        weights[b] = sum;
+        place = entry.next;
+        left -= 1;
+    }
+}
+
+// How many of the first k blocks have a weight.
+fn some_weights(weights: &Weights, k: usize) -> usize
+    requires { ⌜ CanCount (now weights) k ⌝ }
+    ensures { λ r. ⌜ r ≡ length (weightEntries (weightIn (now (weights .entry))) k) ⌝ }
+{
+    let mut b = k;
+    let mut count = 0;
+    while 0 < b {
+        b -= 1;
+        count = one_more(count, weights[b]);
+    }
+    count
+}
+
+fn one_more(count: usize, weight: usize) -> usize
+    requires { ⌜ count < 256 ⌝ }
+    ensures { λ r. ⌜ r ≡ ifSame weight 0 count (count + 1) ⌝ }
+{
+    if weight == 0 {
+        return count;
+    }
+    count + 1
+}
+
+// The entry of a block, if it has a weight, which is zero then.
+fn write_entry(weights: &mut Weights, b: usize, out: &mut [u8], at: usize) -> usize
+    requires { ⌜ CanWriteEntry (now weights) b (now out) at ⌝ }
+    ensures { λ x. ⌜ WroteEntry b (now (weights .entry)) (now (weights .exit)) at (now (out .entry)) (now (out .exit)) x ⌝ }
+{
+    let weight = weights[b];
+    if weight == 0 {
+        return at;
+    }
+    weights[b] = 0;
+    writer::entry(out, at, b, weight)
+}
+
+fn write_entries(weights: &mut Weights, k: usize, out: &mut [u8], at: usize) -> usize
+    requires { ⌜ CanWriteEntries (now weights) k (now out) at ⌝ }
+    ensures { λ x. ⌜ WroteEntries k (now (weights .entry)) (now (weights .exit)) at (now (out .entry)) (now (out .exit)) x ⌝ }
+{
+    let mut b = 0;
+    let mut next = at;
+    while b < k {
+        next = write_entry(weights, b, out, next);
+        b += 1;
+    }
+    next
+}
+
+// The record of the transition r, merged by the blocks, of which there are k. Hands back the place after it.
+pub fn write_merged(
+    s: &[u8],
+    places: &Places,
+    r: usize,
+    blocks: &[u8],
+    k: usize,
+    weights: &mut Weights,
+    out: &mut [u8],
+    at: usize,
+) -> usize
+    requires { ⌜ CanMerge (now s) (now places) r (now blocks) k (now weights) (now out) at ⌝ }
+    ensures { λ x. ⌜ Merged (now (s .entry)) r (now (blocks .entry)) (now (weights .exit)) at (now (out .entry)) (now (out .exit)) x ⌝ }
+{
+    let t = transition::fields_of(s, places, r);
+    let source = block_of(blocks, t.source);
+    add_weights(s, places, r, blocks, weights);
+    let count = some_weights(weights, k);
+    let next = writer::fixed(out, at, source, t.action, t.denominator, count);
+    write_entries(weights, k, out, next)
+}

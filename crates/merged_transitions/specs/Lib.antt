@@ -1,0 +1,4 @@
+pub mod MergedTransitions
+pub mod DistinctLaws
+pub mod RoomLaws
+pub mod MergedTransitionsLaws

@@ -1,0 +1,283 @@
+-- Laws of the merged transitions in a buffer: what a transition that is looked at comes to.
+use Prim.Native.Nat.{ℕ, zero, suc, _+_, _*_, _-_, _≤_, _<_}
+use mathlib.Core.Path.{_≡_, refl, sym, _∙_, ap, ap₂, subst}
+use mathlib.Core.Bool.{Bool, true, false}
+use mathlib.Core.List.{List, [], _∷_, _++_, append-assoc, append-nil}
+use lib.ListN.{length, getD, take, drop, length-append}
+use lib.Seq.{length-take-le, take-append-seam, drop-append-seam, take-all}
+use native.Mathlib.Omega.{arith}
+use Rattle.bisimulation.specs.definitions.Choice.{ifSame, ifTrue}
+use Rattle.bisimulation.specs.argument.ChoiceLaws.{same, notSame, isTrue, isFalse}
+use Rattle.rules.specs.definitions.Limits.{limits}
+use Rattle.rules.specs.definitions.Model.{Entry, Transition, Model, transitionBytes, transitionsBytes, noTransition, automatonOf}
+use Rattle.rules.specs.definitions.Reading.{statesOf, countOf, entryCountAt, transitionAt, modelAt, placeOf}
+use Rattle.rules.specs.definitions.SoundModel.{Each, sumOver, TransitionRules, SoundModel}
+use Rattle.rules.specs.argument.SoundModelLaws.{each-at, each-map}
+use Rattle.rules.specs.argument.ReadBack.{transitionBytes-length}
+use Rattle.rules.specs.argument.ModelAutomaton.{transition-is}
+use Rattle.rules.specs.argument.FetchedRun.{length-entriesAt}
+use Rattle.rules.specs.argument.KeyedSums.{each-all, sumOver-most, sumOver-length}
+use Rattle.rules.specs.definitions.Quotient.{blockCount, mergedTransition, fromBlock, isAmong, distinct, byBlock}
+use Rattle.rules.specs.argument.QuotientLaws.{merged-few, merged-rules, each-distinct, each-from, transitions-length}
+use Rattle.model_records.specs.declared.Fields.{Fields}
+use Rattle.transition.specs.Known.{Known, KnownTransition, FieldsOf}
+use Rattle.transition.specs.KnownLaws.{known-own, known-states, known-transitions, known-transition, few-transitions}
+use Rattle.writer.specs.Appends.{Appends}
+use Rattle.writer.specs.AppendsLaws.{front-kept, appended-part, appended-front}
+use Rattle.merged_transition.specs.MergedTransition.{NoWeights, BlocksBelow, CanMerge, Merged}
+use Rattle.same_transition.specs.SameTransition.{Fits, FitsFrom, StandAs, Stand, IsRepeated}
+use Rattle.merged_transitions.specs.declared.Kept.{Kept}
+use Rattle.merged_transitions.specs.MergedTransitions.{transitionsIn, Holds, before, here, InBlock, CanKeep, Keeps}
+use Rattle.merged_transitions.specs.DistinctLaws.{distinct-more, from-more, by-block-more}
+use Rattle.merged_transitions.specs.RoomLaws.{sizeOf, room}
+
+-- records one after the other
+transitions-append : (xs ys : List Transition) → transitionsBytes (xs ++ ys) ≡ transitionsBytes xs ++ transitionsBytes ys
+unfolding transitionsBytes
+transitions-append [] ys = refl
+transitions-append (x ∷ xs) ys =
+    ap (λ (l : List ℕ). transitionBytes x ++ l) (transitions-append xs ys) ∙ sym (append-assoc (transitionBytes x) (transitionsBytes xs) (transitionsBytes ys))
+
+-- a part in the middle: what stands between two places
+middle : (s xs ys : List ℕ) (start at : ℕ) → take at s ≡ xs ++ ys → start ≡ length xs → at ≡ start + length ys → at ≤ length s → take (at - start) (drop start s) ≡ ys
+middle s xs ys start at e f g h =
+    let size : at - start ≡ length ys = omega arith in
+    ap (λ (l : List ℕ). take (at - start) (drop start l)) (sym (lib.ListN.take-append-drop at s) ∙ ap (λ (l : List ℕ). l ++ drop at s) e ∙ append-assoc xs ys (drop at s))
+    ∙ ap₂ (λ (k : ℕ) (j : ℕ). take k (drop j (xs ++ (ys ++ drop at s)))) size f
+    ∙ ap (take (length ys)) (drop-append-seam xs (ys ++ drop at s))
+    ∙ take-append-seam ys (drop at s)
+
+-- sizes of records
+sizes : (ts : List Transition) → sumOver sizeOf ts ≡ 7 * sumOver (λ t. 1) ts + 3 * sumOver (λ (t : Transition). length (t .entries)) ts
+unfolding sumOver
+sizes [] = omega arith
+sizes (t ∷ ts) = omega (arith, sizes ts, transitionBytes-length t)
+
+-- a weight is at most the sum
+part-most : (es : List Entry) → Each (λ (e : Entry). e .weight ≤ sumOver (λ (x : Entry). x .weight) es) es
+unfolding Each sumOver
+part-most [] = tt
+part-most (e ∷ es) = (omega arith, each-map _ _ (λ x l. omega arith) es (part-most es))
+
+each-take : (P : Transition → Type 0) (r : ℕ) (ts : List Transition) → Each P ts → Each P (take r ts)
+unfolding Each
+each-take P zero ts h = tt
+each-take P (suc r) [] h = tt
+each-take P (suc r) (t ∷ ts) h = (h .0, each-take P r ts (h .1))
+
+-- the model's transitions
+module _ {s places : List ℕ} {n count : ℕ} (k : Known s n count places) where
+  pub count-is : length (transitionsIn s) ≡ count
+  unfolding automatonOf
+  count-is = known-transitions k
+
+  transition-at : (r : ℕ) → r < count → getD (transitionsIn s) r noTransition ≡ transitionAt s (placeOf s r)
+  transition-at r h = transition-is s r (omega (arith, h, k .transitions))
+
+  entries-at : (r : ℕ) → r < count → length (getD (transitionsIn s) r noTransition .entries) ≡ entryCountAt s (placeOf s r)
+  unfolding transitionAt
+  entries-at r h =
+      ap (λ (t : Transition). length (t .entries)) (transition-at r h) ∙ length-entriesAt s (entryCountAt s (placeOf s r)) (placeOf s r + 7)
+
+  -- their records have at most 4,864 bytes
+  few-bytes : sumOver sizeOf (transitionsIn s) ≤ 4864
+  few-bytes = omega (arith, sizes (transitionsIn s), sumOver-length (transitionsIn s), k .sound .count, k .sound .entries)
+
+  module _ {blocks : List ℕ} {m : ℕ} (b : BlocksBelow n m blocks) where
+    -- every transition's block is below their count
+    blocks-below : Each (λ (t : Transition). getD blocks (t .source) 0 < m) (transitionsIn s)
+    unfolding automatonOf
+    blocks-below = each-map _ _ (λ t h. b .below (t .source) (omega (arith, h .source, known-states k))) (transitionsIn s) (k .sound .transitions)
+
+    below-count : (v : ℕ) → v < length (modelAt s .labels) → getD blocks v 0 < blockCount blocks
+    unfolding automatonOf
+    below-count v h = omega (arith, b .below v (omega (arith, h, known-states k)), b .count)
+
+    -- merging makes no record longer
+    shorter : Each (λ (t : Transition). sizeOf (mergedTransition blocks t) ≤ sizeOf t) (transitionsIn s)
+    shorter =
+        each-map _ _ (λ t h. omega (arith, transitionBytes-length t, transitionBytes-length (mergedTransition blocks t), merged-few blocks (length (modelAt s .labels)) (modelAt s .actions) t h below-count)) (transitionsIn s) (k .sound .transitions)
+
+    -- the fields of a merged transition fit its record
+    merged-fits : (t : Transition) → TransitionRules (length (modelAt s .labels)) (modelAt s .actions) t → Fits (mergedTransition blocks t)
+    merged-fits t h =
+        let r = merged-rules blocks (length (modelAt s .labels)) (modelAt s .actions) t h below-count in
+        record {
+          source = omega (arith, r .source, b .count, b .few);
+          action = omega (arith, r .action, k .sound .actions);
+          denominator = omega (arith, r .fits);
+          count = omega (arith, r .most, b .count, b .few);
+          states = each-map _ _ (λ e l. omega (arith, l, b .count, b .few)) (mergedTransition blocks t .entries) (r .states);
+          weights = each-map _ _ (λ e l. omega (arith, l, r .whole, r .fits)) (mergedTransition blocks t .entries) (part-most (mergedTransition blocks t .entries));
+        }
+
+    -- those of a block have its number as their source
+    here-fits : (c r : ℕ) → Each (FitsFrom c) (here blocks (transitionsIn s) c r)
+    unfolding mergedTransition
+    here-fits c r =
+        each-distinct (FitsFrom c) [] (fromBlock blocks (take r (transitionsIn s)) c)
+        (each-from blocks (FitsFrom c) c (take r (transitionsIn s))
+        (each-take _ r (transitionsIn s) (each-map _ _ (λ t h e. record { fits = merged-fits t h; from = e }) (transitionsIn s) (k .sound .transitions))))
+
+-- a transition of another block changes nothing
+pub keep-other : {s places : List ℕ} {n count : ℕ} {blocks : List ℕ} {k b r : ℕ} {weights out : List ℕ} {start : ℕ} {kept : Kept} → CanKeep s places n count blocks k b r weights out start kept → r < count → (getD blocks (getD (transitionsIn s) r noTransition .source) 0 ≡ b → ⊥) → Keeps s blocks b r weights out out start kept
+keep-other {s} {blocks = blocks} {b = b} {r = r} {out = out} {start} {kept} c less other =
+    record {
+      held =
+          record {
+            starts = c .held .starts;
+            holds = subst (λ (l : List Transition). Holds (before blocks (transitionsIn s) b ++ l) out kept) (sym same-here) (c .held .holds);
+          };
+      none = c .none;
+      size = refl;
+    }
+  where
+    same-here : here blocks (transitionsIn s) b (r + 1) ≡ here blocks (transitionsIn s) b r
+    same-here =
+        ap (distinct [])
+        (from-more blocks b (transitionsIn s) r (omega (arith, less, count-is (c .known)))
+        ∙ ap (λ (l : List Transition). fromBlock blocks (take r (transitionsIn s)) b ++ l) (sym (notSame _ other refl))
+        ∙ append-nil (fromBlock blocks (take r (transitionsIn s)) b))
+
+-- one of the block b
+module _ {s places : List ℕ} {n count : ℕ} {blocks : List ℕ} {k b r : ℕ} {weights out : List ℕ} {start : ℕ} {kept : Kept} (c : CanKeep s places n count blocks k b r weights out start kept) (less : r < count) (of : getD blocks (getD (transitionsIn s) r noTransition .source) 0 ≡ b) where
+  below : r < length (transitionsIn s)
+  below = omega (arith, less, count-is (c .known))
+
+  abbrev done : List Transition
+  done = before blocks (transitionsIn s) b ++ here blocks (transitionsIn s) b r
+
+  next-rules : TransitionRules (length (modelAt s .labels)) (modelAt s .actions) (getD (transitionsIn s) r noTransition)
+  next-rules = each-at _ (transitionsIn s) r noTransition (c .known .sound .transitions) below
+
+  pub can-merge : CanMerge s places r blocks k weights out (kept .size)
+  can-merge =
+      record {
+        transition = known-transition (c .known) less;
+        merging = subst (λ (x : ℕ). BlocksBelow x k blocks) (c .known .states) (c .merging);
+        none = c .none;
+        room =
+            omega (arith, room blocks (transitionsIn s) (shorter (c .known) (c .merging)) k b r (blocks-below (c .known) (c .merging)) (c .block) below of, few-bytes (c .known), c .large, c .held .holds .size, transitions-length done, transitionBytes-length (getD (transitionsIn s) r noTransition), entries-at (c .known) r less);
+      }
+
+  pub few-kept : kept .count ≤ 4864
+  few-kept =
+      omega (arith, c .held .holds .count, sumOver-length done, sumOver-most (λ (t : Transition). 1) sizeOf done (each-all _ (λ t. omega (arith, transitionBytes-length t)) done), room blocks (transitionsIn s) (shorter (c .known) (c .merging)) k b r (blocks-below (c .known) (c .merging)) (c .block) below of, few-bytes (c .known))
+
+  module _ {weights′ out′ : List ℕ} {next : ℕ} (m : Merged s r blocks weights′ (kept .size) out out′ next) where
+    abbrev added : Transition
+    added = mergedTransition blocks (getD (transitionsIn s) r noTransition)
+
+    appended : Appends (transitionBytes added) (kept .size) out out′ next
+    appended =
+        subst (λ (t : Transition). Appends (transitionBytes (mergedTransition blocks t)) (kept .size) out out′ next) (sym (transition-at (c .known) r less)) (m .appended)
+
+    front : take (kept .size) out′ ≡ transitionsBytes done
+    front = front-kept appended ∙ c .held .holds .bytes
+
+    parts : transitionsBytes done ≡ transitionsBytes (before blocks (transitionsIn s) b) ++ transitionsBytes (here blocks (transitionsIn s) b r)
+    parts = transitions-append (before blocks (transitionsIn s) b) (here blocks (transitionsIn s) b r)
+
+    place-is : kept .size ≡ start + length (transitionsBytes (here blocks (transitionsIn s) b r))
+    place-is =
+        omega (arith, c .held .holds .size, ap length parts, length-append (transitionsBytes (before blocks (transitionsIn s) b)) (transitionsBytes (here blocks (transitionsIn s) b r)), c .held .starts)
+
+    pub stands : StandAs out′ start (kept .size) next (here blocks (transitionsIn s) b r) added
+    unfolding mergedTransition
+    stands =
+        record {
+          first = omega (arith, place-is);
+          second = omega (arith, appended .place);
+          inside = omega (arith, appended .room, appended .size);
+          records = middle out′ (transitionsBytes (before blocks (transitionsIn s) b)) (transitionsBytes (here blocks (transitionsIn s) b r)) start (kept .size) (front ∙ parts) (c .held .starts) place-is (omega (arith, appended .place, appended .room, appended .size));
+          record-bytes = appended-part appended;
+          fits = merged-fits (c .known) (c .merging) (getD (transitionsIn s) r noTransition) next-rules;
+          alike = subst (λ (x : ℕ). Each (FitsFrom x) (here blocks (transitionsIn s) b r)) (sym of) (here-fits (c .known) (c .merging) b r);
+        }
+
+    one-more : here blocks (transitionsIn s) b (r + 1) ≡ here blocks (transitionsIn s) b r ++ ifTrue (isAmong added (here blocks (transitionsIn s) b r)) [] (added ∷ [])
+    one-more =
+        ap (distinct [])
+        (from-more blocks b (transitionsIn s) r below
+        ∙ ap (λ (l : List Transition). fromBlock blocks (take r (transitionsIn s)) b ++ l) (sym (same [] of refl)))
+        ∙ distinct-more (fromBlock blocks (take r (transitionsIn s)) b) added
+
+    -- the same as one before it
+    pub keep-repeated : {x : Bool} → x ≡ true → IsRepeated out′ start (kept .size) next x → Keeps s blocks b r weights′ out out′ start kept
+    keep-repeated e h =
+        record {
+          held =
+              record {
+                starts = c .held .starts;
+                holds =
+                    subst (λ (l : List Transition). Holds (before blocks (transitionsIn s) b ++ l) out′ kept) (sym no-more)
+                    (record { bytes = front; size = c .held .holds .size; count = c .held .holds .count });
+              };
+          none = m .none;
+          size = appended .size;
+        }
+      where
+        no-more : here blocks (transitionsIn s) b (r + 1) ≡ here blocks (transitionsIn s) b r
+        no-more =
+            one-more
+            ∙ ap (λ (l : List Transition). here blocks (transitionsIn s) b r ++ l) (sym (isTrue _ (sym (h .tells _ added stands) ∙ e) refl))
+            ∙ append-nil (here blocks (transitionsIn s) b r)
+
+    -- a new one
+    pub keep-new : {x : Bool} {counted : ℕ} → x ≡ false → IsRepeated out′ start (kept .size) next x → counted ≡ kept .count + 1 → Keeps s blocks b r weights′ out out′ start (record { count = counted; size = next })
+    unfolding transitionsBytes
+    keep-new e h f =
+        record {
+          held =
+              record {
+                starts = c .held .starts;
+                holds =
+                    record {
+                      bytes = appended-front appended ∙ ap (λ (l : List ℕ). l ++ transitionBytes added) (c .held .holds .bytes) ∙ sym bytes-more;
+                      size = omega (arith, appended .place, c .held .holds .size, ap length bytes-more, length-append (transitionsBytes done) (transitionBytes added));
+                      count = omega (arith, f, c .held .holds .count, ap length list-more, length-append done (added ∷ []));
+                    };
+              };
+          none = m .none;
+          size = appended .size;
+        }
+      where
+        list-more : before blocks (transitionsIn s) b ++ here blocks (transitionsIn s) b (r + 1) ≡ done ++ (added ∷ [])
+        list-more =
+            ap (λ (l : List Transition). before blocks (transitionsIn s) b ++ l)
+            (one-more ∙ ap (λ (l : List Transition). here blocks (transitionsIn s) b r ++ l) (sym (isFalse _ (sym (h .tells _ added stands) ∙ e) refl)))
+            ∙ sym (append-assoc (before blocks (transitionsIn s) b) (here blocks (transitionsIn s) b r) (added ∷ []))
+
+        bytes-more : transitionsBytes (before blocks (transitionsIn s) b ++ here blocks (transitionsIn s) b (r + 1)) ≡ transitionsBytes done ++ transitionBytes added
+        bytes-more =
+            ap transitionsBytes list-more
+            ∙ transitions-append done (added ∷ [])
+            ∙ ap (λ (l : List ℕ). transitionsBytes done ++ l) (append-nil (transitionBytes added))
+
+-- the transitions of a block begin with none, and all of them are those of the block
+pub block-begins : (s blocks : List ℕ) (b : ℕ) {out : List ℕ} {kept : Kept} → Holds (before blocks (transitionsIn s) b) out kept → InBlock s blocks b 0 (kept .size) out kept
+unfolding fromBlock distinct
+block-begins s blocks b {out} {kept} h =
+    record { starts = h .size; holds = subst (λ (l : List Transition). Holds l out kept) (sym (append-nil (before blocks (transitionsIn s) b))) h }
+
+pub block-ends : (s blocks : List ℕ) (b r start : ℕ) {out : List ℕ} {kept : Kept} → r ≡ length (transitionsIn s) → InBlock s blocks b r start out kept → Holds (before blocks (transitionsIn s) (b + 1)) out kept
+block-ends s blocks b r start {out} {kept} e h =
+    let z : b ≡ 0 + b = omega arith in
+    subst (λ (l : List Transition). Holds l out kept)
+    (ap (λ (l : List Transition). before blocks (transitionsIn s) b ++ distinct [] (fromBlock blocks l b)) (take-all r (transitionsIn s) (omega arith))
+    ∙ ap (λ (c : ℕ). before blocks (transitionsIn s) b ++ distinct [] (fromBlock blocks (transitionsIn s) c)) z
+    ∙ sym (by-block-more blocks (transitionsIn s) b 0))
+    (h .holds)
+
+-- no block, no transition
+pub none-held : (s blocks out : List ℕ) → Holds (before blocks (transitionsIn s) 0) out (record { count = 0; size = 0 })
+unfolding byBlock transitionsBytes
+none-held s blocks out = record { bytes = refl; size = refl; count = refl }
+
+-- the block of the transition's source, found by its fields
+pub block-at : {s : List ℕ} {r n k : ℕ} {f : Fields} {blocks : List ℕ} {x : ℕ} → BlocksBelow n k blocks → FieldsOf s r f → x ≡ getD blocks (f .source) 0 → x ≡ getD blocks (getD (transitionsIn s) r noTransition .source) 0
+unfolding automatonOf
+block-at {blocks = blocks} b f e = e ∙ ap (λ (v : ℕ). getD blocks v 0) (f .source)
+
+pub block-known : {s places : List ℕ} {n count r k : ℕ} {f : Fields} {blocks : List ℕ} → Known s n count places → BlocksBelow n k blocks → FieldsOf s r f → f .source < length blocks
+block-known k b f = omega (arith, f .from, k .states, b .whole)

@@ -1,0 +1,108 @@
+// The transitions of the merged model: by block and then by original place, of equal ones of a block the first.
+ghost use Prim.Native.Nat.{_≤_, _<_};
+ghost use lib.ListN.{length};
+ghost use Rattle.transition.specs.Known.{Known};
+ghost use Rattle.merged_transition.specs.MergedTransition.{BlocksBelow};
+ghost use Rattle.merged_transitions.specs.MergedTransitions.{CanKeep, Keeps, CanWrite, Wrote, WroteAll};
+use merged_transition::Weights;
+use model::Places;
+
+// The transitions of the merged model: how many, and how many bytes their records have.
+pub struct Kept {
+    pub count: usize,
+    pub size: usize,
+}
+
+// The transition r merged and appended, if it leaves a member of the block b and is the same as none from `start` on.
+fn keep_of_block(
+    s: &[u8],
+    n: usize,
+    count: usize,
+    places: &Places,
+    r: usize,
+    blocks: &[u8],
+    k: usize,
+    b: usize,
+    weights: &mut Weights,
+    out: &mut [u8],
+    start: usize,
+    kept: Kept,
+) -> Kept
+    requires { ⌜ CanKeep (now s) (now places) n count (now blocks) k b r (now weights) (now out) start kept × (r < count) ⌝ }
+    ensures { λ x. ⌜ Keeps (now (s .entry)) (now (blocks .entry)) b r (now (weights .exit)) (now (out .entry)) (now (out .exit)) start x ⌝ }
+{
+    let source = transition::fields_of(s, places, r).source;
+    if merged_transition::block_of(blocks, source) != b {
+        return kept;
+    }
+    let next = merged_transition::write_merged(s, places, r, blocks, k, weights, out, kept.size);
+    if same_transition::is_repeated(out, start, kept.size, next) {
+        return kept;
+    }
+    Kept {
+        count: kept.count + 1,
+        size: next,
+    }
+}
+
+// The transitions of the block b, by original place.
+fn write_block(
+    s: &[u8],
+    n: usize,
+    count: usize,
+    places: &Places,
+    blocks: &[u8],
+    k: usize,
+    b: usize,
+    weights: &mut Weights,
+    out: &mut [u8],
+    initial: Kept,
+) -> Kept
+    requires { ⌜ CanWrite (now s) (now places) n count (now blocks) k b (now weights) (now out) initial ⌝ }
+    ensures { λ x. ⌜ Wrote (now (s .entry)) (now (blocks .entry)) b (now (weights .exit)) (now (out .entry)) (now (out .exit)) x ⌝ }
+{
+    let start = initial.size;
+    let mut kept = initial;
+    let mut r = 0;
+    while r < count {
+        kept = keep_of_block(
+            s,
+            n,
+            count,
+            places,
+            r,
+            blocks,
+            k,
+            b,
+            weights,
+            out,
+            start,
+            kept,
+        );
+        r += 1;
+    }
+    kept
+}
+
+// The transitions of the merged model, by block, from the start of a buffer on.
+pub fn write_transitions(
+    s: &[u8],
+    n: usize,
+    count: usize,
+    places: &Places,
+    blocks: &[u8],
+    k: usize,
+    out: &mut [u8],
+) -> Kept
+    requires { ⌜ Known (now s) n count (now places) × BlocksBelow n k (now blocks) × (4864 ≤ length (now out)) ⌝ }
+    ensures { λ x. ⌜ WroteAll (now (s .entry)) (now (blocks .entry)) k (now (out .entry)) (now (out .exit)) x ⌝ }
+{
+    let mut weights = merged_transition::no_weights();
+    let mut kept = Kept { count: 0, size: 0 };
+    let mut b = 0;
+    while b < k {
+        kept = write_block(s, n, count, places, blocks, k, b, &mut weights, out, kept);
+        b += 1;
+    }
+    kept
+}

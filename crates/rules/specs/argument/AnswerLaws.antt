@@ -1,0 +1,123 @@
+-- Laws of what a fetch answers.
+use Prim.Native.Nat.{ℕ, zero, suc, _+_, _-_, _≤_, _<_}
+use mathlib.Core.Path.{_≡_, refl, sym, _∙_, ap, subst}
+use mathlib.Core.Logic.{inl, inr, ⊎-elim}
+use mathlib.Core.List.{List}
+use lib.ListN.{length, length-take, length-drop}
+use native.Mathlib.Omega.{arith}
+use Rattle.bisimulation.specs.argument.ChoiceLaws.{via, less, notLess, eitherLess}
+use Rattle.rules.specs.definitions.Limits.{Limits}
+use Rattle.rules.specs.definitions.Model.{Model}
+use Rattle.rules.specs.definitions.Reading.{model, Scan, sound, refused, scanWhole, statesOf, countOf, modelAt, readingOf, readWhole, placeOf, sourceAt, firstNotBelow, runFirst, runPast, runStart, runEnd}
+use Rattle.rules.specs.argument.ReadingLaws.{Sound, Tells, whole-tells}
+use Rattle.rules.specs.definitions.Answers.{Answer, refusalIn, answerWithoutPlace, runAnswer, fetchReading, fetchAnswer, FetchNumber}
+
+-- the labels of a sound model are n
+pub labels-length : (s : List ℕ) → 8 + statesOf s ≤ length s → length (modelAt s .labels) ≡ statesOf s
+unfolding modelAt
+labels-length s h = simp (length-take, length-drop) (omega arith)
+
+-- what a fetch answers, by what the scan of the file is
+pub fetch-refused : (L : Limits) (s : List ℕ) (state number place : ℕ) → refused number place ≡ scanWhole L s → refusalIn number 1 place (length s) ≡ fetchAnswer L s state
+unfolding fetchAnswer fetchReading readWhole readingOf
+fetch-refused L s state number place q = ap (λ (scan : Scan). fetchReading s state (readingOf s scan)) q
+
+module _ (L : Limits) (s : List ℕ) (state n m count end : ℕ) (q : sound n m count end ≡ scanWhole L s) where
+  told : Sound L s n m count end
+  told = subst (Tells L s) (sym q) (whole-tells L s)
+
+  states-told : length (modelAt s .labels) ≡ n
+  states-told = labels-length s (omega (arith, told .states, told .labels)) ∙ sym (told .states)
+
+  pub fetch-no-state : n ≤ state → answerWithoutPlace 24 0 ≡ fetchAnswer L s state
+  unfolding fetchAnswer fetchReading readWhole readingOf
+  fetch-no-state h =
+      via (sym (ap (λ (scan : Scan). fetchReading s state (readingOf s scan)) q))
+      (notLess _ (omega (arith, states-told)) refl)
+
+  pub fetch-runs : state < n → runAnswer (runStart s state) (runEnd s state) ≡ fetchAnswer L s state
+  unfolding fetchAnswer fetchReading readWhole readingOf
+  fetch-runs h =
+      via (sym (ap (λ (scan : Scan). fetchReading s state (readingOf s scan)) q))
+      (less _ (omega (arith, states-told)) refl)
+
+-- the search ends among the transitions it was given
+pub firstNotBelow-most : (s : List ℕ) (state left r : ℕ) → (r ≤ firstNotBelow s state left r) × (firstNotBelow s state left r ≤ r + left)
+unfolding firstNotBelow
+firstNotBelow-most s state zero r = (omega arith, omega arith)
+firstNotBelow-most s state (suc left) r =
+    eitherLess (λ (k : ℕ). (r ≤ k) × (k ≤ r + suc left)) (sourceAt s (placeOf s r)) state
+    (let h = firstNotBelow-most s state left (r + 1) in (omega arith, omega arith))
+    (omega arith, omega arith)
+
+-- the transitions of a run are among the model's
+pub run-most : (s : List ℕ) (state : ℕ) → (runFirst s state ≤ runPast s state) × (runPast s state ≤ countOf s)
+unfolding runFirst runPast
+run-most s state =
+    let a = firstNotBelow-most s state (countOf s) 0 in
+    let b = firstNotBelow-most s (state + 1) (countOf s - firstNotBelow s state (countOf s) 0) (firstNotBelow s state (countOf s) 0) in
+    (omega arith, omega arith)
+
+-- every place of a sound model lies in the file
+pub place-inside : (L : Limits) (s : List ℕ) (n m count end : ℕ) → Sound L s n m count end → (r : ℕ) → r ≤ count → placeOf s r ≤ length s
+unfolding placeOf
+place-inside L s n m count end t zero h = omega (arith, t .states, t .labels)
+place-inside L s n m count end t (suc r) h = t .records r (omega arith)
+
+-- a fetch answers a number of document 01
+pub fetch-number : (L : Limits) (s : List ℕ) (state : ℕ) → FetchNumber (fetchAnswer L s state .number)
+unfolding fetchAnswer fetchReading readWhole readingOf FetchNumber refusalIn runAnswer answerWithoutPlace
+fetch-number L s state = go (scanWhole L s) (whole-tells L s)
+  where
+    go : (scan : Scan) → Tells L s scan → FetchNumber (fetchReading s state (readingOf s scan) .number)
+    go (sound n m count end) t =
+        eitherLess (λ (a : Answer). FetchNumber (a .number)) state (length (modelAt s .labels))
+        (eitherLess (λ (a : Answer). FetchNumber (a .number)) (runStart s state) (runEnd s state) (inl (omega arith)) (inl (omega arith)))
+        (inr refl)
+    go (refused number place) t = inl (t .known)
+
+-- its stretch or run lies in the file
+pub fetch-inside : (L : Limits) (s : List ℕ) (state : ℕ) → fetchAnswer L s state .stretchStart + fetchAnswer L s state .stretchLength ≤ length s
+unfolding fetchAnswer fetchReading readWhole readingOf refusalIn runAnswer answerWithoutPlace runStart runEnd
+fetch-inside L s state = go (scanWhole L s) (whole-tells L s)
+  where
+    Inside : Answer → Type 0
+    Inside a = a .stretchStart + a .stretchLength ≤ length s
+
+    go : (scan : Scan) → Tells L s scan → Inside (fetchReading s state (readingOf s scan))
+    go (sound n m count end) t =
+        let r = run-most s state in
+        let a = place-inside L s n m count end t (runFirst s state) (omega arith) in
+        let b = place-inside L s n m count end t (runPast s state) (omega arith) in
+        eitherLess Inside state (length (modelAt s .labels))
+        (eitherLess Inside (placeOf s (runFirst s state)) (placeOf s (runPast s state)) (omega arith) (omega arith))
+        (omega arith)
+    go (refused number place) t = omega (arith, t .inside)
+
+-- a refusal in the model that a fetch answers: its number is small, and its place in the file
+pub fetch-refusal : (L : Limits) (s : List ℕ) (state number place : ℕ) → refusalIn number 1 place (length s) ≡ fetchAnswer L s state → (number ≤ 24) × (place ≤ length s)
+unfolding refusalIn FetchNumber
+fetch-refusal L s state number place q = (
+  ⊎-elim (λ h. omega (arith, ap (λ (a : Answer). a .number) q)) (λ h. omega (arith, ap (λ (a : Answer). a .number) q)) (fetch-number L s state),
+  omega (arith, ap (λ (a : Answer). a .stretchStart) q, ap (λ (a : Answer). a .stretchLength) q, fetch-inside L s state),
+)
+
+-- what is read is the model in the bytes
+pub read-model : (L : Limits) (s : List ℕ) {N : Model} {end : ℕ} → readWhole L s ≡ model N end → N ≡ modelAt s
+unfolding readWhole readingOf
+read-model L s {N} {end} e = go (scanWhole L s) e
+  where
+    go : (scan : Scan) → readingOf s scan ≡ model N end → N ≡ modelAt s
+    go (sound n m count last) q = cc
+    go (refused number place) q = let z : _≡_ {A = ℕ} 0 1 = cc in absurd (omega arith)
+
+-- the states of what is read are those of the head
+pub read-states : (L : Limits) (s : List ℕ) {N : Model} {end : ℕ} → readWhole L s ≡ model N end → length (N .labels) ≡ statesOf s
+unfolding readWhole readingOf
+read-states L s {N} {end} e = go (scanWhole L s) (whole-tells L s) e
+  where
+    go : (scan : Scan) → Tells L s scan → readingOf s scan ≡ model N end → length (N .labels) ≡ statesOf s
+    go (sound n m count last) t q =
+        let same : modelAt s ≡ N = cc in
+        ap (λ (x : Model). length (x .labels)) (sym same) ∙ labels-length s (omega (arith, t .states, t .labels))
+    go (refused number place) t q = let z : _≡_ {A = ℕ} 0 1 = cc in absurd (omega arith)

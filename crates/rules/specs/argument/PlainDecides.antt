@@ -1,0 +1,273 @@
+-- The tests of document 01's step rule find no fault exactly where its propositions hold.
+use Prim.Native.Nat.{ℕ, _+_, _*_, _<_}
+use mathlib.Core.Path.{_≡_, refl, sym, _∙_, ap, subst, subst₂}
+use mathlib.Core.Logic.{_≢_, _↔_}
+use mathlib.Core.Bool.{Bool, true, false}
+use lib.Dec.{T, eqb}
+use lib.IntN.{ℤ, pos, _*ℤ_}
+use lib.Signed.{leZ, _≤ℤ_, _<ℤ_}
+use borrow.Author.Tests.{eqb-true, eq-eqb}
+use native.Mathlib.Omega.{arith}
+use native.Mathlib.Decide.{ℕ-discrete}
+use Rattle.bisimulation.specs.definitions.Choice.{ifSame, ifTrue}
+use Rattle.bisimulation.specs.argument.ChoiceLaws.{same, notSame, isTrue, keptTrue, all-below, below-all, false-not}
+use Rattle.bisimulation.specs.definitions.Automaton.{Automaton, SoundAutomaton}
+use Rattle.bisimulation.specs.argument.SumLaws.{sumℤCong}
+use Rattle.bisimulation.specs.definitions.StepRule.{Flow, Sides, Holds, beforeMove, afterMove, internalMove, atTarget}
+use Rattle.bisimulation.specs.definitions.Pairs.{Pairs}
+use Rattle.bisimulation.specs.definitions.Prices.{priceAt, priceOfTargets}
+use Rattle.bisimulation.specs.definitions.Refutation.{PriceCondition, RelatedCondition, LastCondition, RefutesInternal, RefutesExternal, PlainRefutes}
+use Rattle.rules.specs.definitions.AnyRule.{Decides}
+use Rattle.rules.specs.definitions.Certificate.{fault, noFault}
+use Rattle.rules.specs.definitions.PlainRule.{byKind, plainPriceCount, priceCondition, allWithAction, allRelated, below, internalPricesFault, externalPricesFault, plainPricesFault, plainInQuestion, allHold, internalEquationsFault, externalEquationsFault, plainEquationsFault, plainRule}
+use Rattle.rules.specs.argument.RefutationRecords.{no-fault}
+use Rattle.rules.specs.definitions.PlainSays.{InPlainQuestion, InternalEquations, ExternalEquations, PlainEquations, plainSays}
+
+-- a test and what it says
+pub holds-T : {b : Bool} → b ≡ true → T b
+holds-T e = subst T (sym e) tt
+
+pub T-holds : (b : Bool) → T b → b ≡ true
+T-holds true h = refl
+T-holds false h = absurd h
+
+-- the choice by the challenger's kind
+module _ (A : Automaton) where
+  pub kind-internal : {X : Type 0} (q : ℕ) (x y : X) → A .action q ≡ 0 → x ≡ byKind A q x y
+  unfolding byKind
+  kind-internal q x y e = same y e refl
+
+  pub kind-external : {X : Type 0} (q : ℕ) (x y : X) → A .action q ≢ 0 → y ≡ byKind A q x y
+  unfolding byKind
+  kind-external q x y n = notSame x n refl
+
+  -- 'for each transition with its action'
+  all-conditions : (a : ℕ) (X Y : ℕ → ℤ) → allWithAction A a (priceCondition A X Y) ≡ true → PriceCondition A a X Y
+  unfolding allWithAction priceCondition
+  all-conditions a X Y e =
+      record {
+        holds = λ r l isA.
+            record { le = holds-T (same true isA refl ∙ all-below (A .transitions) _ e r l) };
+      }
+
+  conditions-all : (a : ℕ) (X Y : ℕ → ℤ) → PriceCondition A a X Y → allWithAction A a (priceCondition A X Y) ≡ true
+  unfolding allWithAction priceCondition
+  conditions-all a X Y h = below-all (A .transitions) _ (λ r l. go r l (ℕ-discrete (A .action r) a))
+    where
+      go : (r : ℕ) → r < A .transitions → Dec (A .action r ≡ a) → ifSame (A .action r) a (leZ (priceOfTargets A Y r) (priceAt A X r (A .source r))) true ≡ true
+      go r l (yes isA) = sym (same true isA (sym (T-holds _ (h .holds r l isA .le))))
+      go r l (no n) = sym (notSame (leZ (priceOfTargets A Y r) (priceAt A X r (A .source r))) n refl)
+
+  -- 'for each related v, u'
+  all-related : (R : Pairs) (X G : ℕ → ℤ) → allRelated A R X G ≡ true → RelatedCondition A R X G
+  unfolding allRelated
+  all-related R X G e =
+      record {
+        holds = λ v u l k related.
+            record { le = holds-T (isTrue true related refl ∙ all-below (A .states) _ (all-below (A .states) _ e v l) u k) };
+      }
+
+  related-all : (R : Pairs) (X G : ℕ → ℤ) → RelatedCondition A R X G → allRelated A R X G ≡ true
+  unfolding allRelated ifTrue
+  related-all R X G h = below-all (A .states) _ (λ v l. below-all (A .states) _ (λ u k. go v u l k (R v u) refl))
+    where
+      go : (v u : ℕ) → v < A .states → u < A .states → (t : Bool) → R v u ≡ t → ifTrue t (leZ (G u) (X v)) true ≡ true
+      go v u l k true e = T-holds _ (h .holds v u l k e .le)
+      go v u l k false e = refl
+
+  -- the last condition
+  last-holds : (X G : ℕ → ℤ) (q t : ℕ) → below A X G q t ≡ true → LastCondition A q t X G
+  unfolding below
+  last-holds X G q t e = record { holds = record { lt = holds-T e } }
+
+  holds-last : (X G : ℕ → ℤ) (q t : ℕ) → LastCondition A q t X G → below A X G q t ≡ true
+  unfolding below
+  holds-last X G q t h = T-holds _ (h .holds .lt)
+
+  -- prices without fault refute
+  internal-refutes : (R : Pairs) (q t : ℕ) (X G : ℕ → ℤ) → (noFault ≡ internalPricesFault A R q t X G) ↔ RefutesInternal A R q t X G
+  unfolding internalPricesFault
+  internal-refutes R q t X G = (
+    λ e.
+        let a = keptTrue _ (fault 15) (allWithAction A 0 (priceCondition A X X)) (no-fault 14) e in
+        let b = keptTrue _ (fault 15) (allRelated A R X G) (no-fault 14) (a .1) in
+        let c = keptTrue _ (fault 16) (below A X G q t) (no-fault 15) (b .1) in
+        record { internal = all-conditions 0 X X (a .0); related = all-related R X G (b .0); last = last-holds X G q t (c .0) },
+    λ h.
+        isTrue _ (conditions-all 0 X X (h .internal)) (isTrue _ (related-all R X G (h .related)) (isTrue _ (holds-last X G q t (h .last)) refl)),
+  )
+
+  external-refutes : (R : Pairs) (q t : ℕ) (X Y G : ℕ → ℤ) → (noFault ≡ externalPricesFault A R q t X Y G) ↔ RefutesExternal A R q t X Y G
+  unfolding externalPricesFault
+  external-refutes R q t X Y G = (
+    λ e.
+        let a = keptTrue _ (fault 15) (allWithAction A 0 (priceCondition A X X)) (no-fault 14) e in
+        let b = keptTrue _ (fault 15) (allWithAction A 0 (priceCondition A Y Y)) (no-fault 14) (a .1) in
+        let c = keptTrue _ (fault 15) (allWithAction A (A .action q) (priceCondition A X Y)) (no-fault 14) (b .1) in
+        let d = keptTrue _ (fault 15) (allRelated A R Y G) (no-fault 14) (c .1) in
+        let f = keptTrue _ (fault 16) (below A X G q t) (no-fault 15) (d .1) in
+        record {
+          before = all-conditions 0 X X (a .0);
+          after = all-conditions 0 Y Y (b .0);
+          move = all-conditions (A .action q) X Y (c .0);
+          related = all-related R Y G (d .0);
+          last = last-holds X G q t (f .0);
+        },
+    λ h.
+        isTrue _ (conditions-all 0 X X (h .before))
+        (isTrue _ (conditions-all 0 Y Y (h .after))
+        (isTrue _ (conditions-all (A .action q) X Y (h .move))
+        (isTrue _ (related-all R Y G (h .related)) (isTrue _ (holds-last X G q t (h .last)) refl)))),
+  )
+
+  pub plain-refutes : (R : Pairs) (q t : ℕ) (p : ℕ → ℤ) → (noFault ≡ plainPricesFault A R q t p) ↔ PlainRefutes A R q t p
+  unfolding plainPricesFault
+  plain-refutes R q t p = (
+    λ e.
+        record {
+          internal = λ i. internal-refutes R q t p (λ v. p (A .states + v)) .0 (e ∙ sym (kind-internal q _ _ i));
+          external = λ n. external-refutes R q t p (λ v. p (A .states + v)) (λ v. p (2 * A .states + v)) .0 (e ∙ sym (kind-external q _ _ n));
+        },
+    λ h. go h (ℕ-discrete (A .action q) 0),
+  )
+    where
+      go : PlainRefutes A R q t p → Dec (A .action q ≡ 0) → noFault ≡ byKind A q (internalPricesFault A R q t p (λ v. p (A .states + v))) (externalPricesFault A R q t p (λ v. p (A .states + v)) (λ v. p (2 * A .states + v)))
+      go h (yes i) = internal-refutes R q t p (λ v. p (A .states + v)) .1 (h .internal i) ∙ kind-internal q _ _ i
+      go h (no n) = external-refutes R q t p (λ v. p (A .states + v)) (λ v. p (2 * A .states + v)) .1 (h .external n) ∙ kind-external q _ _ n
+
+  -- equations without fault hold
+  pub all-hold : (e : ℕ → Sides) → allHold A e ≡ true → (v : ℕ) → v < A .states → Holds (e v)
+  unfolding allHold
+  all-hold e h v l = record { equal = eqb-true _ _ (all-below (A .states) _ h v l) }
+
+  pub hold-all : (e : ℕ → Sides) → ((v : ℕ) → v < A .states → Holds (e v)) → allHold A e ≡ true
+  unfolding allHold
+  hold-all e h = below-all (A .states) _ (λ v l. eq-eqb _ _ (h v l .equal))
+
+  internal-equations : (q t : ℕ) (f : Flow) → (noFault ≡ internalEquationsFault A q t f) ↔ InternalEquations A q t f
+  unfolding internalEquationsFault
+  internal-equations q t f = (
+    λ e.
+        let a = keptTrue _ (fault 20) (allHold A (internalMove A f t)) (no-fault 19) e in
+        let b = keptTrue _ (fault 21) (allHold A (atTarget A f q)) (no-fault 20) (a .1) in
+        record { move = all-hold (internalMove A f t) (a .0); target = all-hold (atTarget A f q) (b .0) },
+    λ h. isTrue _ (hold-all (internalMove A f t) (h .move)) (isTrue _ (hold-all (atTarget A f q) (h .target)) refl),
+  )
+
+  external-equations : (q t : ℕ) (f : Flow) → (noFault ≡ externalEquationsFault A q t f) ↔ ExternalEquations A q t f
+  unfolding externalEquationsFault
+  external-equations q t f = (
+    λ e.
+        let a = keptTrue _ (fault 20) (allHold A (beforeMove A f t)) (no-fault 19) e in
+        let b = keptTrue _ (fault 20) (allHold A (afterMove A f)) (no-fault 19) (a .1) in
+        let c = keptTrue _ (fault 21) (allHold A (atTarget A f q)) (no-fault 20) (b .1) in
+        record { before = all-hold (beforeMove A f t) (a .0); after = all-hold (afterMove A f) (b .0); target = all-hold (atTarget A f q) (c .0) },
+    λ h.
+        isTrue _ (hold-all (beforeMove A f t) (h .before))
+        (isTrue _ (hold-all (afterMove A f) (h .after)) (isTrue _ (hold-all (atTarget A f q) (h .target)) refl)),
+  )
+
+  pub plain-equations : (q t : ℕ) (f : Flow) → (noFault ≡ plainEquationsFault A q t f) ↔ PlainEquations A q t f
+  unfolding plainEquationsFault
+  plain-equations q t f = (
+    λ e.
+        record {
+          internal = λ i. internal-equations q t f .0 (e ∙ sym (kind-internal q _ _ i));
+          external = λ n. external-equations q t f .0 (e ∙ sym (kind-external q _ _ n));
+        },
+    λ h. go h (ℕ-discrete (A .action q) 0),
+  )
+    where
+      go : PlainEquations A q t f → Dec (A .action q ≡ 0) → noFault ≡ byKind A q (internalEquationsFault A q t f) (externalEquationsFault A q t f)
+      go h (yes i) = internal-equations q t f .1 (h .internal i) ∙ kind-internal q _ _ i
+      go h (no n) = external-equations q t f .1 (h .external n) ∙ kind-external q _ _ n
+
+  -- an entry passes exactly where it is in the question
+  pub in-question : (q layer r : ℕ) → plainInQuestion A q layer r ≡ true → InPlainQuestion A q layer r
+  unfolding plainInQuestion
+  in-question q layer r e = go (ℕ-discrete layer 0) (ℕ-discrete (A .action q) 0) (ℕ-discrete layer 1) (ℕ-discrete layer 2)
+    where
+      rest : Bool
+      rest = ifSame layer 1 (eqb (A .action r) (A .action q)) (ifSame layer 2 (eqb (A .action r) 0) false)
+
+      go : Dec (layer ≡ 0) → Dec (A .action q ≡ 0) → Dec (layer ≡ 1) → Dec (layer ≡ 2) → InPlainQuestion A q layer r
+      go (yes a) b c d = InPlainQuestion.before a (eqb-true _ _ (same _ a refl ∙ e))
+      go (no a) (yes b) c d = absurd (false-not (kind-internal q false rest b ∙ notSame _ a refl ∙ e))
+      go (no a) (no b) (yes c) d = InPlainQuestion.move b c (eqb-true _ _ (same _ c refl ∙ kind-external q false rest b ∙ notSame _ a refl ∙ e))
+      go (no a) (no b) (no c) (yes d) = InPlainQuestion.after b d (eqb-true _ _ (same _ d refl ∙ notSame _ c refl ∙ kind-external q false rest b ∙ notSame _ a refl ∙ e))
+      go (no a) (no b) (no c) (no d) = absurd (false-not (notSame _ d refl ∙ notSame _ c refl ∙ kind-external q false rest b ∙ notSame _ a refl ∙ e))
+
+  pub question-in : (q layer r : ℕ) → InPlainQuestion A q layer r → plainInQuestion A q layer r ≡ true
+  unfolding plainInQuestion
+  question-in q layer r (InPlainQuestion.before a b) = sym (same _ a (sym (eq-eqb _ _ b)))
+  question-in q layer r (InPlainQuestion.move n a b) =
+      sym (notSame _ (λ z. omega arith) (same _ a (sym (eq-eqb _ _ b)) ∙ kind-external q false _ n))
+  question-in q layer r (InPlainQuestion.after n a b) =
+      sym (notSame _ (λ z. omega arith) (notSame _ (λ z. omega arith) (same _ a (sym (eq-eqb _ _ b))) ∙ kind-external q false _ n))
+
+  -- the conditions look at prices of states alone
+  abbrev pub AlikeOnStates : (X Y : ℕ → ℤ) → Type 0
+  AlikeOnStates X Y = (v : ℕ) → v < A .states → X v ≡ Y v
+
+  pub targets-same : (X Y : ℕ → ℤ) → AlikeOnStates X Y → (r : ℕ) → priceOfTargets A X r ≡ priceOfTargets A Y r
+  unfolding priceOfTargets
+  targets-same X Y h r = sumℤCong (A .states) _ _ (λ v l. ap (λ (z : ℤ). pos (A .weight r v) *ℤ z) (h v l))
+
+  pub price-same : (X Y : ℕ → ℤ) → AlikeOnStates X Y → (r x : ℕ) → x < A .states → priceAt A X r x ≡ priceAt A Y r x
+  unfolding priceAt
+  price-same X Y h r x l = ap (λ (z : ℤ). pos (A .denominator r) *ℤ z) (h x l)
+
+  module _ (sound : SoundAutomaton A) where
+    condition-same : (a : ℕ) (X X′ Y Y′ : ℕ → ℤ) → AlikeOnStates X X′ → AlikeOnStates Y Y′ → PriceCondition A a X Y → PriceCondition A a X′ Y′
+    unfolding SoundAutomaton
+    condition-same a X X′ Y Y′ h k c =
+        record {
+          holds = λ r l isA.
+              subst₂ _≤ℤ_ (targets-same Y Y′ k r) (price-same X X′ h r (A .source r) (sound r l .from)) (c .holds r l isA);
+        }
+
+    related-same : (R : Pairs) (X X′ G G′ : ℕ → ℤ) → AlikeOnStates X X′ → AlikeOnStates G G′ → RelatedCondition A R X G → RelatedCondition A R X′ G′
+    related-same R X X′ G G′ h k c = record { holds = λ v u l m e. subst₂ _≤ℤ_ (k u m) (h v l) (c .holds v u l m e) }
+
+    last-same : (q t : ℕ) (X X′ G G′ : ℕ → ℤ) → t < A .states → AlikeOnStates X X′ → AlikeOnStates G G′ → LastCondition A q t X G → LastCondition A q t X′ G′
+    last-same q t X X′ G G′ l h k c = record { holds = subst₂ _<ℤ_ (price-same X X′ h q t l) (targets-same G G′ k q) (c .holds) }
+
+    pub only-prices : (R : Pairs) (q t : ℕ) (p p′ : ℕ → ℤ) → t < A .states → ((i : ℕ) → i < plainPriceCount A q → p i ≡ p′ i) → PlainRefutes A R q t p → PlainRefutes A R q t p′
+    unfolding plainPriceCount
+    only-prices R q t p p′ l h c =
+        record {
+          internal = λ i.
+              let n : plainPriceCount A q ≡ 2 * A .states = sym (kind-internal q _ _ i) in
+              let d = c .internal i in
+              let x : AlikeOnStates p p′ = λ v m. h v (omega arith) in
+              let g : AlikeOnStates (λ v. p (A .states + v)) (λ v. p′ (A .states + v)) = λ v m. h (A .states + v) (omega arith) in
+              record {
+                internal = condition-same 0 _ _ _ _ x x (d .internal);
+                related = related-same R _ _ _ _ x g (d .related);
+                last = last-same q t _ _ _ _ l x g (d .last);
+              };
+          external = λ i.
+              let n : plainPriceCount A q ≡ 3 * A .states = sym (kind-external q _ _ i) in
+              let d = c .external i in
+              let x : AlikeOnStates p p′ = λ v m. h v (omega arith) in
+              let y : AlikeOnStates (λ v. p (A .states + v)) (λ v. p′ (A .states + v)) = λ v m. h (A .states + v) (omega arith) in
+              let g : AlikeOnStates (λ v. p (2 * A .states + v)) (λ v. p′ (2 * A .states + v)) = λ v m. h (2 * A .states + v) (omega arith) in
+              record {
+                before = condition-same 0 _ _ _ _ x x (d .before);
+                after = condition-same 0 _ _ _ _ y y (d .after);
+                move = condition-same (A .action q) _ _ _ _ x y (d .move);
+                related = related-same R _ _ _ _ y g (d .related);
+                last = last-same q t _ _ _ _ l x g (d .last);
+              };
+        }
+
+-- document 01's tests decide its propositions
+pub plain-decides : Decides plainRule plainSays
+plain-decides =
+    record {
+      priceCount = λ A q. refl;
+      refutes = plain-refutes;
+      onlyPrices = only-prices;
+      inQuestion = λ A q t layer r. (in-question A q layer r, question-in A q layer r);
+      equations = plain-equations;
+    }

@@ -1,0 +1,382 @@
+-- Laws of the merged model: it is sound, its file is read back and is no longer than the model's, and it has one state for each block.
+use Prim.Native.Nat.{ℕ, zero, suc, _+_, _≤_, _<_}
+use mathlib.Core.Path.{_≡_, refl, sym, _∙_, ap, ap₂, subst}
+use mathlib.Core.List.{List, [], _∷_, _++_}
+use lib.ListN.{length, getD, length-append}
+use native.Mathlib.Decide.{decLt, ℕ-discrete}
+use native.Mathlib.Omega.{arith}
+use native.Mathlib.Nat.{add-zero}
+use Rattle.bisimulation.specs.definitions.Choice.{ifSame, ifTrue}
+use Rattle.bisimulation.specs.argument.ChoiceLaws.{same, notSame, eitherSame, eitherTrue}
+use Rattle.bisimulation.specs.definitions.Sum.{sum}
+use Rattle.bisimulation.specs.argument.SumLaws.{sumCong}
+use Rattle.rules.specs.definitions.Limits.{Limits}
+use Rattle.rules.specs.definitions.Bytes.{twoBytes}
+use Rattle.rules.specs.definitions.Model.{Entry, Transition, Model, transitionBytes, transitionsBytes, headBytes, labelsBytes, modelBytes}
+use Rattle.rules.specs.definitions.Reading.{readWhole, model}
+use Rattle.rules.specs.definitions.SoundModel.{Each, sumOver, TransitionRules, SoundModel, FitsWidths}
+use Rattle.rules.specs.argument.SoundModelLaws.{each-map, each-append, From, from-lower, along-from, StatesFrom, SourcesFrom}
+use Rattle.rules.specs.argument.ReadBack.{transitionBytes-length, read-back-whole}
+use Rattle.rules.specs.argument.LargestBlocks.{Numbered}
+use Rattle.rules.specs.definitions.Quotient.{blockCount, labelOfBlock, blockLabels, weightToBlock, blockEntries, mergedTransition, fromBlock, isAmong, distinct, byBlock, quotient, mergedFile}
+use Rattle.rules.specs.argument.KeyedSums.{whichSame, whichLess, inSame, sum-next, each-all, sumOver-append, sumOver-most, sumOver-length, sumOver-some, sumAt, sumAt-all, sumAt-some}
+
+-- block numbers are below the number of blocks, and the highest is one less
+pub block-below : (blocks : List ℕ) (v : ℕ) → v < length blocks → getD blocks v 0 < blockCount blocks
+unfolding blockCount
+block-below [] v l = absurd (omega arith)
+block-below (x ∷ xs) zero l = whichLess (λ c. x < c) x (blockCount xs) (λ h. h) (λ h. omega arith)
+block-below (x ∷ xs) (suc v) l =
+    let h = block-below xs v (omega arith) in
+    whichLess (λ c. getD xs v 0 < c) x (blockCount xs) (λ k. h) (λ k. omega arith)
+
+highest-block : (blocks : List ℕ) → 1 ≤ length blocks → (v : ℕ) × (v < length blocks) × (getD blocks v 0 + 1 ≡ blockCount blocks)
+unfolding blockCount
+highest-block [] l = absurd (omega arith)
+highest-block (x ∷ []) l = (0, omega arith, whichLess (λ c. x + 1 ≡ c) x 0 (λ h. absurd (omega arith)) (λ h. refl))
+highest-block (x ∷ y ∷ xs) l =
+    let h = highest-block (y ∷ xs) (omega arith) in
+    whichLess (λ c. (v : ℕ) × (v < length (x ∷ y ∷ xs)) × (getD (x ∷ y ∷ xs) v 0 + 1 ≡ c)) x (blockCount (y ∷ xs))
+    (λ k. (suc (h .0), omega (arith, h .1), h .2))
+    (λ k. (0, omega arith, refl))
+
+-- numbered by first appearance, a state's block is no higher than the state, and every number below the count is a block
+module _ (blocks : List ℕ) (numbered : Numbered (length blocks) blocks) where
+  block-most : (k v : ℕ) → v < k → v < length blocks → getD blocks v 0 ≤ v
+  block-most zero v h l = absurd (omega arith)
+  block-most (suc k) v h l = go (decLt v (getD blocks v 0)) (λ u i. block-most k u (omega arith) (omega arith))
+    where
+      go : Dec (v < getD blocks v 0) → ((u : ℕ) → u < v → getD blocks u 0 ≤ u) → getD blocks v 0 ≤ v
+      go (no n) before = omega arith
+      go (yes i) before =
+          let a = numbered .appears v l v i in
+          absurd (omega (arith, a .1, a .2, before (a .0) (a .1)))
+
+  module _ (some : 1 ≤ length blocks) where
+    pub count-some : 1 ≤ blockCount blocks
+    count-some = omega (arith, highest-block blocks some .2)
+
+    pub count-most : blockCount blocks ≤ length blocks
+    count-most =
+        let h = highest-block blocks some in
+        omega (arith, h .1, h .2, block-most (suc (h .0)) (h .0) (omega arith) (h .1))
+
+    pub each-block : (b : ℕ) → b < blockCount blocks → (v : ℕ) × (v < length blocks) × (getD blocks v 0 ≡ b)
+    each-block b l = go (highest-block blocks some)
+      where
+        go : ((v : ℕ) × (v < length blocks) × (getD blocks v 0 + 1 ≡ blockCount blocks)) → (v : ℕ) × (v < length blocks) × (getD blocks v 0 ≡ b)
+        go h = which (decLt b (getD blocks (h .0) 0))
+          where
+            which : Dec (b < getD blocks (h .0) 0) → (v : ℕ) × (v < length blocks) × (getD blocks v 0 ≡ b)
+            which (yes i) =
+                let a = numbered .appears (h .0) (h .1) b i in
+                (a .0, omega (arith, a .1, h .1), a .2)
+            which (no n) = (h .0, h .1, omega (arith, h .2))
+
+-- the labels of the blocks are labels of states
+label-of-block : (highest : ℕ) (blocks labels : List ℕ) (b : ℕ) → Each (λ (l : ℕ). l ≤ highest) labels → labelOfBlock blocks labels b ≤ highest
+unfolding labelOfBlock Each
+label-of-block highest [] labels b h = omega arith
+label-of-block highest (x ∷ xs) [] b h = omega arith
+label-of-block highest (x ∷ xs) (l ∷ ls) b h =
+    eitherSame (λ (c : ℕ). c ≤ highest) x b (h .0) (label-of-block highest xs ls b (h .1))
+
+labels-of-blocks : (highest : ℕ) (blocks labels : List ℕ) → Each (λ (l : ℕ). l ≤ highest) labels → (left b : ℕ) → Each (λ (l : ℕ). l ≤ highest) (blockLabels blocks labels left b)
+unfolding blockLabels Each
+labels-of-blocks highest blocks labels h zero b = tt
+labels-of-blocks highest blocks labels h (suc left) b =
+    (label-of-block highest blocks labels b h, labels-of-blocks highest blocks labels h left (b + 1))
+
+labels-count : (blocks labels : List ℕ) (left b : ℕ) → length (blockLabels blocks labels left b) ≡ left
+unfolding blockLabels
+labels-count blocks labels zero b = refl
+labels-count blocks labels (suc left) b = omega (arith, labels-count blocks labels left (b + 1))
+
+-- the label at a block's place
+label-at : (blocks labels : List ℕ) (left b i : ℕ) → i < left → getD (blockLabels blocks labels left b) i 0 ≡ labelOfBlock blocks labels (b + i)
+unfolding blockLabels
+label-at blocks labels zero b i h = absurd (omega arith)
+label-at blocks labels (suc left) b zero h = let e : b ≡ b + 0 = omega arith in ap (labelOfBlock blocks labels) e
+label-at blocks labels (suc left) b (suc i) h =
+    let e : b + 1 + i ≡ b + suc i = omega arith in label-at blocks labels left (b + 1) i (omega arith) ∙ ap (labelOfBlock blocks labels) e
+
+-- a block's label is that of one of its members
+record MembersLabel (blocks labels : List ℕ) (b : ℕ) : Type 0 where
+  member : ℕ
+  below : member < length blocks
+  of : getD blocks member 0 ≡ b
+  label : labelOfBlock blocks labels b ≡ getD labels member 0
+
+members-label : (blocks labels : List ℕ) (b v : ℕ) → length blocks ≡ length labels → v < length blocks → getD blocks v 0 ≡ b → MembersLabel blocks labels b
+unfolding labelOfBlock
+members-label [] labels b v e h f = absurd (omega arith)
+members-label (x ∷ xs) [] b v e h f = absurd (omega arith)
+members-label (x ∷ xs) (l ∷ ls) b v e h f = go (ℕ-discrete x b) (λ w k g. members-label xs ls b w (omega arith) k g)
+  where
+    Rest : Type 0
+    Rest = (w : ℕ) → w < length xs → getD xs w 0 ≡ b → MembersLabel xs ls b
+
+    later : Rest → (x ≡ b → ⊥) → (w : ℕ) → w < length (x ∷ xs) → getD (x ∷ xs) w 0 ≡ b → MembersLabel (x ∷ xs) (l ∷ ls) b
+    later rest n zero k g = absurd (n g)
+    later rest n (suc w) k g =
+        let t = rest w (omega arith) g in
+        unfold labelOfBlock in
+        record { member = suc (t .member); below = omega (arith, t .below); of = t .of; label = sym (notSame l n (sym (t .label))) }
+
+    go : Dec (x ≡ b) → Rest → MembersLabel (x ∷ xs) (l ∷ ls) b
+    go (yes s) rest = unfold labelOfBlock in record { member = 0; below = omega arith; of = s; label = sym (same _ s refl) }
+    go (no n) rest = later rest n v h f
+
+-- one transition's entries
+module _ (blocks : List ℕ) where
+  abbrev blockOf : Entry → ℕ
+  blockOf e = getD blocks (e .state) 0
+
+  weight-added : (es : List Entry) (b : ℕ) → weightToBlock blocks es b ≡ sumAt blockOf (λ (e : Entry). e .weight) es b
+  unfolding weightToBlock sumOver
+  weight-added [] b = refl
+  weight-added (e ∷ es) b = omega (arith, weight-added es b)
+
+  -- the entries to the blocks from b up to `end`, against the sums over the blocks before b and before `end`
+  record EntriesTo (es : List Entry) (b end : ℕ) (xs : List Entry) : Type 0 where
+    from : StatesFrom b xs
+    states : Each (λ (e : Entry). e .state < end) xs
+    weights : Each (λ (e : Entry). 1 ≤ e .weight) xs
+    most : b + length xs ≤ end
+    whole : sum b (weightToBlock blocks es) + sumOver (λ (e : Entry). e .weight) xs ≡ sum end (weightToBlock blocks es)
+    few : sum b (sumAt blockOf (λ e. 1) es) + length xs ≤ sum end (sumAt blockOf (λ e. 1) es)
+
+  entries-to : (es : List Entry) (left b end : ℕ) → b + left ≡ end → EntriesTo es b end (blockEntries blocks es left b)
+  unfolding blockEntries From Each sumOver sum
+  entries-to es zero b end isEnd =
+      let here : b ≡ end = omega arith in
+      subst (λ (k : ℕ). EntriesTo es b k []) here
+      (record { from = tt; states = tt; weights = tt; most = omega arith; whole = omega arith; few = omega arith })
+  entries-to es (suc left) b end isEnd =
+      let rest = entries-to es left (b + 1) end (omega arith) in
+      let later = blockEntries blocks es left (b + 1) in
+      let weight = weightToBlock blocks es b in
+      let without : weight ≡ 0 → EntriesTo es b end later = λ none.
+      record {
+        from = from-lower _ _ later b (b + 1) (omega arith) (rest .from);
+        states = rest .states;
+        weights = rest .weights;
+        most = omega (arith, rest .most);
+        whole = omega (arith, rest .whole, sum-next b (weightToBlock blocks es));
+        few = omega (arith, rest .few, sum-next b (sumAt blockOf (λ e. 1) es));
+      } in
+      let with : (weight ≡ 0 → ⊥) → EntriesTo es b end (record { state = b; weight = weight } ∷ later) = λ some.
+      record {
+        from = (omega arith, from-lower _ _ later (suc b) (b + 1) (omega arith) (rest .from));
+        states = (omega arith, rest .states);
+        weights = (omega arith, rest .weights);
+        most = omega (arith, rest .most);
+        whole = omega (arith, rest .whole, sum-next b (weightToBlock blocks es));
+        few = omega (arith, rest .few, sum-next b (sumAt blockOf (λ e. 1) es), sumAt-some blockOf (λ (e : Entry). e .weight) es b (omega (arith, weight-added es b)));
+      } in
+      whichSame (λ (xs : List Entry). EntriesTo es b end (xs ++ later)) weight 0 without with
+
+  -- a merged transition keeps the rules, with no more entries
+  module _ (n m : ℕ) (t : Transition) (rules : TransitionRules n m t) (below : (v : ℕ) → v < n → getD blocks v 0 < blockCount blocks) where
+    entry-blocks : Each (λ (e : Entry). blockOf e < blockCount blocks) (t .entries)
+    entry-blocks = each-map _ _ (λ e h. below (e .state) h) (t .entries) (rules .states)
+
+    merged-entries : EntriesTo (t .entries) 0 (blockCount blocks) (blockEntries blocks (t .entries) (blockCount blocks) 0)
+    merged-entries = entries-to (t .entries) (blockCount blocks) 0 (blockCount blocks) (omega arith)
+
+    merged-whole : sumOver (λ (e : Entry). e .weight) (mergedTransition blocks t .entries) ≡ t .denominator
+    unfolding mergedTransition sum
+    merged-whole =
+        omega (arith, merged-entries .whole, sumCong (blockCount blocks) (weightToBlock blocks (t .entries)) (sumAt blockOf (λ (e : Entry). e .weight) (t .entries)) (λ b l. weight-added (t .entries) b), sumAt-all blockOf (λ (e : Entry). e .weight) (blockCount blocks) (t .entries) entry-blocks, rules .whole)
+
+    pub merged-few : length (mergedTransition blocks t .entries) ≤ length (t .entries)
+    unfolding mergedTransition sum
+    merged-few =
+        omega (arith, merged-entries .few, sumAt-all blockOf (λ (e : Entry). 1) (blockCount blocks) (t .entries) entry-blocks, sumOver-length (t .entries))
+
+    pub merged-rules : TransitionRules (blockCount blocks) m (mergedTransition blocks t)
+    unfolding mergedTransition
+    merged-rules =
+        record {
+          source = below (t .source) (rules .source);
+          action = rules .action;
+          positive = rules .positive;
+          fits = rules .fits;
+          some = sumOver-some (λ (e : Entry). e .weight) (mergedTransition blocks t .entries) (omega (arith, merged-whole, rules .positive));
+          most = omega (arith, merged-entries .most);
+          states = merged-entries .states;
+          ascend = along-from _ _ _ 0 (merged-entries .from);
+          weights = merged-entries .weights;
+          whole = merged-whole;
+        }
+
+-- dropping what came before keeps each, and adds up to no more
+pub each-distinct : (P : Transition → Type 0) (before ts : List Transition) → Each P ts → Each P (distinct before ts)
+unfolding distinct Each
+each-distinct P before [] h = tt
+each-distinct P before (t ∷ ts) h =
+    each-append P (ifTrue (isAmong t before) [] (t ∷ [])) (distinct (t ∷ before) ts)
+    (eitherTrue (Each P) (isAmong t before) {x = []} {y = t ∷ []} tt (h .0, tt)) (each-distinct P (t ∷ before) ts (h .1))
+
+pub sum-distinct : (g : Transition → ℕ) (before ts : List Transition) → sumOver g (distinct before ts) ≤ sumOver g ts
+unfolding distinct sumOver
+sum-distinct g before [] = omega arith
+sum-distinct g before (t ∷ ts) =
+    let ih = sum-distinct g (t ∷ before) ts in
+    eitherTrue (λ (xs : List Transition). sumOver g (xs ++ distinct (t ∷ before) ts) ≤ g t + sumOver g ts) (isAmong t before) (omega arith) (omega arith)
+
+-- transitions of one source, before others of higher ones
+sources-level : (b : ℕ) (ts us : List Transition) (low : ℕ) → low ≤ b → Each (λ (t : Transition). t .source ≡ b) ts → SourcesFrom (b + 1) us → SourcesFrom low (ts ++ us)
+unfolding Each From
+sources-level b [] us low le h k = from-lower _ _ us low (b + 1) (omega arith) k
+sources-level b (t ∷ ts) us low le h k = (omega (arith, h .0), sources-level b ts us (t .source) (omega (arith, h .0)) (h .1) k)
+
+-- the merged transitions
+module _ (blocks : List ℕ) where
+  abbrev sourceBlock : Transition → ℕ
+  sourceBlock t = getD blocks (t .source) 0
+
+  pub each-from : (P : Transition → Type 0) (b : ℕ) (ts : List Transition) → Each (λ (t : Transition). sourceBlock t ≡ b → P (mergedTransition blocks t)) ts → Each P (fromBlock blocks ts b)
+  unfolding fromBlock Each
+  each-from P b [] h = tt
+  each-from P b (t ∷ ts) h =
+      each-append P (ifSame (sourceBlock t) b (mergedTransition blocks t ∷ []) []) (fromBlock blocks ts b)
+      (whichSame (Each P) (sourceBlock t) b {x = mergedTransition blocks t ∷ []} {y = []} (λ e. (h .0 e, tt)) (λ n. tt)) (each-from P b ts (h .1))
+
+  pub sum-from : (g : Transition → ℕ) (b : ℕ) (ts : List Transition) → sumOver g (fromBlock blocks ts b) ≡ sumAt sourceBlock (λ (t : Transition). g (mergedTransition blocks t)) ts b
+  unfolding fromBlock sumOver
+  sum-from g b [] = refl
+  sum-from g b (t ∷ ts) =
+      let m = mergedTransition blocks t in
+      let first : sumOver g (ifSame (sourceBlock t) b (m ∷ []) []) ≡ ifSame (sourceBlock t) b (g m) 0 =
+      inSame (sumOver g) (sourceBlock t) b (m ∷ []) [] ∙ ap (λ (k : ℕ). ifSame (sourceBlock t) b k 0) (add-zero (g m)) in
+      sumOver-append g (ifSame (sourceBlock t) b (m ∷ []) []) (fromBlock blocks ts b) ∙ ap₂ _+_ first (sum-from g b ts)
+
+  module _ (ts : List Transition) where
+    each-by-block : (P : Transition → Type 0) → Each (λ (t : Transition). P (mergedTransition blocks t)) ts → (left b : ℕ) → Each P (byBlock blocks ts left b)
+    unfolding byBlock Each
+    each-by-block P h zero b = tt
+    each-by-block P h (suc left) b =
+        each-append P (distinct [] (fromBlock blocks ts b)) (byBlock blocks ts left (b + 1))
+        (each-distinct P [] (fromBlock blocks ts b) (each-from P b ts (each-map _ _ (λ t k e. k) ts h))) (each-by-block P h left (b + 1))
+
+    sources-by-block : (left b : ℕ) → SourcesFrom b (byBlock blocks ts left b)
+    unfolding byBlock From mergedTransition
+    sources-by-block zero b = tt
+    sources-by-block (suc left) b =
+        sources-level b (distinct [] (fromBlock blocks ts b)) (byBlock blocks ts left (b + 1)) b (omega arith)
+        (each-distinct _ [] (fromBlock blocks ts b) (each-from _ b ts (each-all _ (λ t e. e) ts))) (sources-by-block left (b + 1))
+
+    pub sum-by-block : (g : Transition → ℕ) (left b end : ℕ) → b + left ≡ end → sum b (λ c. sumOver g (fromBlock blocks ts c)) + sumOver g (byBlock blocks ts left b) ≤ sum end (λ c. sumOver g (fromBlock blocks ts c))
+    unfolding byBlock sum sumOver
+    sum-by-block g zero b end isEnd =
+        let here : b ≡ end = omega arith in
+        omega (arith, ap (λ (k : ℕ). sum k (λ c. sumOver g (fromBlock blocks ts c))) here)
+    sum-by-block g (suc left) b end isEnd =
+        let parts : sumOver g (byBlock blocks ts (suc left) b) ≡ sumOver g (distinct [] (fromBlock blocks ts b)) + sumOver g (byBlock blocks ts left (b + 1)) =
+        sumOver-append g (distinct [] (fromBlock blocks ts b)) (byBlock blocks ts left (b + 1)) in
+        omega (arith, parts, sum-by-block g left (b + 1) end (omega arith), sum-next b (λ c. sumOver g (fromBlock blocks ts c)), sum-distinct g [] (fromBlock blocks ts b))
+
+    -- numbers that merging a transition does not raise add up to no more
+    sum-merged : (g : Transition → ℕ) → Each (λ (t : Transition). sourceBlock t < blockCount blocks) ts → Each (λ (t : Transition). g (mergedTransition blocks t) ≤ g t) ts → sumOver g (byBlock blocks ts (blockCount blocks) 0) ≤ sumOver g ts
+    unfolding sum
+    sum-merged g below most =
+        let k = blockCount blocks in
+        let f : Transition → ℕ = λ t. g (mergedTransition blocks t) in
+        omega (arith, sum-by-block g k 0 k (omega arith), sumCong k (λ c. sumOver g (fromBlock blocks ts c)) (sumAt sourceBlock f ts) (λ b l. sum-from g b ts), sumAt-all sourceBlock f k ts below, sumOver-most f g ts most)
+
+-- how long a model's file is
+pub transitions-length : (ts : List Transition) → length (transitionsBytes ts) ≡ sumOver (λ (t : Transition). length (transitionBytes t)) ts
+unfolding transitionsBytes sumOver
+transitions-length [] = refl
+transitions-length (t ∷ ts) = omega (arith, length-append (transitionBytes t) (transitionsBytes ts), transitions-length ts)
+
+model-length : (M : Model) → length (modelBytes M) ≡ 8 + (length (M .labels) + sumOver (λ (t : Transition). length (transitionBytes t)) (M .transitions))
+unfolding modelBytes headBytes labelsBytes twoBytes
+model-length M = omega (arith, length-append (M .labels) (transitionsBytes (M .transitions)), transitions-length (M .transitions))
+
+-- blocks of a model, numbered by first appearance
+pub record NumberedBlocks (M : Model) (blocks : List ℕ) : Type 0 where
+  pub whole : length blocks ≡ length (M .labels)
+  pub numbered : Numbered (length (M .labels)) blocks
+
+module _ (L : Limits) (M : Model) (ok : SoundModel L M) (blocks : List ℕ) (named : NumberedBlocks M blocks) where
+  among : Numbered (length blocks) blocks
+  among = subst (λ (n : ℕ). Numbered n blocks) (sym (named .whole)) (named .numbered)
+
+  some : 1 ≤ length blocks
+  some = omega (arith, named .whole, ok .someState)
+
+  -- every state's block is a state of the merged model
+  pub merged-below : (v : ℕ) → v < length (M .labels) → getD blocks v 0 < blockCount blocks
+  merged-below v l = block-below blocks v (omega (arith, named .whole))
+
+  -- and every state of the merged model is a state's block
+  pub merged-each : (b : ℕ) → b < blockCount blocks → (v : ℕ) × (v < length (M .labels)) × (getD blocks v 0 ≡ b)
+  merged-each b l =
+      let h = each-block blocks among some b l in
+      (h .0, omega (arith, h .1, named .whole), h .2)
+
+  -- as many states as there are blocks
+  pub merged-states : length (quotient M blocks .labels) ≡ blockCount blocks
+  unfolding quotient
+  merged-states = labels-count blocks (M .labels) (blockCount blocks) 0
+
+  -- a state of the merged model has the label of each of its members, where members are labelled alike
+  pub merged-label : ((u v : ℕ) → u < length blocks → v < length blocks → getD blocks u 0 ≡ getD blocks v 0 → getD (M .labels) u 0 ≡ getD (M .labels) v 0) → (v : ℕ) → v < length (M .labels) → getD (quotient M blocks .labels) (getD blocks v 0) 0 ≡ getD (M .labels) v 0
+  unfolding quotient
+  merged-label alike v h =
+      let l : v < length blocks = omega (arith, h, named .whole) in
+      let t = members-label blocks (M .labels) (getD blocks v 0) v (named .whole) l refl in
+      let z : 0 + getD blocks v 0 ≡ getD blocks v 0 = omega arith in
+      label-at blocks (M .labels) (blockCount blocks) 0 (getD blocks v 0) (block-below blocks v l) ∙ ap (labelOfBlock blocks (M .labels)) z ∙ t .label ∙ alike (t .member) v (t .below) l (t .of)
+
+  -- what merging does not raise in one transition
+  merged-sum : (g : Transition → ℕ) → ((t : Transition) → TransitionRules (length (M .labels)) (M .actions) t → g (mergedTransition blocks t) ≤ g t) → sumOver g (quotient M blocks .transitions) ≤ sumOver g (M .transitions)
+  unfolding quotient
+  merged-sum g most =
+      sum-merged blocks (M .transitions) g
+      (each-map _ _ (λ t rules. merged-below (t .source) (rules .source)) (M .transitions) (ok .transitions))
+      (each-map _ _ most (M .transitions) (ok .transitions))
+
+  -- the merged model is sound
+  pub quotient-sound : SoundModel L (quotient M blocks)
+  unfolding quotient
+  quotient-sound =
+      let Q = quotient M blocks in
+      record {
+        someState = omega (arith, merged-states, count-some blocks among some);
+        states = omega (arith, merged-states, count-most blocks among some, named .whole, ok .states);
+        someAction = ok .someAction;
+        actions = ok .actions;
+        count = omega (arith, merged-sum (λ t. 1) (λ t rules. omega arith), sumOver-length (Q .transitions), sumOver-length (M .transitions), ok .count);
+        labels = labels-of-blocks (L .label) blocks (M .labels) (ok .labels) (blockCount blocks) 0;
+        transitions =
+            subst (λ (n : ℕ). Each (TransitionRules n (M .actions)) (Q .transitions)) (sym merged-states)
+            (each-by-block blocks (M .transitions) (TransitionRules (blockCount blocks) (M .actions))
+            (each-map _ _ (λ t rules. merged-rules blocks (length (M .labels)) (M .actions) t rules merged-below) (M .transitions) (ok .transitions))
+            (blockCount blocks) 0);
+        sources = along-from _ _ (Q .transitions) 0 (sources-by-block blocks (M .transitions) (blockCount blocks) 0);
+        entries =
+            omega (arith, merged-sum (λ (t : Transition). length (t .entries)) (λ t rules. merged-few blocks (length (M .labels)) (M .actions) t rules merged-below), ok .entries);
+      }
+
+  -- so its file is read as it
+  pub merged-reads : FitsWidths L → readWhole L (mergedFile M blocks) ≡ model (quotient M blocks) (length (mergedFile M blocks))
+  unfolding mergedFile
+  merged-reads fits = read-back-whole L (quotient M blocks) fits quotient-sound
+
+  -- and is no longer than the model's
+  pub merged-length : length (mergedFile M blocks) ≤ length (modelBytes M)
+  unfolding mergedFile
+  merged-length =
+      omega (
+        arith,
+        model-length M,
+        model-length (quotient M blocks),
+        merged-states,
+        count-most blocks among some,
+        named .whole,
+        merged-sum (λ (t : Transition). length (transitionBytes t))
+            (λ t rules. omega (arith, transitionBytes-length t, transitionBytes-length (mergedTransition blocks t), merged-few blocks (length (M .labels)) (M .actions) t rules merged-below)),
+      )

@@ -1,0 +1,399 @@
+-- Laws of reading a model: what the code and the theorems use of the definitions in `Reading`.
+use Prim.Native.Nat.{ℕ, zero, suc, _+_, _-_, _≤_, _<_}
+use mathlib.Core.Path.{_≡_, refl, sym, _∙_, ap, subst}
+use mathlib.Core.List.{List}
+use mathlib.Core.Bool.{Bool, true, false, cond}
+use lib.Dec.{eqb}
+use borrow.Author.Tests.{eqb-true, eqb-false}
+use lib.ListN.{length}
+use native.Mathlib.Omega.{arith}
+use native.Mathlib.Numerals.{add-one}
+use native.Mathlib.Decide.{ℕ-discrete, decLe}
+use Rattle.bisimulation.specs.definitions.Choice.{ifLess, ifSame, unlessLess, unlessSame}
+use Rattle.bisimulation.specs.argument.ChoiceLaws.{via, less, notLess, same, notSame, pastLess, keptLess, keptSame, eitherLess, eitherSame}
+use Rattle.rules.specs.definitions.Limits.{Limits}
+use Rattle.rules.specs.definitions.Bytes.{byteAt, twoAt}
+use Rattle.rules.specs.definitions.Reading.{firstFault, statesOf, actionsOf, countOf, rangeFault, headFault, labelFault, labelsFault, sourceAt, actionAt, denominatorAt, entryCountAt, afterTransition, fixedFault, fixedFaultAt, entriesFault, transitionFault, Scan, sound, refused, refuseAt, scanTransitions, scanModel, refuseBytesLeft, scanWhole, placeOf, firstNotBelow}
+
+one-less : (left : ℕ) → left ≡ suc left - 1
+one-less left = omega arith
+
+-- each recursion where nothing is left, and one turn of it where something is
+pub labelFault-end : (L : Limits) (s : List ℕ) (left at : ℕ) → left ≤ 0 → labelFault L s left at ≡ 0
+unfolding labelFault
+labelFault-end L s zero at h = refl
+labelFault-end L s (suc left) at h = absurd (omega arith)
+
+pub entriesFault-end : (s : List ℕ) (n d left at lowest total : ℕ) → left ≤ 0 → entriesFault s n d left at lowest total ≡ unlessSame total d 7 0
+unfolding entriesFault
+entriesFault-end s n d zero at lowest total h = refl
+entriesFault-end s n d (suc left) at lowest total h = absurd (omega arith)
+
+pub scanTransitions-end : (L : Limits) (s : List ℕ) (n m count left last entries at : ℕ) → left ≤ 0 → scanTransitions L s n m count left last entries at ≡ sound n m count at
+unfolding scanTransitions
+scanTransitions-end L s n m count zero last entries at h = refl
+scanTransitions-end L s n m count (suc left) last entries at h = absurd (omega arith)
+
+pub firstNotBelow-end : (s : List ℕ) (state left r : ℕ) → left ≤ 0 → firstNotBelow s state left r ≡ r
+unfolding firstNotBelow
+firstNotBelow-end s state zero r h = refl
+firstNotBelow-end s state (suc left) r h = absurd (omega arith)
+
+pub labelFault-turn : (L : Limits) (s : List ℕ) (left at : ℕ) → 0 < left → labelFault L s left at ≡ ifLess (L .label) (byteAt s at) 4 (labelFault L s (left - 1) (at + 1))
+unfolding labelFault
+labelFault-turn L s zero at h = absurd (omega arith)
+labelFault-turn L s (suc left) at h = ap (λ (k : ℕ). ifLess (L .label) (byteAt s at) 4 (labelFault L s k (at + 1))) (one-less left)
+
+pub entriesFault-turn : (s : List ℕ) (n d left at lowest total : ℕ) → 0 < left → entriesFault s n d left at lowest total ≡ ifLess (byteAt s at) lowest 6 (unlessLess (byteAt s at) n 6 (unlessLess 0 (twoAt s (at + 1)) 6 (entriesFault s n d (left - 1) (at + 3) (byteAt s at + 1) (total + twoAt s (at + 1)))))
+unfolding entriesFault
+entriesFault-turn s n d zero at lowest total h = absurd (omega arith)
+entriesFault-turn s n d (suc left) at lowest total h =
+    ap
+    (λ (k : ℕ).
+    ifLess (byteAt s at) lowest 6
+    (unlessLess (byteAt s at) n 6
+    (unlessLess 0 (twoAt s (at + 1)) 6
+    (entriesFault s n d k (at + 3) (byteAt s at + 1) (total + twoAt s (at + 1))))))
+    (one-less left)
+
+pub scanTransitions-turn : (L : Limits) (s : List ℕ) (n m count left last entries at : ℕ) → 0 < left → scanTransitions L s n m count left last entries at ≡ refuseAt (transitionFault L s n m last entries at) at (scanTransitions L s n m count (left - 1) (sourceAt s at) (entries + entryCountAt s at) (afterTransition s at))
+unfolding scanTransitions
+scanTransitions-turn L s n m count zero last entries at h = absurd (omega arith)
+scanTransitions-turn L s n m count (suc left) last entries at h =
+    ap
+    (λ (k : ℕ).
+    refuseAt (transitionFault L s n m last entries at) at
+    (scanTransitions L s n m count k (sourceAt s at) (entries + entryCountAt s at) (afterTransition s at)))
+    (one-less left)
+
+pub firstNotBelow-turn : (s : List ℕ) (state left r : ℕ) → 0 < left → firstNotBelow s state left r ≡ ifLess (sourceAt s (placeOf s r)) state (firstNotBelow s state (left - 1) (r + 1)) r
+unfolding firstNotBelow
+firstNotBelow-turn s state zero r h = absurd (omega arith)
+firstNotBelow-turn s state (suc left) r h =
+    ap (λ (k : ℕ). ifLess (sourceAt s (placeOf s r)) state (firstNotBelow s state k (r + 1)) r) (one-less left)
+
+pub placeOf-next : (s : List ℕ) (r : ℕ) → placeOf s (r + 1) ≡ afterTransition s (placeOf s r)
+unfolding placeOf
+placeOf-next s r = rw add-one
+
+-- what a transition record without fault tells
+pub record PassedTransition (L : Limits) (s : List ℕ) (n m last entries at : ℕ) : Type 0 where
+  pub mark : twoAt s at ≡ 0x5452
+  pub fixed : at + 7 ≤ length s
+  pub ascends : last ≤ sourceAt s at
+  pub source : sourceAt s at < n
+  pub action : actionAt s at < m
+  pub denominator : 0 < denominatorAt s at
+  pub some : 0 < entryCountAt s at
+  pub most : entryCountAt s at ≤ n
+  pub few : entries + entryCountAt s at ≤ L .entries
+  pub whole : afterTransition s at ≤ length s
+  pub shares : entriesFault s n (denominatorAt s at) (entryCountAt s at) (at + 7) 0 0 ≡ 0
+
+-- the first of two faults, where x is the first: it is one, or it is none
+pub first-stops : {x : ℕ} (f next : ℕ) → x ≡ f → (x ≡ 0 → ⊥) → x ≡ firstFault f next
+unfolding firstFault
+first-stops f next e h = notSame next (λ q. h (e ∙ q)) e
+
+pub first-passes : {x f z next : ℕ} → x ≡ f → x ≡ 0 → z ≡ next → z ≡ firstFault f next
+unfolding firstFault
+first-passes {f = f} e h q = same f (sym e ∙ h) q
+
+-- a record's fault x refuses at its place, or the next record follows
+pub refuse-stops : {x : ℕ} (f place : ℕ) (next : Scan) → x ≡ f → (x ≡ 0 → ⊥) → refused x place ≡ refuseAt f place next
+unfolding refuseAt
+refuse-stops f place next e h = notSame next (λ q. h (e ∙ q)) (ap (λ (k : ℕ). refused k place) e)
+
+pub refuse-passes : {x f : ℕ} (place : ℕ) {z next : Scan} → x ≡ f → x ≡ 0 → z ≡ next → z ≡ refuseAt f place next
+unfolding refuseAt
+refuse-passes {f = f} place e h q = same (refused f place) (sym e ∙ h) q
+
+-- a fault of the head is the file's
+pub head-stops : (L : Limits) (s : List ℕ) {x : ℕ} → x ≡ headFault L s → (x ≡ 0 → ⊥) → refused x 0 ≡ scanWhole L s
+unfolding scanWhole scanModel refuseBytesLeft
+head-stops L s {x} e h = subst (λ (scan : Scan). refused x 0 ≡ refuseBytesLeft s scan) (refuse-stops _ 0 _ e h) refl
+
+-- no first fault: neither of the two is one
+pub firstFault-none : (f next : ℕ) → 0 ≡ firstFault f next → (0 ≡ f) × (0 ≡ next)
+unfolding firstFault ifSame
+firstFault-none f next = go (eqb f 0) refl
+  where
+    go : (t : Bool) → eqb f 0 ≡ t → 0 ≡ cond t next f → (0 ≡ f) × (0 ≡ next)
+    go true q e = (sym (eqb-true f 0 q), e)
+    go false q e = absurd (eqb-false f 0 q (sym e))
+
+pub zero-not : (k : ℕ) → 0 ≡ suc k → ⊥
+zero-not k e = omega arith
+
+pub transition-passed : (L : Limits) (s : List ℕ) (n m last entries at : ℕ) → 0 ≡ transitionFault L s n m last entries at → PassedTransition L s n m last entries at
+unfolding transitionFault fixedFaultAt fixedFault
+transition-passed L s n m last entries at e =
+    let a = pastLess 1 _ (length s) (at + 2) (zero-not 0) e in
+    let b = keptSame _ 2 (twoAt s at) 0x5452 (zero-not 1) (a .1) in
+    let c = pastLess 1 _ (length s) (at + 7) (zero-not 0) (b .1) in
+    let d = firstFault-none _ _ (c .1) in
+    let f = pastLess 5 _ (sourceAt s at) last (zero-not 4) (d .0) in
+    let g = keptLess _ 5 (sourceAt s at) n (zero-not 4) (f .1) in
+    let h = keptLess _ 5 (actionAt s at) m (zero-not 4) (g .1) in
+    let i = keptLess _ 5 0 (denominatorAt s at) (zero-not 4) (h .1) in
+    let j = keptLess _ 5 0 (entryCountAt s at) (zero-not 4) (i .1) in
+    let k = pastLess 5 _ n (entryCountAt s at) (zero-not 4) (j .1) in
+    let l = pastLess 8 _ (L .entries) (entries + entryCountAt s at) (zero-not 7) (k .1) in
+    let o = pastLess 1 _ (length s) (afterTransition s at) (zero-not 0) (d .1) in
+    record {
+      mark = b .0;
+      fixed = c .0;
+      ascends = f .0;
+      source = g .0;
+      action = h .0;
+      denominator = i .0;
+      some = j .0;
+      most = k .0;
+      few = l .0;
+      whole = o .0;
+      shares = sym (o .1);
+    }
+
+-- what a head without fault tells
+pub record PassedHead (L : Limits) (s : List ℕ) : Type 0 where
+  pub mark : twoAt s 0 ≡ 0x5041
+  pub whole : 6 ≤ length s
+  pub some : 0 < statesOf s
+  pub states : statesOf s ≤ L .states
+  pub someAction : 0 < actionsOf s
+  pub actions : actionsOf s ≤ L .actions
+  pub transitions : countOf s ≤ L .transitions
+
+pub head-passed : (L : Limits) (s : List ℕ) → 0 ≡ headFault L s → PassedHead L s
+unfolding headFault rangeFault
+head-passed L s e =
+    let a = pastLess 1 _ (length s) 2 (zero-not 0) e in
+    let b = keptSame _ 2 (twoAt s 0) 0x5041 (zero-not 1) (a .1) in
+    let c = pastLess 1 _ (length s) 6 (zero-not 0) (b .1) in
+    let d = keptLess _ 3 0 (statesOf s) (zero-not 2) (c .1) in
+    let f = pastLess 3 _ (L .states) (statesOf s) (zero-not 2) (d .1) in
+    let g = keptLess _ 3 0 (actionsOf s) (zero-not 2) (f .1) in
+    let h = pastLess 3 _ (L .actions) (actionsOf s) (zero-not 2) (g .1) in
+    let i = pastLess 3 _ (L .transitions) (countOf s) (zero-not 2) (h .1) in
+    record { mark = b .0; whole = c .0; some = d .0; states = f .0; someAction = g .0; actions = h .0; transitions = i .0 }
+
+-- what labels without fault tell
+pub record PassedLabels (L : Limits) (s : List ℕ) (n : ℕ) : Type 0 where
+  pub mark : twoAt s 6 ≡ 0x4C42
+  pub whole : 8 + n ≤ length s
+  pub small : 0 ≡ labelFault L s n 8
+
+pub labels-passed : (L : Limits) (s : List ℕ) (n : ℕ) → 0 ≡ labelsFault L s n → PassedLabels L s n
+unfolding labelsFault
+labels-passed L s n e =
+    let a = pastLess 1 _ (length s) 8 (zero-not 0) e in
+    let b = keptSame _ 2 (twoAt s 6) 0x4C42 (zero-not 1) (a .1) in
+    let c = pastLess 1 _ (length s) (8 + n) (zero-not 0) (b .1) in
+    record { mark = b .0; whole = c .0; small = c .1 }
+
+-- every fault of a model record is a number of document 01's model table
+small-first : (f next : ℕ) → f ≤ 8 → next ≤ 8 → firstFault f next ≤ 8
+unfolding firstFault
+small-first f next p q = eitherSame (λ (k : ℕ). k ≤ 8) f 0 q p
+
+orLess : (a b : ℕ) {x y : ℕ} → x ≤ 8 → y ≤ 8 → ifLess a b x y ≤ 8
+orLess a b p q = eitherLess (λ (k : ℕ). k ≤ 8) a b p q
+
+orSame : (a b : ℕ) {x y : ℕ} → x ≤ 8 → y ≤ 8 → ifSame a b x y ≤ 8
+orSame a b p q = eitherSame (λ (k : ℕ). k ≤ 8) a b p q
+
+headFault-small : (L : Limits) (s : List ℕ) → headFault L s ≤ 8
+unfolding headFault rangeFault
+headFault-small L s =
+    orLess _ _ (omega arith)
+    (orSame _ _
+    (orLess _ _ (omega arith)
+    (orLess _ _
+    (orLess _ _ (omega arith) (orLess _ _ (orLess _ _ (omega arith) (orLess _ _ (omega arith) (omega arith))) (omega arith)))
+    (omega arith)))
+    (omega arith))
+
+labelFault-small : (L : Limits) (s : List ℕ) (left at : ℕ) → labelFault L s left at ≤ 8
+unfolding labelFault
+labelFault-small L s zero at = omega arith
+labelFault-small L s (suc left) at = orLess _ _ (omega arith) (labelFault-small L s left (at + 1))
+
+labelsFault-small : (L : Limits) (s : List ℕ) (n : ℕ) → labelsFault L s n ≤ 8
+unfolding labelsFault
+labelsFault-small L s n =
+    orLess _ _ (omega arith)
+    (orSame _ _ (orLess _ _ (omega arith) (labelFault-small L s n 8)) (omega arith))
+
+entriesFault-small : (s : List ℕ) (n d left at lowest total : ℕ) → entriesFault s n d left at lowest total ≤ 8
+unfolding entriesFault
+entriesFault-small s n d zero at lowest total = orSame _ _ (omega arith) (omega arith)
+entriesFault-small s n d (suc left) at lowest total =
+    orLess _ _ (omega arith)
+    (orLess _ _
+    (orLess _ _
+    (entriesFault-small s n d left (at + 3) (byteAt s at + 1) (total + twoAt s (at + 1)))
+    (omega arith))
+    (omega arith))
+
+fixedFault-small : (L : Limits) (n m last entries source action d c : ℕ) → fixedFault L n m last entries source action d c ≤ 8
+unfolding fixedFault
+fixedFault-small L n m last entries source action d c =
+    orLess _ _ (omega arith)
+    (orLess _ _
+    (orLess _ _
+    (orLess _ _
+    (orLess _ _
+    (orLess _ _ (omega arith) (orLess _ _ (omega arith) (omega arith)))
+    (omega arith))
+    (omega arith))
+    (omega arith))
+    (omega arith))
+
+pub transitionFault-small : (L : Limits) (s : List ℕ) (n m last entries at : ℕ) → transitionFault L s n m last entries at ≤ 8
+unfolding transitionFault fixedFaultAt
+transitionFault-small L s n m last entries at =
+    orLess _ _ (omega arith)
+    (orSame _ _
+    (orLess _ _ (omega arith)
+    (small-first _ _ (fixedFault-small L n m last entries _ _ _ _)
+    (orLess _ _ (omega arith) (entriesFault-small s n _ _ (at + 7) 0 0))))
+    (omega arith))
+
+-- a record's fault refuses at its place, or there is none and the next record decides
+pub refuse-cases {κ} : (P : Scan → Type κ) (f place : ℕ) (next : Scan) → ((f ≡ 0 → ⊥) → P (refused f place)) → (0 ≡ f → P next) → P (refuseAt f place next)
+unfolding refuseAt ifSame
+refuse-cases P f place next p q = go (eqb f 0) refl
+  where
+    go : (t : Bool) → eqb f 0 ≡ t → P (cond t next (refused f place))
+    go true e = q (sym (eqb-true f 0 e))
+    go false e = p (eqb-false f 0 e)
+
+-- what a scan tells of its places: a sound model ends in the file, and a refusal of document 01 is at a place of it
+pub record Sound (L : Limits) (s : List ℕ) (n m count end : ℕ) : Type 0 where
+  pub states : n ≡ statesOf s
+  pub actions : m ≡ actionsOf s
+  pub transitions : count ≡ countOf s
+  pub labels : 8 + n ≤ length s
+  pub head : PassedHead L s
+  pub inside : end ≤ length s
+  pub last : end ≡ placeOf s count
+  pub records : (r : ℕ) → r < count → afterTransition s (placeOf s r) ≤ length s
+
+pub record Placed (s : List ℕ) (number place : ℕ) : Type 0 where
+  pub some : 1 ≤ number
+  pub known : number ≤ 9
+  pub inside : place ≤ length s
+
+abbrev pub Tells : Limits → List ℕ → Scan → Type 0
+Tells L s (sound n m count end) = Sound L s n m count end
+Tells L s (refused number place) = Placed s number place
+
+-- the records up to r lie in the file
+Inside : List ℕ → ℕ → Type 0
+Inside s r = (k : ℕ) → k < r → afterTransition s (placeOf s k) ≤ length s
+
+one-more-inside : (s : List ℕ) (r : ℕ) → Inside s r → afterTransition s (placeOf s r) ≤ length s → Inside s (suc r)
+unfolding Inside
+one-more-inside s r h e k less = go (ℕ-discrete k r)
+  where
+    go : Dec (k ≡ r) → afterTransition s (placeOf s k) ≤ length s
+    go (yes q) = subst (λ (j : ℕ). afterTransition s (placeOf s j) ≤ length s) (sym q) e
+    go (no q) = h k (omega arith)
+
+transitions-tell : (L : Limits) (s : List ℕ) → PassedHead L s → 8 + statesOf s ≤ length s → (left r last entries : ℕ) → r + left ≡ countOf s → Inside s r → placeOf s r ≤ length s → Tells L s (scanTransitions L s (statesOf s) (actionsOf s) (countOf s) left last entries (placeOf s r))
+unfolding scanTransitions Inside placeOf
+transitions-tell L s head labels zero r last entries e before inside =
+    let q : r ≡ countOf s = omega arith in
+    record {
+      states = refl;
+      actions = refl;
+      transitions = refl;
+      labels = labels;
+      head = head;
+      inside = inside;
+      last = ap (placeOf s) q;
+      records = λ k less. before k (omega arith);
+    }
+transitions-tell L s head labels (suc left) r last entries e before inside =
+    refuse-cases (Tells L s) (transitionFault L s (statesOf s) (actionsOf s) last entries (placeOf s r)) (placeOf s r) _
+    (λ n. record { some = omega arith; known = omega (arith, transitionFault-small L s (statesOf s) (actionsOf s) last entries (placeOf s r)); inside = inside })
+    (λ f.
+    let p = transition-passed L s (statesOf s) (actionsOf s) last entries (placeOf s r) f in
+    transitions-tell L s head labels left (suc r) (sourceAt s (placeOf s r)) (entries + entryCountAt s (placeOf s r)) (omega arith)
+    (one-more-inside s r before (p .whole)) (p .whole))
+
+pub scan-tells : (L : Limits) (s : List ℕ) → Tells L s (scanModel L s)
+unfolding scanModel placeOf Inside
+scan-tells L s =
+    refuse-cases (Tells L s) (headFault L s) 0 _ (λ n. record { some = omega arith; known = omega (arith, headFault-small L s); inside = omega arith })
+    (λ h.
+    let head = head-passed L s h in
+    refuse-cases (Tells L s) (labelsFault L s (statesOf s)) 6 _
+    (λ n. record { some = omega arith; known = omega (arith, labelsFault-small L s (statesOf s)); inside = head .whole })
+    (λ l.
+    let labels = labels-passed L s (statesOf s) l .whole in
+    transitions-tell L s head labels (countOf s) 0 0 0 (omega arith) (λ k less. absurd (omega arith)) labels))
+
+-- bytes left are refused, and else nothing changes
+pub whole-tells : (L : Limits) (s : List ℕ) → Tells L s (scanWhole L s)
+unfolding scanWhole refuseBytesLeft
+whole-tells L s = go (scanModel L s) (scan-tells L s)
+  where
+    go : (scan : Scan) → Tells L s scan → Tells L s (refuseBytesLeft s scan)
+    go (sound n m count end) t =
+        eitherLess (Tells L s) end (length s) (record { some = omega arith; known = omega arith; inside = t .inside }) t
+    go (refused number place) t = t
+
+-- The range of an entry's state may be tested after the last entry: states ascend, so once one is not below n neither is the lowest that
+-- may follow, and the refusal is 6 in either order. `whole` is what all entries come to
+pub record EntriesSoFar (s : List ℕ) (n d left at lowest total whole : ℕ) : Type 0 where
+  pub inRange : lowest ≤ n → entriesFault s n d left at lowest total ≡ whole
+  pub outOfRange : n < lowest → 6 ≡ whole
+
+module _ (s : List ℕ) (n d left at lowest total whole : ℕ) (h : EntriesSoFar s n d left at lowest total whole) (some : 0 < left) where
+  -- where the lowest state is in range, a fault of the next entry is the fault of all
+  in-range : (6 ≡ entriesFault s n d left at lowest total) → lowest ≤ n → 6 ≡ whole
+  in-range e small = e ∙ h .inRange small
+
+  or-out : (lowest ≤ n → 6 ≡ entriesFault s n d left at lowest total) → 6 ≡ whole
+  or-out f = go (decLe lowest n)
+    where
+      go : Dec (lowest ≤ n) → 6 ≡ whole
+      go (yes small) = in-range (f small) small
+      go (no large) = h .outOfRange (omega arith)
+
+  -- an entry out of order, and one with weight 0
+  pub entry-descends : byteAt s at < lowest → 6 ≡ whole
+  entry-descends e = or-out (λ small. via (entriesFault-turn s n d left at lowest total some) (less _ e refl))
+
+  entry-beyond : lowest ≤ byteAt s at → n ≤ byteAt s at → 6 ≡ whole
+  entry-beyond e f = or-out (λ small. via (entriesFault-turn s n d left at lowest total some) (notLess _ e (notLess _ f refl)))
+
+  pub entry-empty : lowest ≤ byteAt s at → twoAt s (at + 1) ≡ 0 → 6 ≡ whole
+  entry-empty e z = go (decLe n (byteAt s at))
+    where
+      go : Dec (n ≤ byteAt s at) → 6 ≡ whole
+      go (yes large) = entry-beyond e large
+      go (no small) =
+          or-out
+          (λ q.
+          via (entriesFault-turn s n d left at lowest total some)
+          (notLess _ e (less _ (omega arith) (notLess _ (omega arith) refl))))
+
+  -- an entry that may follow: its state v, its weight p and the place after it
+  pub entry-follows : (v p next : ℕ) → v ≡ byteAt s at → p ≡ twoAt s (at + 1) → next ≡ at + 3 → lowest ≤ v → 0 < p → EntriesSoFar s n d (left - 1) next (v + 1) (total + p) whole
+  entry-follows v p next isV isP isNext e z =
+      record {
+        inRange = λ q.
+            via (sym (h .inRange (omega arith)) ∙ entriesFault-turn s n d left at lowest total some)
+            (notLess _ (omega arith) (less _ (omega arith) (less _ (omega arith) (cc))));
+        outOfRange = λ q. entry-beyond (omega arith) (omega arith);
+      }
+
+-- before the first entry, at its place, and what is left after the last
+pub entries-start : (s : List ℕ) (n d count at place : ℕ) → place ≡ at → EntriesSoFar s n d count place 0 0 (entriesFault s n d count at 0 0)
+entries-start s n d count at place e =
+    record { inRange = λ q. ap (λ (k : ℕ). entriesFault s n d count k 0 0) e; outOfRange = λ q. absurd (omega arith) }
+
+pub entries-end : (s : List ℕ) (n d left at lowest total whole : ℕ) → EntriesSoFar s n d left at lowest total whole → left ≤ 0 → lowest ≤ n → unlessSame total d 7 0 ≡ whole
+entries-end s n d left at lowest total whole h e q = sym (entriesFault-end s n d left at lowest total e) ∙ h .inRange q

@@ -1,0 +1,73 @@
+-- Cases of the merged model and of the call that writes it, computed one by one.
+use Prim.Native.Nat.{ℕ}
+use mathlib.Core.Path.{_≡_, refl}
+use mathlib.Core.List.{List, [], _∷_, _++_}
+use lib.ListN.{length, take, drop}
+use Rattle.bisimulation.specs.definitions.Choice.{ifLess, ifSame, ifTrue, allBelow, both}
+use Rattle.bisimulation.specs.definitions.Sum.{sum, sumℤ}
+use Rattle.bisimulation.specs.definitions.StepRule.{arriving, leaving, overTargets, overSources, beforeMove, afterMove, internalMove, atTarget}
+use Rattle.bisimulation.specs.definitions.Prices.{priceAt, priceOfTargets}
+use Rattle.bisimulation.specs.definitions.Pairs.{equalLabels, isPair, removed}
+use Rattle.rules.specs.definitions.Limits.{limits}
+use Rattle.rules.specs.definitions.Bytes.{byteAt, twoAt, threeAt, fourAt, signedAt, twoBytes}
+use Rattle.rules.specs.definitions.Model.{Entry, Transition, Model, weightOf, automatonOf, headBytes, labelsBytes, entriesBytes, transitionBytes, transitionsBytes, modelBytes}
+use Rattle.rules.specs.definitions.Reading.{firstFault, statesOf, actionsOf, countOf, rangeFault, headFault, labelFault, labelsFault, sourceAt, actionAt, denominatorAt, entryCountAt, afterTransition, fixedFault, fixedFaultAt, entriesFault, transitionFault, refuseAt, scanTransitions, scanModel, refuseBytesLeft, scanWhole, entriesAt, transitionAt, transitionsAt, modelAt, readingOf, readWhole, placeOf, firstNotBelow, runFirst, runPast, runStart, runEnd}
+use Rattle.rules.specs.definitions.Certificate.{fault, firstOf, refutationCount, certificateHeadFault, challengerAt, defenderAt, pricesAt, afterRefutation, pairFault, refutationFault, pairsAfter, blocksAt, numberedFault, sameBlock, agree, pairsFault, blocksFault, kCountAt, afterK, wCountAt, afterFlow, kOf, wOf, flowAt, kFault, wFault, flowFault}
+use Rattle.rules.specs.definitions.PlainRule.{byKind, plainPriceCount, priceCondition, allWithAction, allRelated, below, internalPricesFault, externalPricesFault, plainPricesFault, plainInQuestion, allHold, internalEquationsFault, externalEquationsFault, plainEquationsFault, plainRule}
+use Rattle.rules.specs.definitions.Judging.{Judgement, accepted, rejected, rejectAt, questionsOfPair, questionsOfState, questionsFrom, questions, judgeFlows, judgeBlocks, judgeRefutations, judgeCertificate, judgeReading, judge}
+use Rattle.rules.specs.definitions.Quotient.{blockCount, labelOfBlock, blockLabels, weightToBlock, blockEntries, mergedTransition, fromBlock, sameEntries, sameTransition, isAmong, distinct, byBlock, quotient, mergedFile}
+use Rattle.rules.specs.definitions.SoundModel.{Each}
+use Rattle.rules.specs.cases.Cases.{modelS, certificateS}
+use Rattle.rules.specs.cases.MoreCases.{OutcomeCase, outcomeOf}
+use Rattle.rules.specs.definitions.Answers.{refusalIn, answerWithoutPlace, unwritten, filled, rejection, mergedOutcome, quotientOutcome, reduceOutcome}
+
+-- S merged: states 0 and 1 are one
+unfoldable pub mergedS : List ℕ
+mergedS =
+    0x50 ∷ 0x41 ∷ 2 ∷ 2 ∷ 0 ∷ 2
+    ∷ 0x4C ∷ 0x42 ∷ 0 ∷ 0
+    ∷ 0x54 ∷ 0x52 ∷ 0 ∷ 1 ∷ 0 ∷ 1 ∷ 1 ∷ 1 ∷ 0 ∷ 1
+    ∷ 0x54 ∷ 0x52 ∷ 0 ∷ 0 ∷ 0 ∷ 1 ∷ 1 ∷ 0 ∷ 0 ∷ 1 ∷ []
+
+-- a certificate for model S, the lent buffer before, and what reducing answers and leaves in the buffer
+unfoldable pub reduceCases : List OutcomeCase
+reduceCases =
+    -- S with a buffer of 32 bytes: the first 30 are the file, and the last 2 stay
+    record { certificate = certificateS; before = mergedS ++ (9 ∷ 8 ∷ []); expected = outcomeOf 0 0 0 0 0 30 (mergedS ++ (9 ∷ 8 ∷ [])) }
+    -- with one of 30 other bytes: an exact fit
+    ∷ record { certificate = certificateS; before = take 30 certificateS; expected = outcomeOf 0 0 0 0 0 30 mergedS }
+    -- with one of 29: 23, without a place, and nothing written
+    ∷ record { certificate = certificateS; before = take 29 certificateS; expected = outcomeOf 23 0 0 0 0 0 (take 29 certificateS) }
+    -- C10, the last byte gone, and no buffer: 11 comes before 23
+    ∷ record { certificate = take 124 certificateS; before = []; expected = outcomeOf 11 2 109 109 15 0 [] }
+    ∷ []
+
+-- states 0 and 2 with label 5 are one block, 1 and 3 with label 6 the other
+unfoldable pub fourStates : Model
+fourStates =
+    record {
+      actions = 2;
+      labels = 5 ∷ 6 ∷ 5 ∷ 6 ∷ [];
+      transitions =
+          record { source = 0; action = 1; denominator = 4; entries = record { state = 1; weight = 1 } ∷ record { state = 3; weight = 3 } ∷ [] }
+          ∷ record { source = 1; action = 1; denominator = 4; entries = record { state = 1; weight = 4 } ∷ [] }
+          ∷ record { source = 2; action = 0; denominator = 2; entries = record { state = 0; weight = 1 } ∷ record { state = 1; weight = 1 } ∷ [] }
+          ∷ record { source = 2; action = 1; denominator = 4; entries = record { state = 3; weight = 4 } ∷ [] }
+          ∷ record { source = 3; action = 1; denominator = 2; entries = record { state = 1; weight = 1 } ∷ record { state = 3; weight = 1 } ∷ [] }
+          ∷ [];
+    }
+
+-- of block 0 the first transition, whose targets join, is kept and the last, the same, is not; that of state 1 is the same but for its
+-- block, and is kept; that of state 3 has another d
+unfoldable pub fourMerged : List ℕ
+fourMerged =
+    0x50 ∷ 0x41 ∷ 2 ∷ 2 ∷ 0 ∷ 4
+    ∷ 0x4C ∷ 0x42 ∷ 5 ∷ 6
+    ∷ 0x54 ∷ 0x52 ∷ 0 ∷ 1 ∷ 0 ∷ 4 ∷ 1 ∷ 1 ∷ 0 ∷ 4
+    ∷ 0x54 ∷ 0x52 ∷ 0 ∷ 0 ∷ 0 ∷ 2 ∷ 2 ∷ 0 ∷ 0 ∷ 1 ∷ 1 ∷ 0 ∷ 1
+    ∷ 0x54 ∷ 0x52 ∷ 1 ∷ 1 ∷ 0 ∷ 4 ∷ 1 ∷ 1 ∷ 0 ∷ 4
+    ∷ 0x54 ∷ 0x52 ∷ 1 ∷ 1 ∷ 0 ∷ 2 ∷ 1 ∷ 1 ∷ 0 ∷ 2 ∷ []
+
+pub merged-cases : (mergedFile fourStates (0 ∷ 1 ∷ 0 ∷ 1 ∷ []) ≡ fourMerged) × Each (λ (c : OutcomeCase). reduceOutcome limits plainRule modelS (c .certificate) (c .before) ≡ c .expected) reduceCases
+unfolding ifLess ifSame ifTrue allBelow sum sumℤ arriving leaving overTargets overSources beforeMove afterMove internalMove atTarget priceAt priceOfTargets byteAt twoAt threeAt fourAt signedAt weightOf automatonOf firstFault statesOf actionsOf countOf rangeFault headFault labelFault labelsFault sourceAt actionAt denominatorAt entryCountAt afterTransition fixedFault fixedFaultAt entriesFault transitionFault refuseAt scanTransitions scanModel refuseBytesLeft scanWhole entriesAt transitionAt transitionsAt modelAt readingOf readWhole firstOf both equalLabels isPair removed refutationCount certificateHeadFault challengerAt defenderAt pricesAt afterRefutation pairFault refutationFault pairsAfter blocksAt numberedFault sameBlock agree pairsFault blocksFault kCountAt afterK wCountAt afterFlow kOf wOf flowAt kFault wFault flowFault byKind plainPriceCount priceCondition allWithAction allRelated below internalPricesFault externalPricesFault plainPricesFault plainInQuestion allHold internalEquationsFault externalEquationsFault plainEquationsFault rejectAt questionsOfPair questionsOfState questionsFrom questions judgeFlows judgeBlocks judgeRefutations judgeCertificate judgeReading judge modelS certificateS refusalIn answerWithoutPlace unwritten filled rejection Each twoBytes headBytes labelsBytes entriesBytes transitionBytes transitionsBytes modelBytes blockCount labelOfBlock blockLabels weightToBlock blockEntries mergedTransition fromBlock sameEntries sameTransition isAmong distinct byBlock quotient mergedFile mergedOutcome quotientOutcome reduceOutcome mergedS reduceCases fourStates fourMerged
+merged-cases = (refl, (refl, (refl, (refl, (refl, tt)))))

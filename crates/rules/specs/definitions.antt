@@ -1,0 +1,16 @@
+-- What a buyer reads and believes.
+pub mod Limits
+pub mod Bytes
+pub mod Model
+pub mod SoundModel
+pub mod Reading
+pub mod Certificate
+pub mod PlainRule
+pub mod Judging
+pub mod Encoding
+pub mod Accepted
+pub mod PlainSays
+pub mod AnyRule
+pub mod Quotient
+pub mod Answers
+pub mod Demand3

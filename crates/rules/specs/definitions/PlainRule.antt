@@ -1,0 +1,106 @@
+-- Document 01's own step rule, as what it decides of a certificate file. X, Y and G stand for the prices A, B and G.
+use Prim.Native.Nat.{ℕ, _+_, _*_}
+use mathlib.Core.Bool.{Bool, true, false}
+use lib.Dec.{eqb}
+use lib.IntN.{ℤ}
+use lib.Signed.{leZ, ltZ}
+use Rattle.bisimulation.specs.definitions.Choice.{ifSame, ifTrue, unlessTrue, allBelow}
+use Rattle.bisimulation.specs.definitions.Automaton.{Automaton}
+use Rattle.bisimulation.specs.definitions.StepRule.{Flow, Sides, beforeMove, afterMove, internalMove, atTarget}
+use Rattle.bisimulation.specs.definitions.Prices.{priceAt, priceOfTargets}
+use Rattle.bisimulation.specs.definitions.Pairs.{Pairs}
+use Rattle.rules.specs.definitions.Certificate.{Fault, fault, noFault, FileRule}
+
+module _ (A : Automaton) where
+  -- x for an internal challenger, y for an external one
+  unfoldable pub byKind {ℓ} : {X : Type ℓ} → ℕ → X → X → X
+  byKind q x y = ifSame (A .action q) 0 x y
+
+  -- 'prices A for n states, then B for n states if the action is external, then G for n states'
+  unfoldable pub plainPriceCount : ℕ → ℕ
+  plainPriceCount q = byKind q (2 * A .states) (3 * A .states)
+
+  -- 'd times A(source) is at least the sum of p(v)A(v)': from the prices X of the source to the prices Y of the targets
+  unfoldable pub priceCondition : (ℕ → ℤ) → (ℕ → ℤ) → ℕ → Bool
+  priceCondition X Y r = leZ (priceOfTargets A Y r) (priceAt A X r (A .source r))
+
+  -- 'for each transition with its action'
+  unfoldable pub allWithAction : ℕ → (ℕ → Bool) → Bool
+  allWithAction a f = allBelow (A .transitions) (λ r. ifSame (A .action r) a (f r) true)
+
+  -- 'For each related v, u, B(v) is at least G(u)'
+  unfoldable pub allRelated : Pairs → (ℕ → ℤ) → (ℕ → ℤ) → Bool
+  allRelated R X G = allBelow (A .states) (λ v. allBelow (A .states) (λ u. ifTrue (R v u) (leZ (G u) (X v)) true))
+
+  -- 'Lastly d0 times A(t) is below the sum of p0(u)G(u)'
+  unfoldable pub below : (ℕ → ℤ) → (ℕ → ℤ) → (q t : ℕ) → Bool
+  below X G q t = ltZ (priceAt A X q t) (priceOfTargets A G q)
+
+  -- the price conditions of an internal challenger: 15, 'a price condition other than the last breaks'; 16, 'the last breaks'
+  unfoldable pub internalPricesFault : Pairs → (q t : ℕ) → (X G : ℕ → ℤ) → Fault
+  internalPricesFault R q t X G =
+      unlessTrue (allWithAction 0 (priceCondition X X)) (fault 15)
+      (unlessTrue (allRelated R X G) (fault 15)
+      (unlessTrue (below X G q t) (fault 16)
+      noFault))
+
+  -- those of an external challenger
+  unfoldable pub externalPricesFault : Pairs → (q t : ℕ) → (X Y G : ℕ → ℤ) → Fault
+  externalPricesFault R q t X Y G =
+      unlessTrue (allWithAction 0 (priceCondition X X)) (fault 15)
+      (unlessTrue (allWithAction 0 (priceCondition Y Y)) (fault 15)
+      (unlessTrue (allWithAction (A .action q) (priceCondition X Y)) (fault 15)
+      (unlessTrue (allRelated R Y G) (fault 15)
+      (unlessTrue (below X G q t) (fault 16)
+      noFault))))
+
+  -- the prices of a record, by the challenger's kind
+  unfoldable pub plainPricesFault : Pairs → (q t : ℕ) → (ℕ → ℤ) → Fault
+  plainPricesFault R q t p =
+      byKind q
+      (internalPricesFault R q t p (λ v. p (A .states + v)))
+      (externalPricesFault R q t p (λ v. p (A .states + v)) (λ v. p (2 * A .states + v)))
+
+  -- 'Layer 0, one k for each internal transition. If a is external, also layer 1, one k for each transition with action a, and layer 2, a
+  -- second k for each internal transition'
+  unfoldable pub plainInQuestion : (q layer r : ℕ) → Bool
+  plainInQuestion q layer r =
+      ifSame layer 0 (eqb (A .action r) 0)
+      (byKind q false
+      (ifSame layer 1 (eqb (A .action r) (A .action q))
+      (ifSame layer 2 (eqb (A .action r) 0)
+      false)))
+
+  -- an equation holds at each state
+  unfoldable pub allHold : (ℕ → Sides) → Bool
+  allHold e = allBelow (A .states) (λ v. eqb (e v .left) (e v .right))
+
+  -- the equations of an internal challenger: 20, 'an equation at some v breaks'; 21, 'an equation at some u breaks'
+  unfoldable pub internalEquationsFault : (q t : ℕ) → Flow → Fault
+  internalEquationsFault q t f =
+      unlessTrue (allHold (internalMove A f t)) (fault 20)
+      (unlessTrue (allHold (atTarget A f q)) (fault 21)
+      noFault)
+
+  -- those of an external challenger
+  unfoldable pub externalEquationsFault : (q t : ℕ) → Flow → Fault
+  externalEquationsFault q t f =
+      unlessTrue (allHold (beforeMove A f t)) (fault 20)
+      (unlessTrue (allHold (afterMove A f)) (fault 20)
+      (unlessTrue (allHold (atTarget A f q)) (fault 21)
+      noFault))
+
+  -- the equations of a record, by the challenger's kind
+  unfoldable pub plainEquationsFault : (q t : ℕ) → Flow → Fault
+  plainEquationsFault q t f = byKind q (internalEquationsFault q t f) (externalEquationsFault q t f)
+
+-- a certificate whose head's mark is 43 54
+abbrev pub plainRule : FileRule
+plainRule =
+    record {
+      mark = 0x4354;
+      priceCount = plainPriceCount;
+      pricesFault = plainPricesFault;
+      inQuestion = λ A q t layer r. plainInQuestion A q layer r;
+      equationsFault = plainEquationsFault;
+    }

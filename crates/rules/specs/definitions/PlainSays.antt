@@ -1,0 +1,41 @@
+-- Document 01's own step rule, as what it says of a certificate in plain propositions.
+use Prim.Native.Nat.{ℕ, _<_}
+use mathlib.Core.Path.{_≡_}
+use mathlib.Core.Logic.{_≢_}
+use Rattle.bisimulation.specs.definitions.Automaton.{Automaton}
+use Rattle.bisimulation.specs.definitions.StepRule.{Flow, Holds, beforeMove, afterMove, internalMove, atTarget}
+use Rattle.bisimulation.specs.definitions.Refutation.{PlainRefutes}
+use Rattle.rules.specs.definitions.PlainRule.{plainPriceCount}
+use Rattle.rules.specs.definitions.Accepted.{RuleSays}
+
+-- 'Layer 0, one k for each internal transition. If a is external, also layer 1, one k for each transition with action a, and layer 2, a
+-- second k for each internal transition'
+pub data InPlainQuestion (A : Automaton) (q layer r : ℕ) : Type 0 where
+  before : layer ≡ 0 → A .action r ≡ 0 → InPlainQuestion A q layer r
+  move : A .action q ≢ 0 → layer ≡ 1 → A .action r ≡ A .action q → InPlainQuestion A q layer r
+  after : A .action q ≢ 0 → layer ≡ 2 → A .action r ≡ 0 → InPlainQuestion A q layer r
+
+-- the equations of an internal challenger
+pub record InternalEquations (A : Automaton) (q t : ℕ) (f : Flow) : Type 0 where
+  pub move : (v : ℕ) → v < A .states → Holds (internalMove A f t v)
+  pub target : (u : ℕ) → u < A .states → Holds (atTarget A f q u)
+
+-- those of an external one
+pub record ExternalEquations (A : Automaton) (q t : ℕ) (f : Flow) : Type 0 where
+  pub before : (v : ℕ) → v < A .states → Holds (beforeMove A f t v)
+  pub after : (v : ℕ) → v < A .states → Holds (afterMove A f v)
+  pub target : (u : ℕ) → u < A .states → Holds (atTarget A f q u)
+
+-- by the challenger's kind
+pub record PlainEquations (A : Automaton) (q t : ℕ) (f : Flow) : Type 0 where
+  pub internal : A .action q ≡ 0 → InternalEquations A q t f
+  pub external : A .action q ≢ 0 → ExternalEquations A q t f
+
+abbrev pub plainSays : RuleSays
+plainSays =
+    record {
+      priceCount = plainPriceCount;
+      refutes = PlainRefutes;
+      inQuestion = λ A q t layer r. InPlainQuestion A q layer r;
+      equations = PlainEquations;
+    }

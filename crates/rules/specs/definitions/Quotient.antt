@@ -1,0 +1,92 @@
+-- Document 01, 'The merged model': a model and blocks give a model, whose bytes are the merged file.
+use Prim.Native.Nat.{ℕ, zero, suc, _+_}
+use mathlib.Core.List.{List, [], _∷_, _++_}
+use mathlib.Core.Bool.{Bool, true, false}
+use lib.Dec.{eqb}
+use lib.ListN.{getD}
+use Rattle.bisimulation.specs.definitions.Choice.{ifLess, ifSame, ifTrue, both}
+use Rattle.rules.specs.definitions.Model.{Entry, Transition, Model, modelBytes}
+
+-- 'one state for each block': block numbers count up from 0, so there is one more than the highest
+unfoldable pub blockCount : List ℕ → ℕ
+blockCount [] = 0
+blockCount (b ∷ bs) = ifLess b (blockCount bs) (blockCount bs) (b + 1)
+
+-- 'with its members' label': that of the block's first member
+unfoldable pub labelOfBlock : (blocks labels : List ℕ) → ℕ → ℕ
+labelOfBlock [] labels b = 0
+labelOfBlock (x ∷ xs) [] b = 0
+labelOfBlock (x ∷ xs) (l ∷ ls) b = ifSame x b l (labelOfBlock xs ls b)
+
+-- the labels of the blocks left, from b on
+unfoldable pub blockLabels : (blocks labels : List ℕ) → (left b : ℕ) → List ℕ
+blockLabels blocks labels zero b = []
+blockLabels blocks labels (suc left) b = labelOfBlock blocks labels b ∷ blockLabels blocks labels left (b + 1)
+
+-- 'its weights added up by target block'
+unfoldable pub weightToBlock : List ℕ → List Entry → ℕ → ℕ
+weightToBlock blocks [] b = 0
+weightToBlock blocks (e ∷ es) b = ifSame (getD blocks (e .state) 0) b (e .weight) 0 + weightToBlock blocks es b
+
+-- the entries that lead to the blocks left, from b on
+unfoldable pub blockEntries : List ℕ → List Entry → (left b : ℕ) → List Entry
+blockEntries blocks es zero b = []
+blockEntries blocks es (suc left) b =
+    ifSame (weightToBlock blocks es b) 0 [] (record { state = b; weight = weightToBlock blocks es b } ∷ [])
+    ++ blockEntries blocks es left (b + 1)
+
+-- 'Each transition goes to its source's block, its weights added up by target block, d unchanged'
+unfoldable pub mergedTransition : List ℕ → Transition → Transition
+mergedTransition blocks t =
+    record {
+      source = getD blocks (t .source) 0;
+      action = t .action;
+      denominator = t .denominator;
+      entries = blockEntries blocks (t .entries) (blockCount blocks) 0;
+    }
+
+-- the merged transitions of one block, by original place
+unfoldable pub fromBlock : List ℕ → List Transition → ℕ → List Transition
+fromBlock blocks [] b = []
+fromBlock blocks (t ∷ ts) b =
+    ifSame (getD blocks (t .source) 0) b (mergedTransition blocks t ∷ []) [] ++ fromBlock blocks ts b
+
+-- 'weights are equal field by field'
+unfoldable pub sameEntries : List Entry → List Entry → Bool
+sameEntries [] [] = true
+sameEntries [] (f ∷ fs) = false
+sameEntries (e ∷ es) [] = false
+sameEntries (e ∷ es) (f ∷ fs) = both (eqb (e .state) (f .state)) (both (eqb (e .weight) (f .weight)) (sameEntries es fs))
+
+-- 'the same when action, d and weights are equal field by field'
+unfoldable pub sameTransition : Transition → Transition → Bool
+sameTransition t u =
+    both (eqb (t .action) (u .action)) (both (eqb (t .denominator) (u .denominator)) (sameEntries (t .entries) (u .entries)))
+
+-- the same as one of the transitions before it
+unfoldable pub isAmong : Transition → List Transition → Bool
+isAmong t [] = false
+isAmong t (u ∷ us) = ifTrue (sameTransition t u) true (isAmong t us)
+
+-- 'the first is kept': those that are the same as none before them
+unfoldable pub distinct : (before rest : List Transition) → List Transition
+distinct before [] = []
+distinct before (t ∷ ts) = ifTrue (isAmong t before) [] (t ∷ []) ++ distinct (t ∷ before) ts
+
+-- 'Order: by block, then by original place', for the blocks left, from b on
+unfoldable pub byBlock : List ℕ → List Transition → (left b : ℕ) → List Transition
+byBlock blocks ts zero b = []
+byBlock blocks ts (suc left) b = distinct [] (fromBlock blocks ts b) ++ byBlock blocks ts left (b + 1)
+
+-- 'one state for each block, with its members' label, and the same m'
+unfoldable pub quotient : Model → List ℕ → Model
+quotient M blocks =
+    record {
+      actions = M .actions;
+      labels = blockLabels blocks (M .labels) (blockCount blocks) 0;
+      transitions = byBlock blocks (M .transitions) (blockCount blocks) 0;
+    }
+
+-- the merged file
+unfoldable pub mergedFile : Model → List ℕ → List ℕ
+mergedFile M blocks = modelBytes (quotient M blocks)

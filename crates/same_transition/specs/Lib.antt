@@ -1,0 +1,2 @@
+pub mod SameTransition
+pub mod SameTransitionLaws

@@ -5,8 +5,8 @@
  * changed by others during the call, and a lent buffer overlaps no input and no other lent buffer. A refusal writes no byte of any
  * lent buffer.
  *
- * Stack. zolkirta_reduce uses 12,296 bytes, zolkirta_judge 6,840 and zolkirta_fetch 2,312 (measured at 64 states). In a dynamically
- * linked program the loader adds some 3 KiB when it binds memcpy or memset at the first call. No heap is used.
+ * Stack. zolkirta_reduce and zolkirta_judge use at most 11,000 bytes each and zolkirta_fetch 2,400 (measured, rounded up). In a
+ * dynamically linked program the loader adds some 3 KiB when it binds memcpy or memset at the first call. No heap is used.
  *
  * Threads. The library has no state and keeps no pointer: any number of calls may run at once.
  *
@@ -20,6 +20,12 @@
 
 #define ZOLKIRTA_VERSION "0.1.0"
 #define ZOLKIRTA_VERSION_NUMBER 100 /* major * 10000 + minor * 100 + patch */
+
+/* The most states that a model has: a block buffer of this length is always long enough. */
+#define ZOLKIRTA_STATES 64
+/* The bytes of the longest model, 8 + 64 + 7 * 256 + 3 * 1024: an output buffer of this length is always long enough for
+ * zolkirta_reduce, and a longer model file is always refused. */
+#define ZOLKIRTA_MODEL 4936
 
 #ifdef __cplusplus
 extern "C" {

@@ -4,7 +4,7 @@ repeated transitions, keeps an equal one of another block, joins two targets, an
 """
 import os
 
-from files import FIRST, MEETS, S, SECOND, STAYS, certificate, flow, model
+from files import S, S_CERTIFICATE, certificate, flow, model
 
 HERE = os.path.dirname(os.path.abspath(__file__))
 
@@ -51,7 +51,7 @@ def write(crate, name, data):
 
 
 for crate, pa, ct, merged in [
-        ('reduce_pair', S, certificate([FIRST, SECOND], (0, 0, 1), [MEETS, STAYS]), MERGED_S),
+        ('reduce_pair', S, S_CERTIFICATE, MERGED_S),
         ('reduce_repeats', REPEATS, MEETS_REPEATS, MERGED)]:
     write(crate, 'data/pa.bin', pa)
     write(crate, 'data/ct.bin', ct)

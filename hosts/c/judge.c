@@ -5,21 +5,20 @@
 
 #include <zolkirta.h>
 
-/* More than any model has, and more than any certificate that the limits admit is likely to have. */
-#define MODEL_ROOM 8192
-#define CERTIFICATE_ROOM (16u << 20)
+/* Far more bytes than any model has, and more than a certificate is likely to have. */
+#define ROOM ((size_t)16 << 20)
 
-static uint8_t *read_file(const char *path, size_t room, size_t *length)
+static uint8_t *read_file(const char *path, size_t *length)
 {
     FILE *file = fopen(path, "rb");
-    uint8_t *bytes = malloc(room);
+    uint8_t *bytes = malloc(ROOM);
     if (!file || !bytes) {
         perror(path);
         exit(2);
     }
-    *length = fread(bytes, 1, room, file);
-    if (ferror(file) || (*length == room && fgetc(file) != EOF)) {
-        fprintf(stderr, "%s: cannot be read, or is longer than %zu bytes\n", path, room);
+    *length = fread(bytes, 1, ROOM, file);
+    if (ferror(file) || (*length == ROOM && fgetc(file) != EOF)) {
+        fprintf(stderr, "%s: cannot be read, or is longer than %zu bytes\n", path, ROOM);
         exit(2);
     }
     fclose(file);
@@ -37,17 +36,18 @@ static void write_file(const char *path, const uint8_t *bytes, size_t length)
 
 static void print_answer(zolkirta_answer answer)
 {
+    static const char *const files[] = {"no file", "the model", "the certificate", "an unknown file"};
     if (answer.number == ZOLKIRTA_ACCEPTED)
         printf("accepted, %zu bytes\n", answer.written);
     else if (answer.file)
-        printf("refused %u in the %s, at byte %zu\n", (unsigned)answer.number, answer.file == 1 ? "model" : "certificate", answer.place);
+        printf("refused %u in %s, at byte %zu\n", (unsigned)answer.number, files[answer.file < 3 ? answer.file : 3], answer.place);
     else
         printf("refused %u\n", (unsigned)answer.number);
 }
 
 int main(int count, char **names)
 {
-    uint8_t blocks[64], merged[MODEL_ROOM];
+    uint8_t blocks[ZOLKIRTA_STATES], merged[ZOLKIRTA_MODEL];
     uint8_t *model, *certificate;
     size_t model_length, certificate_length, state;
     zolkirta_answer answer;
@@ -55,8 +55,8 @@ int main(int count, char **names)
         fprintf(stderr, "usage: %s MODEL CERTIFICATE [MERGED]\n", names[0]);
         return 2;
     }
-    model = read_file(names[1], MODEL_ROOM, &model_length);
-    certificate = read_file(names[2], CERTIFICATE_ROOM, &certificate_length);
+    model = read_file(names[1], &model_length);
+    certificate = read_file(names[2], &certificate_length);
     if (count == 3) {
         answer = zolkirta_judge(model, model_length, certificate, certificate_length, blocks, sizeof blocks);
         print_answer(answer);

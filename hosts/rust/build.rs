@@ -50,9 +50,14 @@ fn newest_source(root: &Path) -> Option<(PathBuf, SystemTime)> {
     let sources = library_crates(root).into_iter().flat_map(|name| ["src", "specs"].map(|part| root.join("crates").join(&name).join(part)));
     let sources = sources.filter(|folder| folder.is_dir()).flat_map(|folder| {
         println!("cargo:rerun-if-changed={}", folder.display());
-        std::fs::read_dir(folder).into_iter().flatten().flatten().map(|entry| entry.path())
+        files_below(&folder)
     });
     sources.map(|source| (modified(&source), source)).max().map(|(time, source)| (source, time))
+}
+
+fn files_below(folder: &Path) -> Vec<PathBuf> {
+    let paths = std::fs::read_dir(folder).into_iter().flatten().flatten().map(|entry| entry.path());
+    paths.flat_map(|path| if path.is_dir() { files_below(&path) } else { vec![path] }).collect()
 }
 
 /// The crates that the library is made of. crates.txt names each crate after those that it depends on.

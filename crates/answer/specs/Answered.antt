@@ -3,9 +3,8 @@ use Prim.Native.Nat.{ℕ, _+_, _≤_}
 use mathlib.Core.Path.{_≡_}
 use mathlib.Core.List.{List}
 use lib.ListN.{length}
-use Rattle.bisimulation.specs.definitions.Choice.{ifSame}
 use Rattle.rules.specs.definitions.Answers as rules
-use Rattle.rules.specs.definitions.Answers.{Outcome}
+use Rattle.rules.specs.definitions.Answers.{Outcome, fileOf}
 use Rattle.answer.specs.declared.Answer.{Answer}
 
 -- the struct of numbers as document 01's answer
@@ -20,12 +19,13 @@ answered a =
       written = a .written;
     }
 
--- the stretch of an answer lies in its file
-pub record StretchInside (model certificate : List ℕ) (r : Answer) : Type 0 where
-  pub fits : r .«stretch_start» + r .«stretch_length» ≤ ifSame (r .file) 2 (length certificate) (length model)
+-- an answer names one of the call's files or none, and its stretch lies in it
+pub record StretchInside (files : List (List ℕ)) (r : Answer) : Type 0 where
+  pub named : r .file ≤ length files
+  pub fits : r .«stretch_start» + r .«stretch_length» ≤ length (fileOf files (r .file))
 
 -- a call's answer and the lent buffer afterwards are those of an outcome of document 01
-pub record OutcomeIs (o : Outcome) (model certificate after : List ℕ) (r : Answer) : Type 0 where
+pub record OutcomeIs (o : Outcome) (files : List (List ℕ)) (after : List ℕ) (r : Answer) : Type 0 where
   pub answer : answered r ≡ o .answer
   pub buffer : after ≡ o .buffer
-  pub inside : StretchInside model certificate r
+  pub inside : StretchInside files r

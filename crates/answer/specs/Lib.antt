@@ -1,3 +1,4 @@
 pub mod Answered
-pub mod Verdicts
-pub mod VerdictLaws
+pub mod AnsweredLaws
+pub mod Handing
+pub mod HandingLaws

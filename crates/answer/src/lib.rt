@@ -1,16 +1,13 @@
-// What a call answers, and the two files judged for it.
+// What a call answers, and how its stretch is handed back.
 ghost use Prim.Native.Nat.{_≤_};
 ghost use mathlib.Core.Path.{_≡_};
-ghost use lib.ListN.{length};
-ghost use Rattle.rules.specs.definitions.Limits.{limits};
+ghost use mathlib.Core.List.{[], _∷_};
+ghost use denote.Ref.{ptr};
 ghost use Rattle.rules.specs.definitions.Answers.{refusalIn, answerWithoutPlace};
-ghost use Rattle.rules.specs.definitions.Reading.{headFault};
-ghost use Rattle.transition.specs.Known.{Known};
-ghost use Rattle.answer.specs.Answered.{answered};
-ghost use Rattle.answer.specs.Verdicts.{ReadsModel, VerdictIs};
-use flows::Judged;
-use model::Places;
-use model::Scanned;
+ghost use Rattle.fault.specs.Faults.{faultOf};
+ghost use Rattle.answer.specs.Answered.{answered, StretchInside};
+ghost use Rattle.answer.specs.Handing.{HandsBack};
+use fault::Fault;
 
 // What a call answers: document 01's number, file (1 model, 2 certificate) and place; where the stretch, or the run of a
 // fetch, starts in its file and how long it is; and how many bytes were written into the lent buffer.
@@ -37,71 +34,45 @@ pub fn without_place(number: u32, written: usize) -> Answer
     }
 }
 
-// A refusal in a file of so many bytes.
-pub fn refusal_in(number: usize, file: u32, place: usize, size: usize) -> Answer
-    requires { ⌜ (number ≤ 24) × (place ≤ size) ⌝ }
-    ensures { λ r. ⌜ answered r ≡ refusalIn number file place size ⌝ }
+// A fault in a file of so many bytes.
+pub fn refusal_in(fault: Fault, file: u32, size: usize) -> Answer
+    requires { ⌜ fault .place ≤ size ⌝ }
+    ensures { λ r. ⌜ answered r ≡ refusalIn (faultOf fault) file (fault .place) size ⌝ }
 {
     Answer {
-        number: number as u32,
+        number: fault.number,
         file,
-        place,
-        stretch_start: place,
-        stretch_length: size - place,
+        place: fault.place,
+        stretch_start: fault.place,
+        stretch_length: size - fault.place,
         written: 0,
     }
 }
 
-// What a judging call finds: the model's counts and where in the certificate the accepted blocks begin; or the answer of a refusal.
-pub enum Verdict {
-    Accepted {
-        states: usize,
-        transitions: usize,
-        blocks: usize,
-    },
-    Refused(Answer),
-}
-
-// A sound model's certificate judged, for a buffer with room for so many blocks.
-fn judge_sound(
-    model: &[u8],
-    n: usize,
-    count: usize,
-    places: &Places,
-    certificate: &[u8],
-    room: usize,
-) -> Verdict
-    requires { ⌜ Known (now model) n count (now places) × ReadsModel (now model) ⌝ }
-    ensures { λ r. ⌜ VerdictIs (now (model .entry)) (now (certificate .entry)) (now (places .entry)) room r ⌝ }
+// Hands an answer back: the tail of the slice that holds the record at fault, empty where none does, and the numbers beside it. The
+// second slice is file 2, the third is file 3.
+pub fn hand_back<'a>(
+    first: &'a [u8],
+    second: &'a [u8],
+    third: &'a [u8],
+    answer: Answer,
+    number: &mut u32,
+    file: &mut u32,
+    place: &mut usize,
+) -> &'a [u8]
+    requires { ⌜ StretchInside (now first ∷ now second ∷ now third ∷ []) answer ⌝ }
+    ensures { λ r. ⌜ HandsBack (now (first .entry) ∷ now (second .entry) ∷ now (third .entry) ∷ []) (ptr (first .entry) ∷ ptr (second .entry) ∷ ptr (third .entry) ∷ []) answer (now (number .exit)) (now (file .exit)) (now (place .exit)) (now r) (ptr r) ⌝ }
 {
-    if room < n {
-        return Verdict::Refused(without_place(10, 0));
+    let start = answer.stretch_start;
+    let size = answer.stretch_length;
+    *number = answer.number;
+    *file = answer.file;
+    *place = answer.place;
+    if answer.file == 2 {
+        return &second[start..start + size];
     }
-    let judged = certificate::judge_certificate(model, n, count, places, certificate);
-    match judged {
-        Judged::Accepted { blocks } => Verdict::Accepted {
-            states: n,
-            transitions: count,
-            blocks,
-        },
-        Judged::Rejected { number, place } => {
-            Verdict::Refused(refusal_in(number, 2, place, certificate.len()))
-        }
+    if answer.file == 3 {
+        return &third[start..start + size];
     }
-}
-
-// The model read from its labels on, then its certificate judged. A call without a block buffer gives the most states that a model has.
-pub fn judge_files(model: &[u8], certificate: &[u8], places: &mut Places, room: usize) -> Verdict
-    requires { ⌜ (length (now places) ≡ 257) × (headFault limits (now model) ≡ 0) ⌝ }
-    ensures { λ r. ⌜ VerdictIs (now (model .entry)) (now (certificate .entry)) (now (places .exit)) room r ⌝ }
-{
-    let scanned = model::scan_whole(model, places);
-    match scanned {
-        Scanned::Sound(m) => {
-            judge_sound(model, m.states, m.transitions, places, certificate, room)
-        }
-        Scanned::Refused { number, place } => {
-            Verdict::Refused(refusal_in(number, 1, place, model.len()))
-        }
-    }
+    &first[start..start + size]
 }

@@ -5,6 +5,7 @@ pub mod Product
 pub mod ProductLaws
 pub mod PairsLaws
 pub mod LargestPairs
+pub mod Wider
 pub mod PairsLeftLaws
 pub mod BlocksLargest
 pub mod Spelling

@@ -12,9 +12,16 @@ use Rattle.bisimulation.specs.definitions.Automaton.{Automaton}
 use Rattle.bisimulation.specs.definitions.Pairs.{Pairs}
 use Rattle.rules.specs.definitions.Limits.{limits}
 use Rattle.rules.specs.definitions.Bytes.{byteAt, twoAt}
-use Rattle.rules.specs.definitions.Certificate.{Fault, fault, noFault, firstOf, numberedFault, pairsFault, blocksAt, blocksFault, agree, sameBlock}
-use Rattle.rules.specs.argument.RefutationRecords.{no-fault}
-use Rattle.pairs.specs.Rows.{HoldsPairs, SmallBytes, sharedAsRelated, Agrees}
+use Rattle.rules.specs.definitions.Certificate.{numberedFault, pairsFault, blocksAt, blocksFault}
+use Rattle.rules.specs.definitions.Faults as rules
+use Rattle.rules.specs.definitions.Faults.{fault, noFault, certificateRecord, openFault}
+use Rattle.rules.specs.argument.FaultLaws.{no-fault, first-stops, first-passes, certificate-refuses, opened}
+use Rattle.fault.specs.declared.Fault.{Fault}
+use Rattle.fault.specs.Faults.{faultOf, Placed}
+use Rattle.fault.specs.FaultsLaws.{none-is, placed-some}
+use Rattle.pairs.specs.Rows.{HoldsPairs}
+use Rattle.classes.specs.Classes.{SmallBytes, sharedAsRelated, Agrees}
+use Rattle.blocks.specs.Blocks.{BlocksJudged}
 
 pub numbered-end : (C : List ℕ) (left at seen : ℕ) → left ≤ 0 → numberedFault C left at seen ≡ noFault
 unfolding numberedFault
@@ -29,12 +36,8 @@ numbered-turn C (suc left) at seen h =
     ap (λ (k : ℕ). ifLess seen (byteAt C at) (fault 17) (numberedFault C k (at + 1) (ifSame (byteAt C at) seen (seen + 1) seen))) e
 
 -- of an automaton with so many states
-pub numbered-of : {x : Fault} (A : Automaton) (C : List ℕ) (n at : ℕ) → A .states ≡ n → x ≡ numberedFault C n at 0 → x ≡ numberedFault C (A .states) at 0
+pub numbered-of : {x : rules.Fault} (A : Automaton) (C : List ℕ) (n at : ℕ) → A .states ≡ n → x ≡ numberedFault C n at 0 → x ≡ numberedFault C (A .states) at 0
 numbered-of A C n at e h = h ∙ ap (λ (k : ℕ). numberedFault C k at 0) (sym e)
-
--- a fault whose number is 0 is none
-pub no-number : {x f : Fault} → x ≡ f → x .number ≡ 0 → noFault ≡ f
-no-number {x} e n = ap fault (sym n) ∙ e
 
 -- blocks numbered by first appearance are small
 pub numbered-small : (C : List ℕ) (left at seen : ℕ) → noFault ≡ numberedFault C left at seen → (i : ℕ) → i < left → byteAt C (at + i) ≤ seen + i
@@ -70,3 +73,41 @@ pairs-fault A R C at n k m rows answer states e all held agrees =
     ap (λ (b : Bool). ifTrue b noFault (fault 18))
     (sym (subst (λ (x : ℕ). Agrees (take k (drop (at + 2) C)) x rows answer) all agrees .tells R held ∙ subst (λ (x : ℕ). sharedAsRelated n (take k (drop (at + 2) C)) R ≡ sharedAsRelated x (take x (drop (at + 2) C)) R) same
     (ap (λ (x : ℕ). sharedAsRelated x (take k (drop (at + 2) C)) R) (sym e))))
+
+-- the record's ways out
+module _ (C : List ℕ) (at n : ℕ) (o : Fault) (opens : faultOf o ≡ openFault certificateRecord 0x424B (2 + n) C at) where
+  opens-of : (A : Automaton) → A .states ≡ n → faultOf o ≡ openFault certificateRecord 0x424B (2 + A .states) C at
+  opens-of A e = opens ∙ ap (λ (k : ℕ). openFault certificateRecord 0x424B (2 + k) C at) (sym e)
+
+  pub not-opened : {rows : List ℕ} {r : Fault} → (o .number ≡ 0 → ⊥) → Placed (faultOf o) at r → BlocksJudged C at n rows r
+  unfolding blocksFault
+  not-opened some p =
+      record { is = λ A e R h. p .is ∙ first-stops _ _ (opens-of A e) some; place = p .at; inside = λ z. absurd (placed-some o p some z) }
+
+  module _ (z : o .number ≡ 0) where
+    pub whole : at + 2 + n ≤ length C
+    whole = omega (arith, opened certificateRecord 0x424B (2 + n) C at certificate-refuses (none-is o opens z) .whole)
+
+    module _ (x : Fault) (numbered : faultOf x ≡ numberedFault C n (at + 2) 0) where
+      pub not-numbered : {rows : List ℕ} {r : Fault} → (x .number ≡ 0 → ⊥) → Placed (faultOf x) at r → BlocksJudged C at n rows r
+      unfolding blocksFault
+      not-numbered some p =
+          record {
+            is = λ A e R h. p .is ∙ first-passes _ _ (opens-of A e) z (first-stops _ _ (numbered-of A C n (at + 2) e numbered) some);
+            place = p .at;
+            inside = λ none. absurd (placed-some x p some none);
+          }
+
+      -- 18 or none, as the comparison says
+      pub compared : {rows : List ℕ} {r : Fault} → x .number ≡ 0 → {k m : ℕ} {answer : Bool} → Agrees (take k (drop (at + 2) C)) m rows answer → k ≡ n → m ≡ n → (f : Fault) → faultOf f ≡ ifTrue answer noFault (fault 18) → Placed (faultOf f) at r → BlocksJudged C at n rows r
+      unfolding blocksFault
+      compared {rows} y {k} {m} {answer} agrees part all f found p =
+          record {
+            is = λ A e R h.
+                p .is
+                ∙ first-passes _ _ (opens-of A e) z
+                (first-passes _ _ (numbered-of A C n (at + 2) e numbered) y
+                (via (pairs-fault A R C at n k m rows answer e part all h agrees) found));
+            place = p .at;
+            inside = λ _. whole;
+          }

@@ -50,23 +50,17 @@ pub fn blocks_fault(cert: &[u8], at: usize, n: usize, rows: &Rows) -> Fault
     requires { ⌜ (at ≤ length (now cert)) × (n ≤ limits .states) ⌝ }
     ensures { λ r. ⌜ BlocksJudged (now (cert .entry)) at n (now (rows .entry)) r ⌝ }
 {
-    if cert.len() - at < 2 {
-        return fault::refusal(11);
-    }
-    let mark = Cursor::new(at).pair(cert);
-    if mark.value != MARK {
-        return fault::refusal(12);
+    let opened = record::open_certificate(cert, at, MARK, 2 + n);
+    if opened.number != 0 {
+        return opened.at(at);
     }
     let start = at + 2;
-    if cert.len() - start < n {
-        return fault::refusal(11);
-    }
     let numbered = numbered_fault(cert, start, n);
     if numbered.number != 0 {
-        return numbered;
+        return numbered.at(at);
     }
-    if !pairs::agrees(&cert[start..start + n], n, rows) {
-        return fault::refusal(18);
+    if !classes::agrees(&cert[start..start + n], n, rows) {
+        return fault::refusal(18).at(at);
     }
-    fault::none()
+    fault::none().at(at)
 }

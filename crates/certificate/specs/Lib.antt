@@ -1,2 +1,4 @@
 pub mod CertificateJudged
+pub mod HeadLaws
+pub mod Labels
 pub mod Refuting

@@ -6,11 +6,10 @@ ghost use Rattle.rules.specs.definitions.Limits.{limits};
 ghost use Rattle.rules.specs.definitions.Certificate.{certificateHeadFault};
 ghost use Rattle.rules.specs.definitions.PlainRule.{plainRule};
 ghost use Rattle.rules.specs.definitions.Judging.{judgeCertificate};
-ghost use Rattle.fault.specs.Faults.{faultOf};
+ghost use Rattle.fault.specs.Faults.{Placed};
 ghost use Rattle.transition.specs.Known.{automatonIn, Known};
-ghost use Rattle.refutation.specs.RefutationJudged.{RefutationPassed};
-ghost use Rattle.flows.specs.FlowsJudged.{Relates, Judges};
-ghost use Rattle.certificate.specs.CertificateJudged.{Refutes, JudgesBlocks};
+ghost use Rattle.flows.specs.FlowsJudged.{Judges};
+ghost use Rattle.certificate.specs.CertificateJudged.{JudgesBlocks};
 use fault::Fault;
 use field::Cursor;
 use flows::Judged;
@@ -21,25 +20,19 @@ use pairs::Rows;
 
 const MARK: usize = 0x4354;
 
-// Refusals 11 to 13 of the head.
+// Refusals 11 to 13 of the head, which begins the file.
 fn head_fault(cert: &[u8]) -> Fault
-    ensures { λ r. ⌜ faultOf r ≡ certificateHeadFault limits plainRule (now (cert .entry)) ⌝ }
+    ensures { λ r. ⌜ Placed (certificateHeadFault limits plainRule (now (cert .entry))) 0 r ⌝ }
 {
-    if cert.len() < 2 {
-        return fault::refusal(11);
-    }
-    let mark = Cursor::new(0).pair(cert).value;
-    if mark != MARK {
-        return fault::refusal(12);
-    }
-    if cert.len() < 4 {
-        return fault::refusal(11);
+    let opened = record::open_certificate(cert, 0, MARK, 4);
+    if opened.number != 0 {
+        return opened.at(0);
     }
     let count = Cursor::new(2).pair(cert).value;
     if REFUTATIONS < count {
-        return fault::refusal(13);
+        return fault::refusal(13).at(0);
     }
-    fault::none()
+    fault::none().at(0)
 }
 
 // The blocks record at a place, and the flows.
@@ -52,38 +45,14 @@ fn judge_blocks(
     cert: &[u8],
     at: usize,
 ) -> Judged
-    requires { ⌜ Known (now s) n count (now places) × (at ≤ length (now cert)) × Relates n (now rows) ⌝ }
-    ensures { λ r. ⌜ JudgesBlocks (now (s .entry)) (now (cert .entry)) n (now (rows .entry)) at r ⌝ }
+    requires { ⌜ Known (now s) n count (now places) × (at ≤ length (now cert)) ⌝ }
+    ensures { λ r. ⌜ JudgesBlocks plainRule (now (s .entry)) (now (cert .entry)) n (now (rows .entry)) at r ⌝ }
 {
-    let fault = blocks::blocks_fault(cert, at, n, rows);
-    let number = fault.number;
-    if number != 0 {
-        return Judged::Rejected { number, place: at };
+    let blocks = blocks::blocks_fault(cert, at, n, rows);
+    if blocks.number != 0 {
+        return Judged::Rejected(blocks);
     }
     flows::judge_flows(s, n, count, places, rows, cert, at + 2)
-}
-
-// The pair that a refutation removes, and the place after its record.
-struct Refuted {
-    source: usize,
-    defender: usize,
-    next: usize,
-}
-
-fn removed_by(s: &[u8], n: usize, count: usize, places: &Places, cert: &[u8], at: usize) -> Refuted
-    requires { ⌜ Known (now s) n count (now places) × RefutationPassed (automatonIn (now s)) (now cert) at ⌝ }
-    ensures { λ r. ⌜ Refutes (now (s .entry)) (now (cert .entry)) n at r ⌝ }
-{
-    let challenger = Cursor::new(at + 2).pair(cert);
-    let defender = challenger.next.byte(cert);
-    let q = challenger.value;
-    let source = transition::fields_of(s, places, q).source;
-    let prices = refutation::price_count(s, n, places, q);
-    Refuted {
-        source,
-        defender: defender.value,
-        next: at + 5 + 4 * prices,
-    }
 }
 
 // Judges a certificate for a sound model of n states, whose transitions have their places in the table.
@@ -92,44 +61,36 @@ pub fn judge_certificate(s: &[u8], n: usize, count: usize, places: &Places, cert
     ensures { λ r. ⌜ Judges (now (cert .entry)) n (judgeCertificate limits plainRule (automatonIn (now (s .entry))) (now (cert .entry))) r ⌝ }
 {
     let head = head_fault(cert);
-    let wrong = head.number;
-    if wrong != 0 {
-        return Judged::Rejected {
-            number: wrong,
-            place: 0,
-        };
+    if head.number != 0 {
+        return Judged::Rejected(head);
     }
     let mut rows = pairs::no_rows();
-    pairs::start(&s[8..8 + n], n, &mut rows);
+    classes::start(&s[8..8 + n], n, &mut rows);
     let mut x = [0; STATES];
     let mut y = [0; STATES];
     let mut g = [0; STATES];
     let mut left = Cursor::new(2).pair(cert).value;
-    let mut at = 4;
+    let mut place = Cursor::new(4);
     while 0 < left {
-        let fault = refutation::refutation_fault(
+        let refuted = refutation::judge_refutation(
             s,
             n,
             count,
             places,
             &rows,
             cert,
-            at,
+            place,
             &mut x,
             &mut y,
             &mut g,
         );
-        let refusal = fault.number;
-        if refusal != 0 {
-            return Judged::Rejected {
-                number: refusal,
-                place: at,
-            };
+        let wrong = refuted.fault;
+        if wrong.number != 0 {
+            return Judged::Rejected(wrong);
         }
-        let pair = removed_by(s, n, count, places, cert, at);
-        pairs::remove(&mut rows, pair.source, pair.defender);
-        at = pair.next;
+        pairs::remove(&mut rows, refuted.source, refuted.defender);
+        place = refuted.next;
         left -= 1;
     }
-    judge_blocks(s, n, count, places, &rows, cert, at)
+    judge_blocks(s, n, count, places, &rows, cert, place.at)
 }

@@ -5,7 +5,7 @@ use lib.IntN.{ℤ}
 use Rattle.bisimulation.specs.definitions.Choice.{ifSame, unlessTrue, both, allBelow}
 use Rattle.bisimulation.specs.definitions.Automaton.{Automaton}
 use Rattle.bisimulation.specs.definitions.Pairs.{Pairs}
-use Rattle.rules.specs.definitions.Certificate.{Fault, fault, noFault}
+use Rattle.rules.specs.definitions.Faults.{Fault, fault, noFault}
 use Rattle.rules.specs.definitions.PlainRule.{priceCondition, allRelated, below}
 
 module _ (A : Automaton) where

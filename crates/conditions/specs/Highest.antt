@@ -1,7 +1,6 @@
 -- The highest price among the states that are related to one.
 use Prim.Native.Nat.{ℕ, _^_, _≤_, _<_}
 use mathlib.Core.Path.{_≡_}
-use mathlib.Core.Logic.{_⊎_}
 use mathlib.Core.Bool.{Bool, true}
 use mathlib.Core.List.{List}
 use lib.IntN.{ℤ}
@@ -12,12 +11,6 @@ use Rattle.rules.specs.definitions.Limits.{limits}
 use Rattle.rules.specs.definitions.PlainRule.{allRelated}
 use Rattle.pairs.specs.Rows.{rowBit, HoldsPairs}
 use Rattle.prices.specs.Prices.{priceIn, SmallPrices}
-
--- the larger of two prices
-pub record IsLarger (a b r : ℤ) : Type 0 where
-  pub first : a ≤ℤ r
-  pub second : b ≤ℤ r
-  pub one : (r ≡ a) ⊎ (r ≡ b)
 
 -- the states that are related to v are among the first n
 pub record Inside (n : ℕ) (rows : List ℕ) (v : ℕ) : Type 0 where

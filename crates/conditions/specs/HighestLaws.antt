@@ -4,9 +4,9 @@ use mathlib.Core.Path.{_≡_, refl, sym, _∙_, ap, subst}
 use mathlib.Core.Logic.{_⊎_, inl, inr}
 use mathlib.Core.Bool.{Bool, true, false, not}
 use mathlib.Core.List.{List}
-use lib.Dec.{T, le→leb, ltb→lt}
+use lib.Dec.{le→leb}
 use lib.IntN.{ℤ, pos, negsuc}
-use lib.Signed.{mag, leZ, ltZ, _≤ℤ_, _<ℤ_, leZ-yes, ltZ-yes, ltZ-no, ≤ℤ-refl, <ℤ-≤ℤ-trans, clashℤ}
+use lib.Signed.{mag, leZ, ltZ, _≤ℤ_, _<ℤ_, leZ-yes, ltZ-yes, ltZ-no, clashℤ}
 use mir.Syntax.{w64}
 use mir.Val.{toZ, ofZ}
 use borrow.Author.Count.{below-more}
@@ -22,28 +22,9 @@ use Rattle.rules.specs.argument.PlainDecides.{holds-T, T-holds}
 use Rattle.pairs.specs.Rows.{rowBit, HoldsPairs, IsNext, AreAlike}
 use Rattle.prices.specs.Prices.{priceIn, SmallPrices}
 use Rattle.prices.specs.PricesLaws.{price-back}
-use Rattle.conditions.specs.Highest.{IsLarger, Inside, Bounds, HighestBelow, IsHighest, AreRelated}
-
--- laws of the order of numbers with a sign
-≤ℤ-trans : {a b c : ℤ} → a ≤ℤ b → b ≤ℤ c → a ≤ℤ c
-≤ℤ-trans {a} {b} {c} h k = go (ltZ c a) refl
-  where
-    go : (t : Bool) → ltZ c a ≡ t → a ≤ℤ c
-    go true e = clashℤ (<ℤ-≤ℤ-trans (ltZ-yes (holds-T e)) h) k
-    go false e = ltZ-no (holds-T (ap not e))
-
-less-le : (a b : ℤ) → T (ltZ a b) → T (leZ a b)
-less-le (pos a) (pos b) h = le→leb a b (omega (arith, ltb→lt a b h))
-less-le (pos a) (negsuc b) h = h
-less-le (negsuc a) (pos b) h = h
-less-le (negsuc a) (negsuc b) h = le→leb b a (omega (arith, ltb→lt b a h))
-
--- the larger of two prices
-pub second-larger : (a b : ℤ) → ltZ a b ≡ true → IsLarger a b b
-second-larger a b e = record { first = leZ-yes (less-le a b (holds-T e)); second = ≤ℤ-refl b; one = inr refl }
-
-pub first-larger : (a b : ℤ) → ltZ a b ≡ false → IsLarger a b a
-first-larger a b e = record { first = ≤ℤ-refl a; second = ltZ-no (holds-T (ap not e)); one = inl refl }
+use Rattle.signed.specs.Larger.{IsLarger}
+use Rattle.signed.specs.LargerLaws.{≤ℤ-trans}
+use Rattle.conditions.specs.Highest.{Inside, Bounds, HighestBelow, IsHighest, AreRelated}
 
 -- what is known before each related state: u is one, and the highest price below it
 pub record Seeking (rows : List ℕ) (v u : ℕ) (table : List ℤ) (most : ℤ) : Type 0 where

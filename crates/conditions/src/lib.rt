@@ -9,7 +9,7 @@ ghost use Rattle.rules.specs.definitions.PlainRule.{priceCondition, below};
 ghost use Rattle.transition.specs.Known.{automatonIn, Known, KnownTransition};
 ghost use Rattle.prices.specs.Prices.{priceIn, SmallPrices};
 ghost use Rattle.conditions.specs.Conditions.{fairTwice, fairTo, allFair};
-ghost use Rattle.conditions.specs.Highest.{IsLarger, IsHighest, AreRelated};
+ghost use Rattle.conditions.specs.Highest.{IsHighest, AreRelated};
 use limits::STATES;
 use model::Places;
 use pairs::Rows;
@@ -77,16 +77,6 @@ pub fn all_fair(s: &[u8], count: usize, places: &Places, a: usize, x: &Prices, y
     true
 }
 
-// The larger of two prices.
-fn larger(a: i64, b: i64) -> i64
-    ensures { λ r. ⌜ IsLarger a b r ⌝ }
-{
-    if a < b {
-        return b;
-    }
-    a
-}
-
 // The highest of the prices g of the states that are related to v.
 fn highest(rows: &Rows, v: usize, g: &Prices) -> i64
     requires { ⌜ v < limits .states ⌝ }
@@ -96,7 +86,7 @@ fn highest(rows: &Rows, v: usize, g: &Prices) -> i64
     let mut u = pairs::next_related(rows, v, 0);
     while u < STATES {
         let price = g[u];
-        most = larger(most, price);
+        most = signed::larger(most, price);
         u = pairs::next_related(rows, v, u + 1);
     }
     most

@@ -1,4 +1,4 @@
--- Laws of the k entries taken into the cells.
+-- Laws of the k entries taken into the remainders.
 use Prim.Native.Nat.{ℕ, zero, suc, _+_, _*_, _-_, _^_, _≤_, _<_}
 use mathlib.Core.Path.{_≡_, refl, sym, _∙_, ap, subst, subst₂}
 use mathlib.Core.Bool.{Bool, true, false}
@@ -9,8 +9,9 @@ use native.Mathlib.Omega.{arith}
 use native.Mathlib.Decide.{ℕ-discrete}
 use Rattle.bisimulation.specs.argument.ChoiceLaws.{less, notLess, notSame, isTrue, isFalse, eitherLess, eitherSame, eitherTrue, false-not}
 use Rattle.rules.specs.definitions.Bytes.{byteAt, twoAt, threeAt, fourAt}
-use Rattle.rules.specs.definitions.Certificate.{Fault, fault, kFault}
-use Rattle.rules.specs.definitions.PlainRule.{byKind, plainInQuestion, plainRule}
+use Rattle.rules.specs.definitions.Certificate.{FileRule, kFault}
+use Rattle.rules.specs.definitions.Faults.{Fault, fault}
+use Rattle.rules.specs.definitions.Limits.{limits}
 use Rattle.field.specs.declared.Field.{Field}
 use Rattle.field.specs.Taken as field
 use Rattle.field.specs.Taken.{taken-at}
@@ -19,20 +20,21 @@ use Rattle.transition.specs.KnownLaws.{few-transitions, known-transition}
 use Rattle.entries_k.specs.declared.Taken.{Taken}
 use Rattle.remainders.specs.Nonzero.{nonzeroIn, Counted, Became}
 use Rattle.remainders.specs.Moving.{arrived, departed, Room, CanMove}
-use Rattle.entries_k.specs.Taking.{arrivalOf, departureOf, inQuestionOf, WrongK, unordered, absent, unasked, nothing, RightK, TellsK, tookK, tookKs, CanTake, CanTakeKs, TookKs}
-use Rattle.remainders.specs.MovingLaws.{minus-small, room-fewer, arrived-length, arrived-room, departed-room}
+use Rattle.entries_k.specs.Taking.{arrivalOf, departureOf, Tests, WrongK, unordered, absent, unasked, nothing, RightK, TellsK, tookK, tookKs, CanTake, mostKs, CanTakeKs, TookKs}
+use Rattle.signed.specs.TermsLaws.{minus-small}
+use Rattle.remainders.specs.MovingLaws.{room-fewer, arrived-length, arrived-room, departed-room}
 
-pub arrival-most : (layer : ℕ) → arrivalOf layer ≤ 64
+pub arrival-most : (layer : ℕ) → arrivalOf layer ≤ limits .states
 unfolding arrivalOf
-arrival-most layer = eitherSame (λ (x : ℕ). x ≤ 64) layer 0 (omega arith) (omega arith)
+arrival-most layer = eitherSame (λ (x : ℕ). x ≤ limits .states) layer 0 (omega arith) (omega arith)
 
-departure-most : (layer : ℕ) → departureOf layer ≤ 64
+departure-most : (layer : ℕ) → departureOf layer ≤ limits .states
 unfolding departureOf
-departure-most layer = eitherSame (λ (x : ℕ). x ≤ 64) layer 2 (omega arith) (omega arith)
+departure-most layer = eitherSame (λ (x : ℕ). x ≤ limits .states) layer 2 (omega arith) (omega arith)
 
 -- a k entry's transition arrives, then leaves
-module _ {s places : List ℕ} {r k : ℕ} {cells : List ℤ} {nonzero : ℕ} (c : CanTake s places r k cells nonzero) (layer : ℕ) where
-  pub can-arrive : CanMove s places r (pos k) (arrivalOf layer) cells nonzero
+module _ {s places : List ℕ} {r k : ℕ} {remainders : List ℤ} {nonzero : ℕ} (c : CanTake s places r k remainders nonzero) (layer : ℕ) where
+  pub can-arrive : CanMove s places r (pos k) (arrivalOf layer) remainders nonzero
   can-arrive =
       record {
         known = c .known;
@@ -42,7 +44,7 @@ module _ {s places : List ℕ} {r k : ℕ} {cells : List ℤ} {nonzero : ℕ} (c
         room = room-fewer (omega arith) (c .room);
       }
 
-  pub can-leave : {after : List ℤ} {now : ℕ} → Became (arrived (entriesOf s r) (pos k) (arrivalOf layer) cells) after now → CanMove s places r (negℤ (pos k)) (departureOf layer) after now
+  pub can-leave : {after : List ℤ} {now : ℕ} → Became (arrived (entriesOf s r) (pos k) (arrivalOf layer) remainders) after now → CanMove s places r (negℤ (pos k)) (departureOf layer) after now
   can-leave b =
       record {
         known = c .known;
@@ -52,20 +54,20 @@ module _ {s places : List ℕ} {r k : ℕ} {cells : List ℤ} {nonzero : ℕ} (c
         room = subst (λ (x : List ℤ). Room x 1) (sym (b .same)) (arrived-room can-arrive (c .room));
       }
 
-  pub took-k : {between after : List ℤ} {mid now : ℕ} → Became (arrived (entriesOf s r) (pos k) (arrivalOf layer) cells) between mid → Became (departed (automatonIn s) r (negℤ (pos k)) (departureOf layer) between) after now → Became (tookK s layer r k cells) after now
+  pub took-k : {between after : List ℤ} {mid now : ℕ} → Became (arrived (entriesOf s r) (pos k) (arrivalOf layer) remainders) between mid → Became (departed (automatonIn s) r (negℤ (pos k)) (departureOf layer) between) after now → Became (tookK s layer r k remainders) after now
   unfolding tookK
   took-k {after = after} {now = now} b e =
       subst (λ (x : List ℤ). Became (departed (automatonIn s) r (negℤ (pos k)) (departureOf layer) x) after now) (b .same) e
 
   -- it takes two changes from the room
-  pub took-room : {changes : ℕ} → Room cells (suc (suc changes)) → Room (tookK s layer r k cells) changes
+  pub took-room : {changes : ℕ} → Room remainders (suc (suc changes)) → Room (tookK s layer r k remainders) changes
   unfolding tookK
   took-room {changes} room =
-      departed-room (can-leave {now = nonzeroIn middle} (record { same = refl; counted = record { size = arrived-length (entriesOf s r) (pos k) (arrivalOf layer) cells ∙ c .table .size; count = refl } }))
+      departed-room (can-leave {now = nonzeroIn middle} (record { same = refl; counted = record { size = arrived-length (entriesOf s r) (pos k) (arrivalOf layer) remainders ∙ c .table .size; count = refl } }))
       (arrived-room can-arrive room)
     where
       middle : List ℤ
-      middle = arrived (entriesOf s r) (pos k) (arrivalOf layer) cells
+      middle = arrived (entriesOf s r) (pos k) (arrivalOf layer) remainders
 
 -- a k entry as it was read at a place
 pub record KRead (C : List ℕ) (at layer r k : ℕ) : Type 0 where
@@ -84,76 +86,63 @@ k-read x y z =
     }
 
 -- the test's two answers
-module _ {s : List ℕ} {count action lowest layer r k : ℕ} where
-  pub tells-wrong : WrongK count action lowest layer r k (inQuestionOf action layer (automatonIn s .action r)) → TellsK s count action lowest layer r k false
+module _ {count lowest layer r k : ℕ} {asked : Bool} where
+  pub tells-wrong : WrongK count lowest layer r k asked → TellsK count lowest layer r k asked false
   tells-wrong o = record { wrong = λ e. o; right = λ e. absurd (false-not e) }
 
-  pub tells-right : RightK count lowest layer r k (inQuestionOf action layer (automatonIn s .action r)) → TellsK s count action lowest layer r k true
+  pub tells-right : RightK count lowest layer r k asked → TellsK count lowest layer r k asked true
   tells-right o = record { wrong = λ e. absurd (false-not (sym e)); right = λ e. o }
 
--- the machine's answer to whether it is asked
-pub asked-by : (challenger layer : ℕ) {action other : ℕ} {answer b : Bool} → answer ≡ inQuestionOf challenger layer action → action ≡ other → answer ≡ b → inQuestionOf challenger layer other ≡ b
-asked-by challenger layer e f g = ap (inQuestionOf challenger layer) (sym f) ∙ sym e ∙ g
-
--- what is asked stands in one of three layers
-layer-of : (challenger layer action : ℕ) → inQuestionOf challenger layer action ≡ true → layer ≤ 2
-unfolding inQuestionOf
-layer-of challenger layer action e = go (ℕ-discrete layer 0) (ℕ-discrete layer 1) (ℕ-discrete layer 2)
-  where
-    go : Dec (layer ≡ 0) → Dec (layer ≡ 1) → Dec (layer ≡ 2) → layer ≤ 2
-    go (yes a) b c = omega arith
-    go (no a) (yes b) c = omega arith
-    go (no a) (no b) (yes c) = omega arith
-    go (no a) (no b) (no c) =
-        absurd (false-not (notSame _ a (eitherSame (λ (x : Bool). false ≡ x) challenger 0 refl (notSame _ b (notSame _ c refl))) ∙ e))
-
 -- before each k entry: the keys before the lowest are those of at most `layer` layers and x transitions, so at most `ahead` entries follow
-pub record TakingKs (s C : List ℕ) (action start entries : ℕ) (before cells : List ℤ) (left at lowest nonzero : ℕ) : Type 0 where
+pub record TakingKs (rule : FileRule) (s C : List ℕ) (action start entries : ℕ) (before remainders : List ℤ) (left at lowest nonzero : ℕ) : Type 0 where
   pub layer : ℕ
   pub x : ℕ
   pub ahead : ℕ
   pub key : lowest ≡ layer * 65536 + x
   pub low : layer ≤ 2
-  pub few : x ≤ 256
-  pub follow : ahead + layer * 256 + x ≡ 768
+  pub few : x ≤ limits .transitions
+  pub follow : ahead + layer * limits .transitions + x ≡ mostKs
   pub whole : at + 7 * left ≤ length C
-  pub table : Counted cells nonzero
-  pub room : Room cells (4400 + 2 * ahead)
-  pub number : (q t : ℕ) → action ≡ automatonIn s .action q → kFault plainRule (automatonIn s) C q t left at lowest ≡ kFault plainRule (automatonIn s) C q t entries start 0
-  pub makesUp : tookKs s C left at cells ≡ tookKs s C entries start before
+  pub ends : at + 7 * left ≡ start + 7 * entries
+  pub table : Counted remainders nonzero
+  pub enough : Room before (2 * mostKs)
+  pub room : (more : ℕ) → Room before (2 * mostKs + more) → Room remainders (2 * ahead + more)
+  pub number : (q t : ℕ) → action ≡ automatonIn s .action q → kFault rule (automatonIn s) C q t left at lowest ≡ kFault rule (automatonIn s) C q t entries start 0
+  pub makesUp : tookKs s C left at remainders ≡ tookKs s C entries start before
 
-pub ks-start : {s C : List ℕ} {count : ℕ} {places : List ℕ} {at entries : ℕ} {cells : List ℤ} {nonzero : ℕ} → CanTakeKs s C count places at entries cells nonzero → (action : ℕ) {place : ℕ} → place ≡ at → TakingKs s C action at entries cells cells entries place 0 nonzero
-ks-start {s} {C} {count} {places} {at} {entries} {cells} {nonzero} c action e =
-    subst (λ (p : ℕ). TakingKs s C action at entries cells cells entries p 0 nonzero) (sym e)
-    (record {
+pub ks-start : {rule : FileRule} {s C : List ℕ} {count : ℕ} {places : List ℕ} {at entries : ℕ} {remainders : List ℤ} {nonzero : ℕ} → CanTakeKs s C count places at entries remainders nonzero → (action : ℕ) → TakingKs rule s C action at entries remainders remainders entries at 0 nonzero
+ks-start c action =
+    record {
       layer = 0;
       x = 0;
-      ahead = 768;
+      ahead = mostKs;
       key = refl;
       low = omega arith;
       few = omega arith;
       follow = refl;
       whole = c .whole;
+      ends = refl;
       table = c .table;
-      room = room-fewer (omega arith) (c .room);
+      enough = c .room;
+      room = λ more room. room;
       number = λ q t a. refl;
       makesUp = refl;
-    })
+    }
 
 -- the tests of one entry
-module _ (s C : List ℕ) {action count : ℕ} (left : ℕ) {at layer r k : ℕ} (known : automatonIn s .transitions ≡ count) (e : KRead C at layer r k) (q t : ℕ) (same-action : action ≡ automatonIn s .action q) where
+module _ {rule : FileRule} {test : ℕ → ℕ → ℕ → Bool} (tests : Tests test rule) (s C : List ℕ) {action count : ℕ} (left : ℕ) {at layer r k : ℕ} (known : automatonIn s .transitions ≡ count) (e : KRead C at layer r k) (q t : ℕ) (same-action : action ≡ automatonIn s .action q) where
   key-is : layer * 65536 + r ≡ threeAt C at
   unfolding threeAt
   key-is = omega (arith, e .layer-is, e .transition-is)
 
-  asked-as : inQuestionOf action layer (automatonIn s .action r) ≡ plainInQuestion (automatonIn s) q (byteAt C at) (twoAt C (at + 1))
-  unfolding inQuestionOf plainInQuestion byKind
+  asked-as : test action layer (automatonIn s .action r) ≡ rule .inQuestion (automatonIn s) q t (byteAt C at) (twoAt C (at + 1))
   asked-as =
-      ap (λ (a : ℕ). inQuestionOf a layer (automatonIn s .action r)) same-action
-      ∙ ap (λ (l : ℕ). inQuestionOf (automatonIn s .action q) l (automatonIn s .action r)) (e .layer-is)
-      ∙ ap (λ (i : ℕ). inQuestionOf (automatonIn s .action q) (byteAt C at) (automatonIn s .action i)) (e .transition-is)
+      ap (λ (a : ℕ). test a layer (automatonIn s .action r)) same-action
+      ∙ tests .is (automatonIn s) q t layer r
+      ∙ ap (λ (l : ℕ). rule .inQuestion (automatonIn s) q t l r) (e .layer-is)
+      ∙ ap (rule .inQuestion (automatonIn s) q t (byteAt C at)) (e .transition-is)
 
-  wrong-k : {lowest : ℕ} → WrongK count action lowest layer r k (inQuestionOf action layer (automatonIn s .action r)) → fault 19 ≡ kFault plainRule (automatonIn s) C q t (suc left) at lowest
+  wrong-k : {lowest : ℕ} → WrongK count lowest layer r k (test action layer (automatonIn s .action r)) → fault 19 ≡ kFault rule (automatonIn s) C q t (suc left) at lowest
   unfolding kFault
   wrong-k (unordered l) = less _ (omega (arith, key-is)) refl
   wrong-k (absent l) = eitherLess (λ (f : Fault). fault 19 ≡ f) _ _ refl (notLess _ (omega (arith, known, e .transition-is)) refl)
@@ -166,74 +155,81 @@ module _ (s C : List ℕ) {action count : ℕ} (left : ℕ) {at layer r k : ℕ}
       (eitherTrue (λ (f : Fault). fault 19 ≡ f) _ (notLess _ (omega (arith, e .k-is)) refl) refl)
       refl)
 
-  right-k : {lowest : ℕ} → RightK count lowest layer r k (inQuestionOf action layer (automatonIn s .action r)) → kFault plainRule (automatonIn s) C q t left (at + 7) (layer * 65536 + r + 1) ≡ kFault plainRule (automatonIn s) C q t (suc left) at lowest
+  right-k : {lowest : ℕ} → RightK count lowest layer r k (test action layer (automatonIn s .action r)) → kFault rule (automatonIn s) C q t left (at + 7) (layer * 65536 + r + 1) ≡ kFault rule (automatonIn s) C q t (suc left) at lowest
   unfolding kFault
   right-k w =
       notLess _ (omega (arith, key-is, w .ordered))
       (less _ (omega (arith, known, e .transition-is, w .present))
       (isTrue _ (sym asked-as ∙ w .asked-is)
       (less _ (omega (arith, e .k-is, w .some))
-      (ap (λ (key : ℕ). kFault plainRule (automatonIn s) C q t left (at + 7) (key + 1)) key-is))))
+      (ap (λ (key : ℕ). kFault rule (automatonIn s) C q t left (at + 7) (key + 1)) key-is))))
 
-module _ {s C : List ℕ} {action start entries : ℕ} {before cells : List ℤ} {count : ℕ} (known : automatonIn s .transitions ≡ count) where
+module _ {rule : FileRule} {test : ℕ → ℕ → ℕ → Bool} (tests : Tests test rule) {s C : List ℕ} {action start entries : ℕ} {before remainders : List ℤ} {count : ℕ} (known : automatonIn s .transitions ≡ count) where
   -- an entry is refused, or can be taken
-  pub ks-refused : (left : ℕ) {at lowest nonzero layer r k : ℕ} {x : Taken} → TakingKs s C action start entries before cells left at lowest nonzero → 0 < left → KRead C at layer r k → WrongK count action lowest layer r k (inQuestionOf action layer (automatonIn s .action r)) → x .number ≡ 19 → TookKs s C action start entries before cells x
+  pub ks-refused : (left : ℕ) {at lowest nonzero layer r k : ℕ} {x : Taken} → TakingKs rule s C action start entries before remainders left at lowest nonzero → 0 < left → KRead C at layer r k → WrongK count lowest layer r k (test action layer (automatonIn s .action r)) → x .good ≡ false → TookKs rule s C action start entries before remainders x
   ks-refused zero h some e w n = absurd (omega arith)
   ks-refused (suc left) h some e w n =
       record {
-        number = λ q t a. ap fault n ∙ wrong-k s C left known e q t a w ∙ h .number q t a;
-        became = λ z. absurd (omega arith);
-        room = λ z. absurd (omega arith);
+        refused = λ z q t a. wrong-k tests s C left known e q t a w ∙ h .number q t a;
+        passed = λ z. absurd (false-not (sym n ∙ z));
+        became = λ z. absurd (false-not (sym n ∙ z));
+        room = λ z. absurd (false-not (sym n ∙ z));
+        next = λ z. absurd (false-not (sym n ∙ z));
       }
 
-  pub ks-asks : {left at lowest nonzero layer r k states : ℕ} {places : List ℕ} → TakingKs s C action start entries before cells left at lowest nonzero → KRead C at layer r k → Known s states count places → RightK count lowest layer r k (inQuestionOf action layer (automatonIn s .action r)) → CanTake s places r k cells nonzero
+  pub ks-asks : {left at lowest nonzero layer r k states : ℕ} {places : List ℕ} → TakingKs rule s C action start entries before remainders left at lowest nonzero → KRead C at layer r k → Known s states count places → RightK count lowest layer r k (test action layer (automatonIn s .action r)) → CanTake s places r k remainders nonzero
   ks-asks {layer = layer} {r = r} h e m w =
       record {
         known = known-transition m (w .present);
         small = e .small;
         table = h .table;
-        room = room-fewer (omega (arith, h .key, h .low, h .few, h .follow, w .ordered, w .present, few-transitions m, layer-of action layer (automatonIn s .action r) (w .asked-is))) (h .room);
+        room = room-fewer (omega (arith, h .key, h .low, h .few, h .follow, w .ordered, w .present, few-transitions m, tests .layers action layer (automatonIn s .action r) (w .asked-is))) (h .room 0 (room-fewer (omega arith) (h .enough)));
       }
 
-  one-k : (left : ℕ) {at lowest nonzero layer r k states now : ℕ} {places : List ℕ} {after : List ℤ} → TakingKs s C action start entries before cells (suc left) at lowest nonzero → KRead C at layer r k → Known s states count places → RightK count lowest layer r k (inQuestionOf action layer (automatonIn s .action r)) → Became (tookK s layer r k cells) after now → TakingKs s C action start entries before after left (at + 7) (layer * 65536 + r + 1) now
+  one-k : (left : ℕ) {at lowest nonzero layer r k states now : ℕ} {places : List ℕ} {after : List ℤ} → TakingKs rule s C action start entries before remainders (suc left) at lowest nonzero → KRead C at layer r k → Known s states count places → RightK count lowest layer r k (test action layer (automatonIn s .action r)) → Became (tookK s layer r k remainders) after now → TakingKs rule s C action start entries before after left (at + 7) (layer * 65536 + r + 1) now
   unfolding tookKs
   one-k left {at} {lowest} {nonzero} {layer} {r} {k} h e m w b =
-      let low = layer-of action layer (automatonIn s .action r) (w .asked-is) in
-      let rest : suc (suc (4400 + 2 * (768 - (layer * 256 + (r + 1))))) ≤ 4400 + 2 * h .ahead = omega (arith, h .key, h .low, h .few, h .follow, w .ordered, w .present, few-transitions m, low) in
+      let low = tests .layers action layer (automatonIn s .action r) (w .asked-is) in
+      let left-ahead : ℕ = mostKs - (layer * limits .transitions + (r + 1)) in
+      let rest : suc (suc (2 * left-ahead)) ≤ 2 * h .ahead = omega (arith, h .key, h .low, h .few, h .follow, w .ordered, w .present, few-transitions m, low) in
       record {
         layer = layer;
         x = r + 1;
-        ahead = 768 - (layer * 256 + (r + 1));
+        ahead = left-ahead;
         key = omega arith;
         low = low;
         few = omega (arith, w .present, few-transitions m);
         follow = omega (arith, low, w .present, few-transitions m);
         whole = omega (arith, h .whole);
+        ends = omega (arith, h .ends);
         table = b .counted;
-        room = subst (λ (x : List ℤ). Room x (4400 + 2 * (768 - (layer * 256 + (r + 1))))) (sym (b .same)) (took-room (ks-asks h e m w) layer (room-fewer rest (h .room)));
-        number = λ q t a. right-k s C left known e q t a w ∙ h .number q t a;
+        enough = h .enough;
+        room = λ more room. subst (λ (x : List ℤ). Room x (2 * left-ahead + more)) (sym (b .same)) (took-room (ks-asks h e m w) layer (room-fewer (omega arith) (h .room more room)));
+        number = λ q t a. right-k tests s C left known e q t a w ∙ h .number q t a;
         makesUp =
             ap (tookKs s C left (at + 7))
             (b .same
-            ∙ ap (λ (l : ℕ). tookK s l r k cells) (e .layer-is)
-            ∙ ap (λ (i : ℕ). tookK s (byteAt C at) i k cells) (e .transition-is)
-            ∙ ap (λ (m : ℕ). tookK s (byteAt C at) (twoAt C (at + 1)) m cells) (e .k-is))
+            ∙ ap (λ (l : ℕ). tookK s l r k remainders) (e .layer-is)
+            ∙ ap (λ (i : ℕ). tookK s (byteAt C at) i k remainders) (e .transition-is)
+            ∙ ap (λ (m : ℕ). tookK s (byteAt C at) (twoAt C (at + 1)) m remainders) (e .k-is))
             ∙ h .makesUp;
       }
 
-  pub ks-turn : (left : ℕ) {at next lowest above nonzero layer r k states now : ℕ} {places : List ℕ} {after : List ℤ} → TakingKs s C action start entries before cells left at lowest nonzero → 0 < left → KRead C at layer r k → Known s states count places → RightK count lowest layer r k (inQuestionOf action layer (automatonIn s .action r)) → Became (tookK s layer r k cells) after now → next ≡ at + 7 → above ≡ layer * 65536 + r + 1 → TakingKs s C action start entries before after (left - 1) next above now
+  pub ks-turn : (left : ℕ) {at next lowest above nonzero layer r k states now : ℕ} {places : List ℕ} {after : List ℤ} → TakingKs rule s C action start entries before remainders left at lowest nonzero → 0 < left → KRead C at layer r k → Known s states count places → RightK count lowest layer r k (test action layer (automatonIn s .action r)) → Became (tookK s layer r k remainders) after now → next ≡ at + 7 → above ≡ layer * 65536 + r + 1 → TakingKs rule s C action start entries before after (left - 1) next above now
   ks-turn zero h some e m w b n p = absurd (omega arith)
   ks-turn (suc left) {next = next} {above = above} {now = now} {after = after} h some e m w b n p =
       let one : left ≡ suc left - 1 = omega arith in
-      subst (λ (j : ℕ). TakingKs s C action start entries before after j next above now) one
-      (subst₂ (λ (i l : ℕ). TakingKs s C action start entries before after left i l now) (sym n) (sym p) (one-k left h e m w b))
+      subst (λ (j : ℕ). TakingKs rule s C action start entries before after j next above now) one
+      (subst₂ (λ (i l : ℕ). TakingKs rule s C action start entries before after left i l now) (sym n) (sym p) (one-k left h e m w b))
 
-pub ks-end : {s C : List ℕ} {action start entries : ℕ} {before cells : List ℤ} (left : ℕ) {at lowest nonzero : ℕ} {x : Taken} → TakingKs s C action start entries before cells left at lowest nonzero → left ≤ 0 → x .number ≡ 0 → x .nonzero ≡ nonzero → TookKs s C action start entries before cells x
+pub ks-end : {rule : FileRule} {s C : List ℕ} {action start entries : ℕ} {before remainders : List ℤ} (left : ℕ) {at lowest nonzero : ℕ} {x : Taken} → TakingKs rule s C action start entries before remainders left at lowest nonzero → left ≤ 0 → x .good ≡ true → x .nonzero ≡ nonzero → x .next .at ≡ at → TookKs rule s C action start entries before remainders x
 unfolding kFault tookKs
-ks-end {s} {C} {action} {start} {entries} {before} {cells} zero {x = x} h none z n =
+ks-end {s = s} {C} {action} {start} {entries} {before} {remainders} zero {x = x} h none z n p =
     record {
-      number = λ q t a. ap fault z ∙ h .number q t a;
-      became = λ y. subst (λ (m : ℕ). Became (tookKs s C entries start before) cells m) (sym n) (record { same = h .makesUp; counted = h .table });
-      room = λ y. room-fewer (omega arith) (h .room);
+      refused = λ y. absurd (false-not (sym y ∙ z));
+      passed = λ y q t a. h .number q t a;
+      became = λ y. subst (λ (m : ℕ). Became (tookKs s C entries start before) remainders m) (sym n) (record { same = h .makesUp; counted = h .table });
+      room = λ y more room. room-fewer (omega arith) (h .room more room);
+      next = λ y. omega (arith, h .ends);
     }
-ks-end (suc left) h none z n = absurd (omega arith)
+ks-end (suc left) h none z n p = absurd (omega arith)

@@ -1,16 +1,20 @@
 // The k entries of a flow judged, and taken into its equations.
 ghost use mathlib.Core.Path.{_≡_};
+ghost use Rattle.rules.specs.definitions.PlainRule.{plainRule};
+ghost use Rattle.transition.specs.Known.{automatonIn};
 ghost use Rattle.remainders.specs.Nonzero.{Became};
 ghost use Rattle.entries_k.specs.Taking.{arrivalOf, departureOf, inQuestionOf, CanTest, TellsK, tookK, CanTake, CanTakeKs, TookKs};
 use field::Cursor;
 use limits::STATES;
 use model::Places;
-use remainders::Cells;
+use remainders::Remainders;
 
-// What the k entries come to: the number of their fault, and how many cells are not zero then.
+// What the k entries come to: whether all of them are good; and where they are, how many remainders are not zero then, and the cursor past
+// them.
 pub struct Taken {
-    pub number: usize,
+    pub good: bool,
     pub nonzero: usize,
+    pub next: Cursor,
 }
 
 // An entry of a layer and of a transition with this action is in the question of a challenger with its action.
@@ -32,7 +36,7 @@ fn in_question(challenger: usize, layer: usize, action: usize) -> bool
     action == 0
 }
 
-// Where the cells begin that a layer leads to, or that w leaves by the challenger's action.
+// Where the remainders begin that a layer leads to, or that w leaves by the challenger's action.
 pub fn arrival(layer: usize) -> usize
     ensures { λ r. ⌜ r ≡ arrivalOf layer ⌝ }
 {
@@ -42,7 +46,7 @@ pub fn arrival(layer: usize) -> usize
     STATES
 }
 
-// Where the cells begin that a layer leaves.
+// Where the remainders begin that a layer leaves.
 fn departure(layer: usize) -> usize
     ensures { λ r. ⌜ r ≡ departureOf layer ⌝ }
 {
@@ -59,20 +63,20 @@ fn take_k(
     layer: usize,
     r: usize,
     k: usize,
-    cells: &mut Cells,
+    remainders: &mut Remainders,
     nonzero: usize,
 ) -> usize
-    requires { ⌜ CanTake (now s) (now places) r k (now cells) nonzero ⌝ }
-    ensures { λ x. ⌜ Became (tookK (now (s .entry)) layer r k (now (cells .entry))) (now (cells .exit)) x ⌝ }
+    requires { ⌜ CanTake (now s) (now places) r k (now remainders) nonzero ⌝ }
+    ensures { λ x. ⌜ Became (tookK (now (s .entry)) layer r k (now (remainders .entry))) (now (remainders .exit)) x ⌝ }
 {
-    let arrived = remainders::arrive(s, places, r, k as i64, arrival(layer), cells, nonzero);
+    let arrived = remainders::arrive(s, places, r, k as i64, arrival(layer), remainders, nonzero);
     remainders::leave(
         s,
         places,
         r,
-        remainders::minus(k),
+        signed::minus(k),
         departure(layer),
-        cells,
+        remainders,
         arrived,
     )
 }
@@ -89,7 +93,7 @@ fn stands(
     k: usize,
 ) -> bool
     requires { ⌜ CanTest (now s) (now places) count layer r ⌝ }
-    ensures { λ x. ⌜ TellsK (now (s .entry)) count action lowest layer r k x ⌝ }
+    ensures { λ x. ⌜ TellsK count lowest layer r k (inQuestionOf action layer (automatonIn (now (s .entry)) .action r)) x ⌝ }
 {
     let key = layer * 65536 + r;
     if key < lowest {
@@ -107,23 +111,23 @@ fn stands(
     true
 }
 
-// 19 of the k entries, and each good one taken into the equations.
+// Each good k entry taken into the equations, up to the first that is not.
 pub fn take_ks(
     s: &[u8],
     count: usize,
     places: &Places,
     action: usize,
     cert: &[u8],
-    at: usize,
+    first: Cursor,
     entries: usize,
-    cells: &mut Cells,
+    remainders: &mut Remainders,
     initial: usize,
 ) -> Taken
-    requires { ⌜ CanTakeKs (now s) (now cert) count (now places) at entries (now cells) initial ⌝ }
-    ensures { λ r. ⌜ TookKs (now (s .entry)) (now (cert .entry)) action at entries (now (cells .entry)) (now (cells .exit)) r ⌝ }
+    requires { ⌜ CanTakeKs (now s) (now cert) count (now places) (first .at) entries (now remainders) initial ⌝ }
+    ensures { λ r. ⌜ TookKs plainRule (now (s .entry)) (now (cert .entry)) action (first .at) entries (now (remainders .entry)) (now (remainders .exit)) r ⌝ }
 {
     let mut left = entries;
-    let mut place = Cursor::new(at);
+    let mut place = first;
     let mut lowest = 0;
     let mut nonzero = initial;
     while 0 < left {
@@ -135,14 +139,19 @@ pub fn take_ks(
         let k = amount.value;
         if !stands(s, count, places, action, lowest, l, r, k) {
             return Taken {
-                number: 19,
+                good: false,
                 nonzero,
+                next: place,
             };
         }
-        nonzero = take_k(s, places, l, r, k, cells, nonzero);
+        nonzero = take_k(s, places, l, r, k, remainders, nonzero);
         lowest = l * 65536 + r + 1;
         place = amount.next;
         left -= 1;
     }
-    Taken { number: 0, nonzero }
+    Taken {
+        good: true,
+        nonzero,
+        next: place,
+    }
 }

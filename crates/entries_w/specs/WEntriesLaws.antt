@@ -1,4 +1,4 @@
--- Laws of the w entries taken into the cells.
+-- Laws of the w entries taken into the remainders.
 use Prim.Native.Nat.{ℕ, zero, suc, _+_, _*_, _-_, _^_, _≤_, _<_}
 use mathlib.Core.Path.{_≡_, refl, sym, _∙_, ap, subst}
 use mathlib.Core.Bool.{true, false}
@@ -10,16 +10,20 @@ use Rattle.bisimulation.specs.argument.ChoiceLaws.{false-not, less, notLess, is
 use Rattle.bisimulation.specs.definitions.Automaton.{Automaton}
 use Rattle.bisimulation.specs.definitions.Pairs.{Pairs}
 use Rattle.rules.specs.definitions.Bytes.{byteAt, twoAt, fourAt}
-use Rattle.rules.specs.definitions.Certificate.{Fault, fault, wFault}
+use Rattle.rules.specs.definitions.Certificate.{wFault}
+use Rattle.rules.specs.definitions.Faults.{Fault, fault}
+use Rattle.rules.specs.definitions.Limits.{limits}
 use Rattle.field.specs.declared.Field.{Field}
 use Rattle.field.specs.Taken as field
 use Rattle.field.specs.Taken.{taken-at}
+use Rattle.limits.specs.Sizes as sizes
 use Rattle.pairs.specs.Rows.{rowBit, HoldsPairs}
 use Rattle.entries_w.specs.declared.Matched.{Matched}
 use Rattle.remainders.specs.Nonzero.{Counted, Became}
 use Rattle.remainders.specs.Moving.{added, Room, CanAdd}
-use Rattle.entries_w.specs.Matching.{WrongW, unordered, absent, otherAbsent, unrelated, nothing, RightW, TellsW, tookWs, tookVs, tookUs, CanTakeWs, TookWs}
-use Rattle.remainders.specs.MovingLaws.{minus-small, room-fewer, added-room}
+use Rattle.entries_w.specs.Matching.{WrongW, unordered, absent, otherAbsent, unrelated, nothing, RightW, TellsW, tookWs, tookVs, tookUs, mostWs, CanTakeWs, TookWs}
+use Rattle.signed.specs.TermsLaws.{minus-small}
+use Rattle.remainders.specs.MovingLaws.{room-fewer, added-room}
 
 -- a w entry as it was read at a place
 pub record WRead (C : List ℕ) (at v u w : ℕ) : Type 0 where
@@ -45,49 +49,50 @@ pub tells-right : {n : ℕ} {rows : List ℕ} {lowest v u w : ℕ} → RightW n 
 tells-right r = record { wrong = λ e. absurd (false-not (sym e)); right = λ e. r }
 
 -- before each w entry: the keys before the lowest have at most v rows and x more, so at most `ahead` entries follow
-pub record TakingWs (C : List ℕ) (start entries n : ℕ) (rows : List ℕ) (d first : ℕ) (before cells targetBefore target : List ℤ) (left at lowest nonzero asked : ℕ) : Type 0 where
+pub record TakingWs (C : List ℕ) (start entries n : ℕ) (rows : List ℕ) (d first : ℕ) (before remainders targetBefore target : List ℤ) (left at lowest nonzero asked : ℕ) : Type 0 where
   pub v : ℕ
   pub x : ℕ
   pub ahead : ℕ
   pub key : lowest ≡ v * 256 + x
-  pub low : v ≤ 63
-  pub short : x ≤ 64
-  pub follow : ahead + v * 64 + x ≡ 4096
+  pub low : v < limits .states
+  pub short : x ≤ limits .states
+  pub follow : ahead + v * limits .states + x ≡ mostWs
   pub whole : at + 6 * left ≤ length C
-  pub few : n ≤ 64
+  pub ends : at + 6 * left ≡ start + 6 * entries
+  pub few : n ≤ limits .states
   pub light : d < 65536
-  pub layer : first ≤ 64
-  pub table : Counted cells nonzero
-  pub room : Room cells (200 + ahead)
+  pub layer : first ≤ limits .states
+  pub table : Counted remainders nonzero
+  pub room : Room remainders ahead
   pub targetTable : Counted target asked
-  pub targetRoom : Room target (200 + ahead)
+  pub targetRoom : Room target ahead
   pub number : (A : Automaton) (R : Pairs) → A .states ≡ n → HoldsPairs n R rows → wFault A C R left at lowest ≡ wFault A C R entries start 0
-  pub makesUp : tookVs C first left at cells ≡ tookVs C first entries start before
+  pub makesUp : tookVs C first left at remainders ≡ tookVs C first entries start before
   pub targetMakesUp : tookUs C d left at target ≡ tookUs C d entries start targetBefore
 
-pub ws-start : {C : List ℕ} {at entries n d first : ℕ} {cells : List ℤ} {nonzero : ℕ} {target : List ℤ} {asked : ℕ} → CanTakeWs C at entries n d first cells nonzero target asked → (rows : List ℕ) {place : ℕ} → place ≡ at → TakingWs C at entries n rows d first cells cells target target entries place 0 nonzero asked
-ws-start {C} {at} {entries} {n} {d} {first} {cells} {nonzero} {target} {asked} c rows e =
-    subst (λ (p : ℕ). TakingWs C at entries n rows d first cells cells target target entries p 0 nonzero asked) (sym e)
-    (record {
+pub ws-start : {C : List ℕ} {at entries n d first : ℕ} {remainders : List ℤ} {nonzero : ℕ} {target : List ℤ} {asked : ℕ} → CanTakeWs C at entries n d first remainders nonzero target asked → (rows : List ℕ) → TakingWs C at entries n rows d first remainders remainders target target entries at 0 nonzero asked
+ws-start c rows =
+    record {
       v = 0;
       x = 0;
-      ahead = 4096;
+      ahead = mostWs;
       key = refl;
       low = omega arith;
       short = omega arith;
       follow = refl;
       whole = c .whole;
+      ends = refl;
       few = c .few;
       light = c .light;
       layer = c .layer;
       table = c .table;
-      room = room-fewer (omega arith) (c .room);
+      room = c .room;
       targetTable = c .targetTable;
-      targetRoom = room-fewer (omega arith) (c .targetRoom);
+      targetRoom = c .targetRoom;
       number = λ A R s h. refl;
       makesUp = refl;
       targetMakesUp = refl;
-    })
+    }
 
 -- the tests of one entry
 module _ (A : Automaton) {C : List ℕ} (R : Pairs) {n : ℕ} {rows : List ℕ} (left : ℕ) {at v u w : ℕ} (known : A .states ≡ n) (h : HoldsPairs n R rows) (e : WRead C at v u w) where
@@ -124,60 +129,67 @@ module _ (A : Automaton) {C : List ℕ} (R : Pairs) {n : ℕ} {rows : List ℕ} 
       (less _ (omega (arith, e .w-is, r .some))
       (ap (λ (key : ℕ). wFault A C R left (at + 6) (key + 1)) key-is)))))
 
-module _ {C : List ℕ} {start entries n : ℕ} {rows : List ℕ} {d first : ℕ} {before cells targetBefore target : List ℤ} where
+module _ {C : List ℕ} {start entries n : ℕ} {rows : List ℕ} {d first : ℕ} {before remainders targetBefore target : List ℤ} where
   -- an entry is refused, or can be taken at v and at u
-  pub ws-refused : (left : ℕ) {at lowest nonzero asked v u w : ℕ} {x : Matched} → TakingWs C start entries n rows d first before cells targetBefore target left at lowest nonzero asked → 0 < left → WRead C at v u w → WrongW n rows lowest v u w → x .number ≡ 19 → TookWs C start entries n rows d first before cells targetBefore target x
+  pub ws-refused : (left : ℕ) {at lowest nonzero asked v u w : ℕ} {x : Matched} → TakingWs C start entries n rows d first before remainders targetBefore target left at lowest nonzero asked → 0 < left → WRead C at v u w → WrongW n rows lowest v u w → x .good ≡ false → TookWs C start entries n rows d first before remainders targetBefore target x
   ws-refused zero h some e o z = absurd (omega arith)
   ws-refused (suc left) h some e o z =
       record {
-        number = λ A R s p. ap fault z ∙ wrong-w A R left s p e o ∙ h .number A R s p;
-        became = λ y. absurd (omega arith);
-        targetBecame = λ y. absurd (omega arith);
+        refused = λ y A R s p. wrong-w A R left s p e o ∙ h .number A R s p;
+        passed = λ y. absurd (false-not (sym z ∙ y));
+        became = λ y. absurd (false-not (sym z ∙ y));
+        targetBecame = λ y. absurd (false-not (sym z ∙ y));
+        next = λ y. absurd (false-not (sym z ∙ y));
       }
 
-  module _ {left at lowest nonzero asked : ℕ} (h : TakingWs C start entries n rows d first before cells targetBefore target left at lowest nonzero asked) {v u w : ℕ} (e : WRead C at v u w) (r : RightW n rows lowest v u w) where
-    pub v-asks : CanAdd cells (first + v) 1 (negℤ (pos w)) nonzero
+  module _ {left at lowest nonzero asked : ℕ} (h : TakingWs C start entries n rows d first before remainders targetBefore target left at lowest nonzero asked) {v u w : ℕ} (e : WRead C at v u w) (r : RightW n rows lowest v u w) where
+    -- so many entries follow it
+    rest : suc (mostWs - (v * limits .states + (u + 1))) ≤ h .ahead
+    rest = omega (arith, h .key, h .low, h .short, h .follow, h .few, r .ordered, r .present, r .otherPresent)
+
+    pub v-asks : CanAdd remainders (first + v) 1 (negℤ (pos w)) nonzero
     v-asks =
-        let inside : first + v < 128 = omega (arith, h .layer, h .few, r .present) in
+        let inside : first + v < sizes.remainders = omega (arith, h .layer, h .few, r .present) in
         record {
           table = h .table;
           inside = inside;
-          fits = record { soFar = omega (arith, h .room .small (first + v) inside); light = omega arith; small = minus-small w _ (omega (arith, e .small)) };
+          fits = record { room = omega (arith, h .room .small (first + v) inside, rest); small = minus-small w _ (e .small) };
         }
 
     pub u-asks : CanAdd target u d (pos w) asked
     u-asks =
-        let inside : u < 128 = omega (arith, h .few, r .otherPresent) in
+        let inside : u < sizes.remainders = omega (arith, h .few, r .otherPresent) in
         record {
           table = h .targetTable;
           inside = inside;
-          fits = record { soFar = omega (arith, h .targetRoom .small u inside); light = h .light; small = omega (arith, e .small) };
+          fits = record { room = omega (arith, h .targetRoom .small u inside, h .light, rest); small = e .small };
         }
 
-  one-w : (left : ℕ) {at lowest nonzero asked v u w now then : ℕ} {after targetAfter : List ℤ} → TakingWs C start entries n rows d first before cells targetBefore target (suc left) at lowest nonzero asked → WRead C at v u w → RightW n rows lowest v u w → Became (added cells (first + v) 1 (negℤ (pos w))) after now → Became (added target u d (pos w)) targetAfter then → TakingWs C start entries n rows d first before after targetBefore targetAfter left (at + 6) (v * 256 + u + 1) now then
+  one-w : (left : ℕ) {at lowest nonzero asked v u w now then : ℕ} {after targetAfter : List ℤ} → TakingWs C start entries n rows d first before remainders targetBefore target (suc left) at lowest nonzero asked → WRead C at v u w → RightW n rows lowest v u w → Became (added remainders (first + v) 1 (negℤ (pos w))) after now → Became (added target u d (pos w)) targetAfter then → TakingWs C start entries n rows d first before after targetBefore targetAfter left (at + 6) (v * 256 + u + 1) now then
   unfolding tookWs
   one-w left {at} {v = v} {u = u} {w = w} h e r b t =
-      let rest : suc (200 + (4096 - (v * 64 + (u + 1)))) ≤ 200 + h .ahead = omega (arith, h .key, h .low, h .short, h .follow, h .few, r .ordered, r .present, r .otherPresent) in
+      let ahead : ℕ = mostWs - (v * limits .states + (u + 1)) in
       record {
         v = v;
         x = u + 1;
-        ahead = 4096 - (v * 64 + (u + 1));
+        ahead = ahead;
         key = omega arith;
         low = omega (arith, r .present, h .few);
         short = omega (arith, r .otherPresent, h .few);
         follow = omega (arith, r .present, r .otherPresent, h .few);
         whole = omega (arith, h .whole);
+        ends = omega (arith, h .ends);
         few = h .few;
         light = h .light;
         layer = h .layer;
         table = b .counted;
-        room = subst (λ (y : List ℤ). Room y (200 + (4096 - (v * 64 + (u + 1))))) (sym (b .same)) (added-room _ _ _ (h .table .size) (omega arith) (v-asks h e r .fits .small) (room-fewer rest (h .room)));
+        room = subst (λ (y : List ℤ). Room y ahead) (sym (b .same)) (added-room _ _ _ (h .table .size) (omega arith) (v-asks h e r .fits .small) (room-fewer (rest h e r) (h .room)));
         targetTable = t .counted;
-        targetRoom = subst (λ (y : List ℤ). Room y (200 + (4096 - (v * 64 + (u + 1))))) (sym (t .same)) (added-room _ _ _ (h .targetTable .size) (h .light) (u-asks h e r .fits .small) (room-fewer rest (h .targetRoom)));
+        targetRoom = subst (λ (y : List ℤ). Room y ahead) (sym (t .same)) (added-room _ _ _ (h .targetTable .size) (h .light) (u-asks h e r .fits .small) (room-fewer (rest h e r) (h .targetRoom)));
         number = λ A R s p. right-w A R left s p e r ∙ h .number A R s p;
         makesUp =
             ap (tookVs C first left (at + 6))
-            (b .same ∙ ap (λ (i : ℕ). added cells (first + i) 1 (negℤ (pos w))) (e .v-is) ∙ ap (λ (k : ℕ). added cells (first + byteAt C at) 1 (negℤ (pos k))) (e .w-is))
+            (b .same ∙ ap (λ (i : ℕ). added remainders (first + i) 1 (negℤ (pos w))) (e .v-is) ∙ ap (λ (k : ℕ). added remainders (first + byteAt C at) 1 (negℤ (pos k))) (e .w-is))
             ∙ h .makesUp;
         targetMakesUp =
             ap (tookUs C d left (at + 6))
@@ -185,19 +197,21 @@ module _ {C : List ℕ} {start entries n : ℕ} {rows : List ℕ} {d first : ℕ
             ∙ h .targetMakesUp;
       }
 
-  pub ws-turn : (left : ℕ) {at next lowest nonzero asked v u w now then : ℕ} {after targetAfter : List ℤ} → TakingWs C start entries n rows d first before cells targetBefore target left at lowest nonzero asked → 0 < left → WRead C at v u w → RightW n rows lowest v u w → Became (added cells (first + v) 1 (negℤ (pos w))) after now → Became (added target u d (pos w)) targetAfter then → next ≡ at + 6 → TakingWs C start entries n rows d first before after targetBefore targetAfter (left - 1) next (v * 256 + u + 1) now then
+  pub ws-turn : (left : ℕ) {at next lowest nonzero asked v u w now then : ℕ} {after targetAfter : List ℤ} → TakingWs C start entries n rows d first before remainders targetBefore target left at lowest nonzero asked → 0 < left → WRead C at v u w → RightW n rows lowest v u w → Became (added remainders (first + v) 1 (negℤ (pos w))) after now → Became (added target u d (pos w)) targetAfter then → next ≡ at + 6 → TakingWs C start entries n rows d first before after targetBefore targetAfter (left - 1) next (v * 256 + u + 1) now then
   ws-turn zero h some e r b t p = absurd (omega arith)
   ws-turn (suc left) {next = next} {v = v} {u = u} {now = now} {then = then} {after = after} {targetAfter = targetAfter} h some e r b t p =
       let one : left ≡ suc left - 1 = omega arith in
       subst (λ (j : ℕ). TakingWs C start entries n rows d first before after targetBefore targetAfter j next (v * 256 + u + 1) now then) one
       (subst (λ (i : ℕ). TakingWs C start entries n rows d first before after targetBefore targetAfter left i (v * 256 + u + 1) now then) (sym p) (one-w left h e r b t))
 
-  pub ws-end : (left : ℕ) {at lowest nonzero asked : ℕ} {x : Matched} → TakingWs C start entries n rows d first before cells targetBefore target left at lowest nonzero asked → left ≤ 0 → x .number ≡ 0 → x .nonzero ≡ nonzero → x .target ≡ asked → TookWs C start entries n rows d first before cells targetBefore target x
+  pub ws-end : (left : ℕ) {at lowest nonzero asked : ℕ} {x : Matched} → TakingWs C start entries n rows d first before remainders targetBefore target left at lowest nonzero asked → left ≤ 0 → x .good ≡ true → x .nonzero ≡ nonzero → x .target ≡ asked → x .next .at ≡ at → TookWs C start entries n rows d first before remainders targetBefore target x
   unfolding wFault tookWs
-  ws-end zero h none z i j =
+  ws-end zero h none z i j p =
       record {
-        number = λ A R s p. ap fault z ∙ h .number A R s p;
-        became = λ y. subst (Became _ cells) (sym i) (record { same = h .makesUp; counted = h .table });
+        refused = λ y. absurd (false-not (sym y ∙ z));
+        passed = λ y A R s p. h .number A R s p;
+        became = λ y. subst (Became _ remainders) (sym i) (record { same = h .makesUp; counted = h .table });
         targetBecame = λ y. subst (Became _ target) (sym j) (record { same = h .targetMakesUp; counted = h .targetTable });
+        next = λ y. omega (arith, h .ends);
       }
-  ws-end (suc left) h none z i j = absurd (omega arith)
+  ws-end (suc left) h none z i j p = absurd (omega arith)

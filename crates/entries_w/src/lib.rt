@@ -1,20 +1,23 @@
 // The w entries of a flow judged, and taken into its equations.
 ghost use Prim.Native.Nat.{_≤_, _<_};
+ghost use Rattle.rules.specs.definitions.Limits.{limits};
 ghost use Rattle.entries_w.specs.Matching.{TellsW, CanTakeWs, TookWs};
 use field::Cursor;
 use pairs::Rows;
-use remainders::Cells;
+use remainders::Remainders;
 
-// What the w entries come to: the number of their fault, and how many cells of each table are not zero then.
+// What the w entries come to: whether all of them are good; and where they are, how many remainders of each table are not zero then, and the
+// cursor past them.
 pub struct Matched {
-    pub number: usize,
+    pub good: bool,
     pub nonzero: usize,
     pub target: usize,
+    pub next: Cursor,
 }
 
 // A w entry is in order, its states are there and related, and it is not zero.
 fn stands(n: usize, rows: &Rows, lowest: usize, v: usize, u: usize, w: usize) -> bool
-    requires { ⌜ (n ≤ 64) × (v < 256) × (u < 256) ⌝ }
+    requires { ⌜ (n ≤ limits .states) × (v < 256) × (u < 256) ⌝ }
     ensures { λ r. ⌜ TellsW n (now (rows .entry)) lowest v u w r ⌝ }
 {
     let pair = v * 256 + u;
@@ -36,25 +39,25 @@ fn stands(n: usize, rows: &Rows, lowest: usize, v: usize, u: usize, w: usize) ->
     true
 }
 
-// 19 of the w entries, and each good one taken into the equations at v, whose cells begin at `first`, and at u.
+// Each good w entry taken into the equations at v, whose remainders begin at `layer`, and at u, up to the first that is not.
 pub fn take_ws(
     cert: &[u8],
-    at: usize,
+    first: Cursor,
     entries: usize,
     n: usize,
     rows: &Rows,
     d: usize,
-    first: usize,
-    cells: &mut Cells,
+    layer: usize,
+    remainders: &mut Remainders,
     initial: usize,
-    target: &mut Cells,
+    target: &mut Remainders,
     asked: usize,
 ) -> Matched
-    requires { ⌜ CanTakeWs (now cert) at entries n d first (now cells) initial (now target) asked ⌝ }
-    ensures { λ r. ⌜ TookWs (now (cert .entry)) at entries n (now (rows .entry)) d first (now (cells .entry)) (now (cells .exit)) (now (target .entry)) (now (target .exit)) r ⌝ }
+    requires { ⌜ CanTakeWs (now cert) (first .at) entries n d layer (now remainders) initial (now target) asked ⌝ }
+    ensures { λ r. ⌜ TookWs (now (cert .entry)) (first .at) entries n (now (rows .entry)) d layer (now (remainders .entry)) (now (remainders .exit)) (now (target .entry)) (now (target .exit)) r ⌝ }
 {
     let mut left = entries;
-    let mut place = Cursor::new(at);
+    let mut place = first;
     let mut lowest = 0;
     let mut nonzero = initial;
     let mut target_nonzero = asked;
@@ -67,20 +70,22 @@ pub fn take_ws(
         let w = amount.value;
         if !stands(n, rows, lowest, v, u, w) {
             return Matched {
-                number: 19,
+                good: false,
                 nonzero,
                 target: target_nonzero,
+                next: place,
             };
         }
-        nonzero = remainders::take(cells, first + v, 1, w, nonzero);
+        nonzero = remainders::take(remainders, layer + v, 1, w, nonzero);
         target_nonzero = remainders::give(target, u, d, w, target_nonzero);
         lowest = v * 256 + u + 1;
         place = amount.next;
         left -= 1;
     }
     Matched {
-        number: 0,
+        good: true,
         nonzero,
         target: target_nonzero,
+        next: place,
     }
 }

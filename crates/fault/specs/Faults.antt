@@ -1,6 +1,14 @@
--- A part's fault as document 01's: the number of the refusal.
-use Rattle.rules.specs.definitions.Certificate as rules
+-- A part's fault as document 01's.
+use Prim.Native.Nat.{ℕ}
+use mathlib.Core.Path.{_≡_}
+use Rattle.rules.specs.definitions.Faults as rules
 use Rattle.fault.specs.declared.Fault.{Fault}
 
+-- the number of the refusal, 0 for nothing
 abbrev pub faultOf : Fault → rules.Fault
 faultOf f = record { number = f .number }
+
+-- it is this fault, of the record that begins at a place
+pub record Placed (f : rules.Fault) (place : ℕ) (r : Fault) : Type 0 where
+  pub is : faultOf r ≡ f
+  pub at : r .place ≡ place

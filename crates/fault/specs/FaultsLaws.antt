@@ -1,14 +1,18 @@
--- Laws of the first of two faults.
+-- Laws of a part's fault.
 use Prim.Native.Nat.{ℕ}
 use mathlib.Core.Path.{_≡_, sym, _∙_, ap}
-use Rattle.bisimulation.specs.argument.ChoiceLaws.{same, notSame}
-use Rattle.rules.specs.definitions.Certificate.{Fault, firstOf}
+use Rattle.rules.specs.definitions.Faults as rules
+use Rattle.fault.specs.declared.Fault.{Fault}
+use Rattle.fault.specs.Faults.{faultOf, Placed}
 
--- z is the first fault where there is one, else the next
-pub first-stops : {x : Fault} (f next : Fault) → x ≡ f → (x .number ≡ 0 → ⊥) → x ≡ firstOf f next
-unfolding firstOf
-first-stops {x} f next e n = notSame next (λ z. n (ap (λ (g : Fault). g .number) e ∙ z)) e
+-- number 0 is no fault
+pub none-is : (r : Fault) {f : rules.Fault} → faultOf r ≡ f → r .number ≡ 0 → rules.noFault ≡ f
+none-is r e z = ap rules.fault (sym z) ∙ e
 
-pub first-passes : {x z : Fault} (f next : Fault) → x ≡ f → x .number ≡ 0 → z ≡ next → z ≡ firstOf f next
-unfolding firstOf
-first-passes f next e n h = same f (ap (λ (g : Fault). g .number) (sym e) ∙ n) h
+-- a fault that is placed is a refusal where it was one
+pub placed-some : (f : Fault) {place : ℕ} {r : Fault} → Placed (faultOf f) place r → (f .number ≡ 0 → ⊥) → r .number ≡ 0 → ⊥
+placed-some f p n z = n (ap (λ (x : rules.Fault). x .number) (sym (p .is)) ∙ z)
+
+-- it is known by another definition
+pub placed-as : {f g : rules.Fault} {place : ℕ} {r : Fault} → Placed f place r → f ≡ g → Placed g place r
+placed-as p e = record { is = p .is ∙ e; at = p .at }

@@ -2,23 +2,25 @@
 ghost use Prim.Native.Nat.{_-_, _≤_, _<_};
 ghost use mathlib.Core.Path.{_≡_};
 ghost use Rattle.rules.specs.definitions.Limits.{limits};
-ghost use Rattle.rules.specs.definitions.Reading.{firstNotBelow};
-ghost use Rattle.rules.specs.definitions.Answers.{fetchAnswer};
-ghost use Rattle.fetch.specs.Fetched.{Walkable, IsRun, answerOf};
-use field::Cursor;
+ghost use Rattle.rules.specs.definitions.Reading.{statesOf, firstNotBelow};
+ghost use Rattle.rules.specs.definitions.Answers.{runAnswer, fetchAnswer};
+ghost use Rattle.transition.specs.Known.{Known};
+ghost use Rattle.answer.specs.Answered.{answered};
+ghost use Rattle.fetch.specs.Fetched.{IsRun, answerOf};
+use answer::Answer;
+use fault::Fault;
 use model::Places;
 use model::Scanned;
 
 // Of the transitions from r on, the first whose source is not below a state; their count where there is none.
 fn first_not_below(s: &[u8], state: usize, r: usize, count: usize, places: &Places) -> usize
-    requires { ⌜ (r ≤ count) × Walkable (now s) count (now places) ⌝ }
+    requires { ⌜ (r ≤ count) × Known (now s) (statesOf (now s)) count (now places) ⌝ }
     ensures { λ x. ⌜ x ≡ firstNotBelow (now (s .entry)) state (count - r) r ⌝ }
 {
     let mut ahead = count - r;
     let mut at = r;
     while 0 < ahead {
-        let place = places[at];
-        let source = Cursor::new(place + 2).byte(s).value;
+        let source = transition::fields_of(s, places, at).source;
         if state <= source {
             return at;
         }
@@ -34,7 +36,7 @@ struct Run {
 }
 
 fn run_of(s: &[u8], state: usize, count: usize, places: &Places) -> Run
-    requires { ⌜ (state < 256) × Walkable (now s) count (now places) ⌝ }
+    requires { ⌜ (state < limits .states) × Known (now s) (statesOf (now s)) count (now places) ⌝ }
     ensures { λ r. ⌜ IsRun (now (s .entry)) state r ⌝ }
 {
     let first = first_not_below(s, state, 0, count, places);
@@ -45,22 +47,19 @@ fn run_of(s: &[u8], state: usize, count: usize, places: &Places) -> Run
     }
 }
 
-pub enum Fetched {
+enum Fetched {
     Found { start: usize, end: usize },
     NoState,
-    Unsound { number: usize, place: usize },
+    Unsound(Fault),
 }
 
 // The run of the model's bytes that holds the transitions of a state, or why there is none.
-pub fn fetch_run(s: &[u8], state: usize) -> Fetched
+fn fetch_run(s: &[u8], state: usize) -> Fetched
     ensures { λ r. ⌜ answerOf (now (s .entry)) r ≡ fetchAnswer limits (now (s .entry)) state ⌝ }
 {
     let wrong = model_records::head_fault(s);
-    if wrong != 0 {
-        return Fetched::Unsound {
-            number: wrong,
-            place: 0,
-        };
+    if wrong.number != 0 {
+        return Fetched::Unsound(wrong);
     }
     let mut places = model::no_places();
     let scanned = model::scan_whole(s, &mut places);
@@ -77,6 +76,34 @@ pub fn fetch_run(s: &[u8], state: usize) -> Fetched
                 end: run.end,
             }
         }
-        Scanned::Refused { number, place } => Fetched::Unsound { number, place },
+        Scanned::Refused(fault) => Fetched::Unsound(fault),
+    }
+}
+
+fn run_from(start: usize, end: usize) -> Answer
+    ensures { λ r. ⌜ answered r ≡ runAnswer start end ⌝ }
+{
+    if start < end {
+        return Answer {
+            number: 0,
+            file: 0,
+            place: 0,
+            stretch_start: start,
+            stretch_length: end - start,
+            written: 0,
+        };
+    }
+    answer::without_place(0, 0)
+}
+
+// What a fetch answers.
+pub fn fetch_answer(model: &[u8], state: u32) -> Answer
+    ensures { λ r. ⌜ answered r ≡ fetchAnswer limits (now (model .entry)) state ⌝ }
+{
+    let fetched = fetch_run(model, state as usize);
+    match fetched {
+        Fetched::Found { start, end } => run_from(start, end),
+        Fetched::NoState => answer::without_place(24, 0),
+        Fetched::Unsound(wrong) => answer::refusal_in(wrong, 1, model.len()),
     }
 }

@@ -1,193 +1,197 @@
--- Laws of the parts of a flow's judgement.
-use Prim.Native.Nat.{ℕ, _+_, _*_, _^_, _≤_, _<_}
+-- What the parts of a flow ask, from its k entries on, and what they come to.
+use Prim.Native.Nat.{ℕ, _+_, _*_, _≤_, _<_}
 use mathlib.Core.Path.{_≡_, refl, sym, _∙_, ap, subst, subst₂}
+use mathlib.Core.Bool.{true, false}
 use mathlib.Core.List.{List}
 use lib.ListN.{length}
-use lib.IntN.{ℤ, pos, negℤ, natAbs}
+use lib.IntN.{ℤ, pos, negℤ}
 use native.Mathlib.Omega.{arith}
-use native.Mathlib.Decide.{ℕ-discrete}
-use Rattle.bisimulation.specs.definitions.Choice.{ifLess, ifSame}
-use Rattle.bisimulation.specs.argument.ChoiceLaws.{less, notLess, same, notSame}
-use Rattle.bisimulation.specs.definitions.Automaton.{Automaton}
 use Rattle.bisimulation.specs.definitions.Pairs.{Pairs}
-use Rattle.rules.specs.definitions.Bytes.{fourAt}
-use Rattle.rules.specs.definitions.Certificate.{Fault, fault, noFault, firstOf, kCountAt, wCountAt, afterK, afterFlow, kFault, wFault, flowAt, flowFault}
-use Rattle.rules.specs.definitions.PlainRule.{plainEquationsFault, plainRule}
-use Rattle.fault.specs.Faults.{faultOf}
-use Rattle.fault.specs.FaultsLaws.{first-stops, first-passes}
-use Rattle.fault.specs.declared.Fault as code
+use Rattle.rules.specs.definitions.Bytes.{twoAt, fourAt}
+use Rattle.rules.specs.definitions.Certificate.{FileRule, kCountAt, wCountAt, afterK, afterFlow, kFault, wFault}
+use Rattle.rules.specs.definitions.Faults as rules
+use Rattle.rules.specs.definitions.Faults.{fault, noFault}
+use Rattle.fault.specs.Faults.{faultOf, Placed}
+use Rattle.fault.specs.declared.Fault.{Fault}
+use Rattle.field.specs.Taken as field
+use Rattle.field.specs.Taken.{taken-at}
+use Rattle.field.specs.declared.Field.{Field}
 use Rattle.model_records.specs.declared.Fields.{Fields}
+use Rattle.limits.specs.Sizes as sizes
 use Rattle.pairs.specs.Rows.{HoldsPairs}
 use Rattle.transition.specs.Known.{automatonIn, FieldsOf, entriesOf}
 use Rattle.transition.specs.KnownLaws.{few-states, known-states, known-transition}
+use Rattle.signed.specs.TermsLaws.{minus-small}
 use Rattle.remainders.specs.Remainders.{AllZero}
-use Rattle.entries_k.specs.declared.Taken.{Taken}
-use Rattle.entries_w.specs.declared.Matched.{Matched}
-use Rattle.remainders.specs.Nonzero.{Counted, Became}
-use Rattle.remainders.specs.NonzeroLaws.{zero-cells, nonzero-cells, counted-zero}
-use Rattle.flow.specs.Differences.{Decided, DecidesEquations}
+use Rattle.remainders.specs.Nonzero.{Became}
+use Rattle.remainders.specs.NonzeroLaws.{counted-zero}
 use Rattle.remainders.specs.Moving.{added, arrived, Room, CanAdd, CanMove}
-use Rattle.entries_k.specs.Taking.{arrivalOf, tookKs, CanTakeKs, TookKs}
-use Rattle.entries_w.specs.Matching.{tookVs, tookUs, CanTakeWs, TookWs}
-use Rattle.remainders.specs.MovingLaws.{minus-small, added-room, arrived-room}
+use Rattle.remainders.specs.MovingLaws.{room-zero, room-fewer, added-room, arrived-room}
+use Rattle.entries_k.specs.Taking.{arrivalOf, tookKs, mostKs, CanTakeKs, TookKs}
 use Rattle.entries_k.specs.KEntriesLaws.{arrival-most}
-use Rattle.flow.specs.FlowLaws.{after-k}
-use Rattle.flow.specs.FlowJudged.{FlowHead, CanJudge, verdictOf, FlowJudged}
-use Rattle.flow.specs.EquationsLaws.{Ended, ended, ends-well, ends-20, ends-21}
+use Rattle.entries_k.specs.declared.Taken.{Taken}
+use Rattle.entries_w.specs.Matching.{tookVs, tookUs, mostWs, CanTakeWs, TookWs}
+use Rattle.entries_w.specs.declared.Matched.{Matched}
+use Rattle.equations.specs.Differences.{DecidesEquations, verdictOf}
+use Rattle.equations.specs.EquationsLaws.{Ended, ended, verdict-is, verdict-zeros}
+use Rattle.flow.specs.FlowJudged.{flowChanges, CanJudge, FlowJudged}
+use Rattle.flow.specs.FlowLaws.{head-ends, k-refused, count-missing, ws-missing, w-refused, past-ws, refused-with}
+use Rattle.flow.specs.declared.Head.{Head}
+use Rattle.flow.specs.declared.Met.{Met}
 
--- a refusal says nothing of the cells
-pub judged-refused : {s C : List ℕ} {n : ℕ} {rows : List ℕ} {q t at : ℕ} {cells target : List ℤ} {r : code.Fault} {m : ℕ} → faultOf r ≡ fault m → (m ≡ 0 → ⊥) → ((R : Pairs) → HoldsPairs n R rows → fault m ≡ flowFault plainRule (automatonIn s) C R q t at) → FlowJudged s C n rows q t at cells target r
-judged-refused e o f =
-    record {
-      number = λ R h. e ∙ f R h;
-      zeros = λ z. absurd (o (sym (ap (λ (x : Fault). x .number) e) ∙ z));
-    }
+-- zero remainders have room for a flow
+room-for-flow : {remainders : List ℤ} → AllZero remainders → Room remainders flowChanges
+room-for-flow z = room-zero z (omega arith)
 
--- the flow's fault, past its head, past the k entries, and past the w entries
-module _ (A : Automaton) {C : List ℕ} (R : Pairs) (q t : ℕ) {at : ℕ} (h : FlowHead C at) where
-  past-head : {z : Fault} → z ≡ firstOf (kFault plainRule A C q t (kCountAt C at) (at + 8) 0) (ifLess (length C) (afterK C at + 2) (fault 11) (ifLess (length C) (afterFlow C at) (fault 11) (firstOf (wFault A C R (wCountAt C at) (afterK C at + 2) 0) (plainEquationsFault A q t (flowAt C at))))) → z ≡ flowFault plainRule A C R q t at
-  unfolding flowFault
-  past-head e =
-      notLess _ (omega (arith, h .head)) (same _ (h .mark) (notLess _ (h .head) (notSame _ (h .some) (notLess _ (h .whole) e))))
-
-  pub k-refused : {m : ℕ} → fault m ≡ kFault plainRule A C q t (kCountAt C at) (at + 8) 0 → (m ≡ 0 → ⊥) → fault m ≡ flowFault plainRule A C R q t at
-  k-refused e o = past-head (first-stops _ _ e o)
-
-  module _ (ks : noFault ≡ kFault plainRule A C q t (kCountAt C at) (at + 8) 0) where
-    pub count-missing : length C < afterK C at + 2 → fault 11 ≡ flowFault plainRule A C R q t at
-    count-missing l = past-head (first-passes _ _ ks refl (less _ l refl))
-
-    pub ws-missing : afterK C at + 2 ≤ length C → length C < afterFlow C at → fault 11 ≡ flowFault plainRule A C R q t at
-    ws-missing l k = past-head (first-passes _ _ ks refl (notLess _ l (less _ k refl)))
-
-    module _ (l : afterK C at + 2 ≤ length C) (k : afterFlow C at ≤ length C) where
-      pub w-refused : {m : ℕ} → fault m ≡ wFault A C R (wCountAt C at) (afterK C at + 2) 0 → (m ≡ 0 → ⊥) → fault m ≡ flowFault plainRule A C R q t at
-      w-refused e o = past-head (first-passes _ _ ks refl (notLess _ l (notLess _ k (first-stops _ _ e o))))
-
-      pub past-ws : {z : Fault} → noFault ≡ wFault A C R (wCountAt C at) (afterK C at + 2) 0 → z ≡ plainEquationsFault A q t (flowAt C at) → z ≡ flowFault plainRule A C R q t at
-      past-ws ws e = past-head (first-passes _ _ ks refl (notLess _ l (notLess _ k (first-passes _ _ ws refl e))))
-
--- the verdict is that of the equations
-pub verdict-is : {A : Automaton} {C : List ℕ} {n q t at : ℕ} {cells target : List ℤ} {nonzero asked : ℕ} → A .states ≡ n → n ≤ 64 → Ended A C n q t at cells target → Decided A C q t at → Counted cells nonzero → Counted target asked → verdictOf nonzero asked ≡ plainEquationsFault A q t (flowAt C at)
-unfolding verdictOf
-verdict-is {A} {C} {n} {q} {t} {at} {cells} {target} {nonzero} {asked} known few e d c b = go (ℕ-discrete nonzero 0) (ℕ-discrete asked 0)
-  where
-    go : Dec (nonzero ≡ 0) → Dec (asked ≡ 0) → ifSame nonzero 0 (ifSame asked 0 noFault (fault 21)) (fault 20) ≡ plainEquationsFault A q t (flowAt C at)
-    go (no o) y = sym (notSame _ o refl) ∙ ends-20 known few e d (nonzero-cells c o)
-    go (yes z) (no o) = sym (same _ z (notSame _ o refl)) ∙ ends-21 known few e d (zero-cells c z) (nonzero-cells b o)
-    go (yes z) (yes y) = sym (same _ z (same _ y refl)) ∙ ends-well known few e d (zero-cells c z) (zero-cells b y)
-
--- where it is none all cells are zero
-pub verdict-zeros : {cells target : List ℤ} {nonzero asked : ℕ} → Counted cells nonzero → Counted target asked → verdictOf nonzero asked .number ≡ 0 → AllZero cells × AllZero target
-unfolding verdictOf
-verdict-zeros {cells} {target} {nonzero} {asked} c b e = go (ℕ-discrete nonzero 0) (ℕ-discrete asked 0)
-  where
-    number : {f : Fault} → f ≡ ifSame nonzero 0 (ifSame asked 0 noFault (fault 21)) (fault 20) → f .number ≡ 0
-    number q = ap (λ (x : Fault). x .number) q ∙ e
-
-    go : Dec (nonzero ≡ 0) → Dec (asked ≡ 0) → AllZero cells × AllZero target
-    go (no o) y = absurd (omega (arith, number (notSame _ o refl)))
-    go (yes z) (no o) = absurd (omega (arith, number (same _ z (notSame _ o refl))))
-    go (yes z) (yes y) = (zero-cells c z, zero-cells b y)
-
--- cells that are zero have room
-room-zero : {cells : List ℤ} {changes : ℕ} → AllZero cells → changes ≤ 8192 → Room cells changes
-room-zero {cells} {changes} z few =
-    record { small = λ i h. subst (λ (y : ℤ). natAbs y + changes * 2 ^ 49 ≤ 2 ^ 62) (sym (z .zero i h)) (omega arith) }
-
--- what the parts ask, from the k entries on
-module _ {s C : List ℕ} {n count : ℕ} {places : List ℕ} {q t at entries d : ℕ} {cells target : List ℤ} (j : CanJudge s C n count places q t at entries d cells target) where
-  pub middle-is : at + 8 + 7 * entries ≡ afterK C at
-  middle-is = after-k C at (j .entriesIs)
-
-  pub can-give : CanAdd cells t 1 (pos d) 0
+module _ {s C : List ℕ} {n count : ℕ} {places : List ℕ} {q t at : ℕ} {head : Head} {remainders target : List ℤ} (j : CanJudge s C n count places q t at head remainders target) where
+  pub can-give : CanAdd remainders t 1 (pos (head .d)) 0
   can-give =
-      let inside : t < 128 = omega (arith, j .defender, few-states (j .known)) in
+      let inside : t < sizes.remainders = omega (arith, j .defender, few-states (j .known)) in
       record {
         table = counted-zero (j .zeros);
         inside = inside;
-        fits = record { soFar = omega (arith, room-zero {changes = 1} (j .zeros) (omega arith) .small t inside); light = omega arith; small = omega (arith, j .small) };
+        fits = record { room = omega (arith, room-for-flow (j .zeros) .small t inside); small = j .read .small };
       }
 
-  pub can-take-ks : {given : List ℤ} {now : ℕ} → Became (added cells t 1 (pos d)) given now → CanTakeKs s C count places (at + 8) entries given now
-  can-take-ks b =
-      record {
-        states = n;
-        known = j .known;
-        whole = omega (arith, middle-is, j .stands .whole);
-        table = b .counted;
-        room = subst (λ (x : List ℤ). Room x 6000) (sym (b .same)) (added-room t 1 (pos d) (j .zeros .size) (omega arith) (can-give .fits .small) (room-zero (j .zeros) (omega arith)));
-      }
-
-  pub can-ask : CanMove s places q (negℤ (pos d)) 0 target 0
+  pub can-ask : CanMove s places q (negℤ (pos (head .d))) 0 target 0
   can-ask =
       record {
         known = known-transition (j .known) (j .challenger);
-        small = minus-small d _ (omega (arith, j .small));
+        small = minus-small (head .d) _ (j .read .small);
         layer = omega arith;
         table = counted-zero (j .targetZeros);
-        room = room-zero (j .targetZeros) (omega arith);
+        room = room-fewer (omega arith) (room-for-flow (j .targetZeros));
       }
 
-  -- the fault of the k entries
-  module _ {action : ℕ} (same-action : action ≡ automatonIn s .action q) {given after : List ℤ} {k : Taken} (ks : TookKs s C action (at + 8) entries given after k) where
-    pub k-fault : fault (k .number) ≡ kFault plainRule (automatonIn s) C q t (kCountAt C at) (at + 8) 0
-    k-fault = ks .number q t same-action ∙ ap (λ (m : ℕ). kFault plainRule (automatonIn s) C q t m (at + 8) 0) (j .entriesIs)
+  module _ {given : List ℤ} {made : ℕ} (gave : Became (added remainders t 1 (pos (head .d))) given made) where
+    given-room : Room given (2 * mostKs + mostWs)
+    given-room =
+        subst (λ (x : List ℤ). Room x (2 * mostKs + mostWs)) (sym (gave .same))
+        (added-room _ _ _ (j .zeros .size) (omega arith) (j .read .small) (room-for-flow (j .zeros)))
 
-    module _ (none : k .number ≡ 0) where
-      pub k-passed : noFault ≡ kFault plainRule (automatonIn s) C q t (kCountAt C at) (at + 8) 0
-      k-passed = ap fault (sym none) ∙ k-fault
+    pub can-take-ks : CanTakeKs s C count places (head .first .at) (head .entries) given made
+    can-take-ks =
+        record {
+          states = n;
+          known = j .known;
+          whole = omega (arith, head-ends (j .read), j .stands .whole);
+          table = gave .counted;
+          room = room-fewer (omega arith) given-room;
+        }
 
-      pub can-take-ws : {f : Fields} {first start entries now : ℕ} {asked : List ℤ} → FieldsOf s q f → first ≡ arrivalOf action → start + 6 * entries ≤ length C → Became (arrived (entriesOf s q) (negℤ (pos d)) 0 target) asked now → CanTakeWs C start entries n (f .denominator) first after (k .nonzero) asked now
-      can-take-ws f e l b =
-          record {
-            whole = l;
-            few = few-states (j .known);
-            light = f .small;
-            layer = omega (arith, e, arrival-most action);
-            table = ks .became none .counted;
-            room = ks .room none;
-            targetTable = b .counted;
-            targetRoom = subst (λ (x : List ℤ). Room x 4400) (sym (b .same)) (arrived-room can-ask (room-zero (j .targetZeros) (omega arith)));
-          }
+    -- the k entries, taken for a challenger of these fields
+    module _ (rule : FileRule) {f : Fields} (fields : FieldsOf s q f) {after : List ℤ} {k : Taken} (ks : TookKs rule s C (f .action) (head .first .at) (head .entries) given after k) where
+      all-ks : {z : rules.Fault} → z ≡ kFault rule (automatonIn s) C q t (head .entries) (head .first .at) 0 → z ≡ kFault rule (automatonIn s) C q t (kCountAt C at) (at + 8) 0
+      all-ks e =
+          e
+          ∙ ap (λ (m : ℕ). kFault rule (automatonIn s) C q t m (head .first .at) 0) (j .read .entries)
+          ∙ ap (λ (p : ℕ). kFault rule (automatonIn s) C q t (kCountAt C at) p 0) (j .read .first)
 
-      -- the fault of the w entries, and the verdict
-      module _ {rows : List ℕ} {start wEntries denominator first : ℕ} {end asked aimed : List ℤ} {w : Matched} (start-is : start ≡ afterK C at + 2) (entries-is : wEntries ≡ wCountAt C at) (ws : TookWs C start wEntries n rows denominator first after end asked aimed w) where
-        pub w-fault : (R : Pairs) → HoldsPairs n R rows → fault (w .number) ≡ wFault (automatonIn s) C R (wCountAt C at) (afterK C at + 2) 0
-        w-fault R h =
-            ws .number (automatonIn s) R (known-states (j .known)) h
-            ∙ ap (λ (m : ℕ). wFault (automatonIn s) C R m start 0) entries-is
-            ∙ ap (λ (p : ℕ). wFault (automatonIn s) C R (wCountAt C at) p 0) start-is
+      pub ks-stop : {rows : List ℕ} {rest aim : List ℤ} {r : Met} (x : Fault) → Placed (faultOf x) at (r .fault) → faultOf x ≡ fault 19 → k .good ≡ false → FlowJudged rule s C n rows q t at rest aim r
+      ks-stop x p e bad =
+          refused-with x p e (omega arith) (λ R h. k-refused rule (automatonIn s) R q t (j .stands) (all-ks (ks .refused bad q t (fields .action))) (λ z. omega arith))
 
-        module _ {f : Fields} (fields : FieldsOf s q f) (d-is : denominator ≡ f .denominator) (first-is : first ≡ arrivalOf action) {made now : ℕ} (given-is : Became (added cells t 1 (pos d)) given made) (asked-is : Became (arrived (entriesOf s q) (negℤ (pos d)) 0 target) asked now) (passed : w .number ≡ 0) where
-          end-is : end ≡ tookVs C (arrivalOf (automatonIn s .action q)) (wCountAt C at) (afterK C at + 2) (tookKs s C (kCountAt C at) (at + 8) (added cells t 1 (pos (fourAt C (at + 2)))))
-          end-is =
-              ws .became passed .same
-              ∙ ap (λ (x : ℕ). tookVs C x wEntries start after) (first-is ∙ ap arrivalOf same-action)
-              ∙ ap (λ (x : ℕ). tookVs C (arrivalOf (automatonIn s .action q)) x start after) entries-is
-              ∙ ap (λ (x : ℕ). tookVs C (arrivalOf (automatonIn s .action q)) (wCountAt C at) x after) start-is
-              ∙ ap (tookVs C (arrivalOf (automatonIn s .action q)) (wCountAt C at) (afterK C at + 2))
-              (ks .became none .same
-              ∙ ap (λ (x : ℕ). tookKs s C x (at + 8) given) (j .entriesIs)
-              ∙ ap (tookKs s C (kCountAt C at) (at + 8)) (given-is .same ∙ ap (λ (x : ℕ). added cells t 1 (pos x)) (j .dIs)))
+      module _ (good : k .good ≡ true) where
+        passed : noFault ≡ kFault rule (automatonIn s) C q t (kCountAt C at) (at + 8) 0
+        passed = all-ks (ks .passed good q t (fields .action))
 
-          aimed-is : aimed ≡ tookUs C (automatonIn s .denominator q) (wCountAt C at) (afterK C at + 2) (arrived (entriesOf s q) (negℤ (pos (fourAt C (at + 2)))) 0 target)
-          aimed-is =
-              ws .targetBecame passed .same
-              ∙ ap (λ (x : ℕ). tookUs C x wEntries start asked) (d-is ∙ fields .denominator)
-              ∙ ap (λ (x : ℕ). tookUs C (automatonIn s .denominator q) x start asked) entries-is
-              ∙ ap (λ (x : ℕ). tookUs C (automatonIn s .denominator q) (wCountAt C at) x asked) start-is
-              ∙ ap (tookUs C (automatonIn s .denominator q) (wCountAt C at) (afterK C at + 2))
-              (asked-is .same ∙ ap (λ (x : ℕ). arrived (entriesOf s q) (negℤ (pos x)) 0 target) (j .dIs))
+        pub middle : k .next .at ≡ afterK C at
+        middle = ks .next good ∙ head-ends (j .read)
 
-          pub judged : DecidesEquations → afterK C at + 2 ≤ length C → afterFlow C at ≤ length C → {r : code.Fault} → faultOf r ≡ verdictOf (w .nonzero) (w .target) → FlowJudged s C n rows q t at end aimed r
-          judged decides l m v =
-              record {
-                number = λ R h.
-                    let good : noFault ≡ wFault (automatonIn s) C R (wCountAt C at) (afterK C at + 2) 0 = ap fault (sym passed) ∙ w-fault R h in
-                    let e = ended (j .known) C R q t at (j .challenger) (j .defender) k-passed good (j .zeros) (j .targetZeros) in
-                    let here = subst₂ (Ended (automatonIn s) C n q t at) (sym end-is) (sym aimed-is) e in
-                    past-ws (automatonIn s) R q t (j .stands) k-passed l m good
-                    (v ∙ verdict-is (known-states (j .known)) (few-states (j .known)) here (decides (automatonIn s) C R q t at k-passed good) (ws .became passed .counted) (ws .targetBecame passed .counted));
-                zeros = λ z. verdict-zeros (ws .became passed .counted) (ws .targetBecame passed .counted) (sym (ap (λ (x : Fault). x .number) v) ∙ z);
-              }
+        pub middle-inside : k .next .at ≤ length C
+        middle-inside = omega (arith, middle, j .stands .whole)
+
+        pub count-cut : {rows : List ℕ} {rest aim : List ℤ} {r : Met} (x : Fault) → Placed (faultOf x) at (r .fault) → faultOf x ≡ fault 11 → length C < k .next .at + 2 → FlowJudged rule s C n rows q t at rest aim r
+        count-cut x p e l =
+            refused-with x p e (omega arith) (λ R h. count-missing rule (automatonIn s) R q t (j .stands) passed (omega (arith, middle)))
+
+        -- the w count, read past the k entries
+        module _ {w : Field} (read : field.Taken C twoAt (k .next .at) 2 65536 w) (there : k .next .at + 2 ≤ length C) where
+          counted : w .value ≡ wCountAt C at
+          unfolding wCountAt
+          counted = taken-at read _ middle
+
+          start : w .next .at ≡ afterK C at + 2
+          start = omega (arith, read .next, middle)
+
+          ws-end : w .next .at + 6 * w .value ≡ afterFlow C at
+          unfolding afterFlow
+          ws-end = omega (arith, counted, start)
+
+          count-there : afterK C at + 2 ≤ length C
+          count-there = omega (arith, middle)
+
+          pub ws-cut : {rows : List ℕ} {rest aim : List ℤ} {r : Met} (x : Fault) → Placed (faultOf x) at (r .fault) → faultOf x ≡ fault 11 → length C < w .next .at + 6 * w .value → FlowJudged rule s C n rows q t at rest aim r
+          ws-cut x p e l =
+              refused-with x p e (omega arith) (λ R h. ws-missing rule (automatonIn s) R q t (j .stands) passed count-there (omega (arith, ws-end)))
+
+          module _ (whole : w .next .at + 6 * w .value ≤ length C) {first : ℕ} (first-is : first ≡ arrivalOf (f .action)) {asked : List ℤ} {wanted : ℕ} (ask : Became (arrived (entriesOf s q) (negℤ (pos (head .d))) 0 target) asked wanted) where
+            pub can-take-ws : CanTakeWs C (w .next .at) (w .value) n (f .denominator) first after (k .nonzero) asked wanted
+            can-take-ws =
+                record {
+                  whole = whole;
+                  few = few-states (j .known);
+                  light = fields .small;
+                  layer = omega (arith, first-is, arrival-most (f .action));
+                  table = ks .became good .counted;
+                  room = ks .room good mostWs given-room;
+                  targetTable = ask .counted;
+                  targetRoom = subst (λ (x : List ℤ). Room x mostWs) (sym (ask .same)) (arrived-room can-ask (room-fewer (omega arith) (room-for-flow (j .targetZeros))));
+                }
+
+            flow-whole : afterFlow C at ≤ length C
+            flow-whole = omega (arith, ws-end)
+
+            -- the w entries
+            module _ {rows : List ℕ} {rest aim : List ℤ} {m : Matched} (ws : TookWs C (w .next .at) (w .value) n rows (f .denominator) first after rest asked aim m) where
+              all-ws : (R : Pairs) {z : rules.Fault} → z ≡ wFault (automatonIn s) C R (w .value) (w .next .at) 0 → z ≡ wFault (automatonIn s) C R (wCountAt C at) (afterK C at + 2) 0
+              all-ws R e =
+                  e
+                  ∙ ap (λ (x : ℕ). wFault (automatonIn s) C R x (w .next .at) 0) counted
+                  ∙ ap (λ (p : ℕ). wFault (automatonIn s) C R (wCountAt C at) p 0) start
+
+              pub ws-stop : {r : Met} (x : Fault) → Placed (faultOf x) at (r .fault) → faultOf x ≡ fault 19 → m .good ≡ false → FlowJudged rule s C n rows q t at rest aim r
+              ws-stop x p e bad =
+                  refused-with x p e (omega arith)
+                  (λ R h.
+                  w-refused rule (automatonIn s) R q t (j .stands) passed count-there flow-whole
+                  (all-ws R (ws .refused bad (automatonIn s) R (known-states (j .known)) h)) (λ z. omega arith))
+
+              -- the remainders after them
+              module _ (fine : m .good ≡ true) where
+                rest-is : rest ≡ tookVs C (arrivalOf (automatonIn s .action q)) (wCountAt C at) (afterK C at + 2) (tookKs s C (kCountAt C at) (at + 8) (added remainders t 1 (pos (fourAt C (at + 2)))))
+                rest-is =
+                    ws .became fine .same
+                    ∙ ap (λ (x : ℕ). tookVs C x (w .value) (w .next .at) after) (first-is ∙ ap arrivalOf (fields .action))
+                    ∙ ap (λ (x : ℕ). tookVs C (arrivalOf (automatonIn s .action q)) x (w .next .at) after) counted
+                    ∙ ap (λ (x : ℕ). tookVs C (arrivalOf (automatonIn s .action q)) (wCountAt C at) x after) start
+                    ∙ ap (tookVs C (arrivalOf (automatonIn s .action q)) (wCountAt C at) (afterK C at + 2))
+                    (ks .became good .same
+                    ∙ ap (λ (x : ℕ). tookKs s C x (head .first .at) given) (j .read .entries)
+                    ∙ ap (λ (x : ℕ). tookKs s C (kCountAt C at) x given) (j .read .first)
+                    ∙ ap (tookKs s C (kCountAt C at) (at + 8)) (gave .same ∙ ap (λ (x : ℕ). added remainders t 1 (pos x)) (j .read .d)))
+
+                aim-is : aim ≡ tookUs C (automatonIn s .denominator q) (wCountAt C at) (afterK C at + 2) (arrived (entriesOf s q) (negℤ (pos (fourAt C (at + 2)))) 0 target)
+                aim-is =
+                    ws .targetBecame fine .same
+                    ∙ ap (λ (x : ℕ). tookUs C x (w .value) (w .next .at) asked) (fields .denominator)
+                    ∙ ap (λ (x : ℕ). tookUs C (automatonIn s .denominator q) x (w .next .at) asked) counted
+                    ∙ ap (λ (x : ℕ). tookUs C (automatonIn s .denominator q) (wCountAt C at) x asked) start
+                    ∙ ap (tookUs C (automatonIn s .denominator q) (wCountAt C at) (afterK C at + 2))
+                    (ask .same ∙ ap (λ (x : ℕ). arrived (entriesOf s q) (negℤ (pos x)) 0 target) (j .read .d))
+
+                pub judged : DecidesEquations rule → {r : Met} (v : Fault) → faultOf v ≡ verdictOf (m .nonzero) (m .target) → Placed (faultOf v) at (r .fault) → r .next .at ≡ m .next .at → FlowJudged rule s C n rows q t at rest aim r
+                judged decides v e p onward =
+                    record {
+                      is = λ R h.
+                          let free = all-ws R (ws .passed fine (automatonIn s) R (known-states (j .known)) h) in
+                          let all = ended rule (j .known) C R q t at (j .challenger) (j .defender) passed free (j .zeros) (j .targetZeros) in
+                          let here = subst₂ (Ended (automatonIn s) C n q t at) (sym rest-is) (sym aim-is) all in
+                          p .is
+                          ∙ past-ws rule (automatonIn s) R q t (j .stands) passed count-there flow-whole free
+                          (e ∙ verdict-is (known-states (j .known)) (few-states (j .known)) here (decides (automatonIn s) C R q t at passed free) (ws .became fine .counted) (ws .targetBecame fine .counted));
+                      place = p .at;
+                      next = λ z. onward ∙ ws .next fine ∙ ws-end;
+                      inside = λ z. flow-whole;
+                      zeros = λ z. verdict-zeros (ws .became fine .counted) (ws .targetBecame fine .counted) (ap (λ (x : rules.Fault). x .number) (sym e ∙ sym (p .is)) ∙ z);
+                    }

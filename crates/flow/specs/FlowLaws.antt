@@ -1,37 +1,84 @@
--- Laws of the flow's record: its places, and what a flow without fault tells of them.
-use Prim.Native.Nat.{ℕ, _+_, _*_, _≤_}
-use mathlib.Core.Path.{_≡_}
+-- A flow record's ways out.
+use Prim.Native.Nat.{ℕ, _+_, _*_, _≤_, _<_}
+use mathlib.Core.Path.{_≡_, refl, _∙_, ap}
 use mathlib.Core.List.{List}
 use lib.ListN.{length}
+use lib.IntN.{ℤ}
 use native.Mathlib.Omega.{arith}
+use Rattle.bisimulation.specs.definitions.Choice.{ifLess}
+use Rattle.bisimulation.specs.argument.ChoiceLaws.{less, notLess, same, notSame}
 use Rattle.bisimulation.specs.definitions.Automaton.{Automaton}
 use Rattle.bisimulation.specs.definitions.Pairs.{Pairs}
-use Rattle.rules.specs.definitions.Bytes.{twoAt}
-use Rattle.rules.specs.definitions.Certificate.{noFault, kCountAt, wCountAt, afterK, afterFlow, flowFault}
-use Rattle.rules.specs.definitions.PlainRule.{plainRule}
-use Rattle.rules.specs.argument.FlowRecords.{passed}
-use Rattle.field.specs.declared.Field.{Field}
-use Rattle.field.specs.Taken.{Taken, taken-at}
+use Rattle.rules.specs.definitions.Bytes.{fourAt}
+use Rattle.rules.specs.definitions.Certificate.{FileRule, kCountAt, wCountAt, afterK, afterFlow, kFault, wFault, flowAt, flowFault}
+use Rattle.rules.specs.definitions.Faults as rules
+use Rattle.rules.specs.definitions.Faults.{fault, noFault, certificateRecord, firstOf}
+use Rattle.rules.specs.argument.FaultLaws.{first-stops, first-none, certificate-refuses, opened}
+use Rattle.fault.specs.Faults.{faultOf, Placed}
+use Rattle.fault.specs.FaultsLaws.{none-is, placed-some}
+use Rattle.fault.specs.declared.Fault.{Fault}
+use Rattle.pairs.specs.Rows.{HoldsPairs}
+use Rattle.transition.specs.Known.{automatonIn}
+use Rattle.flow.specs.FlowJudged.{flowOpens, HeadAt, FlowStands, FlowJudged}
+use Rattle.flow.specs.declared.Head.{Head}
+use Rattle.flow.specs.declared.Met.{Met}
 
-module _ (C : List ℕ) (at : ℕ) where
-  -- the counts, read at their places, and the places after the entries
-  pub k-count : {p : ℕ} {f : Field} → Taken C twoAt p 2 65536 f → p ≡ at + 6 → f .value ≡ kCountAt C at
-  unfolding kCountAt
-  k-count t e = taken-at t _ e
+-- a record that is opened has D and the k count
+pub head-whole : (C : List ℕ) (at : ℕ) (o : Fault) → faultOf o ≡ flowOpens C at → o .number ≡ 0 → at + 8 ≤ length C
+head-whole C at o e z = opened certificateRecord 0x464C 8 C at certificate-refuses (none-is o e z) .whole
 
-  pub after-k : {count : ℕ} → count ≡ kCountAt C at → at + 8 + 7 * count ≡ afterK C at
-  unfolding afterK
-  after-k e = omega arith
+-- where its k entries end
+pub head-ends : {C : List ℕ} {at : ℕ} {r : Head} → HeadAt C at r → r .first .at + 7 * r .entries ≡ afterK C at
+unfolding afterK
+head-ends h = omega (arith, h .first, h .entries)
 
-  pub w-count : {p : ℕ} {f : Field} → Taken C twoAt p 2 65536 f → p ≡ afterK C at → f .value ≡ wCountAt C at
-  unfolding wCountAt
-  w-count t e = taken-at t _ e
+-- the flow's fault, past its head, past the k entries, and past the w entries
+module _ (rule : FileRule) (A : Automaton) (C : List ℕ) (R : Pairs) (q t at : ℕ) (opens : noFault ≡ flowOpens C at) where
+  pub d-missing : fourAt C (at + 2) ≡ 0 → fault 19 ≡ flowFault rule A C R q t at
+  unfolding flowFault
+  d-missing z = first-none _ _ opens (same _ z refl)
 
-  pub after-w : {count : ℕ} → count ≡ wCountAt C at → afterK C at + 2 + 6 * count ≡ afterFlow C at
-  unfolding afterFlow
-  after-w e = omega arith
+  pub ks-missing : (fourAt C (at + 2) ≡ 0 → ⊥) → length C < afterK C at → fault 11 ≡ flowFault rule A C R q t at
+  unfolding flowFault
+  ks-missing n l = first-none _ _ opens (notSame _ n (less _ l refl))
 
--- a flow without fault is whole
-pub flow-passed : (A : Automaton) (C : List ℕ) (R : Pairs) (q t at : ℕ) → noFault ≡ flowFault plainRule A C R q t at → (at + 8 ≤ length C) × (afterK C at + 2 ≤ length C) × (afterFlow C at ≤ length C)
-unfolding afterK afterFlow
-flow-passed A C R q t at e = let p = passed plainRule A C R q t at e in (omega (arith, p .whole), omega (arith, p .whole), p .whole)
+module _ (rule : FileRule) (A : Automaton) {C : List ℕ} (R : Pairs) (q t : ℕ) {at : ℕ} (h : FlowStands C at) where
+  past-head : {z : rules.Fault} → z ≡ firstOf (kFault rule A C q t (kCountAt C at) (at + 8) 0) (ifLess (length C) (afterK C at + 2) (fault 11) (ifLess (length C) (afterFlow C at) (fault 11) (firstOf (wFault A C R (wCountAt C at) (afterK C at + 2) 0) (rule .equationsFault A q t (flowAt C at))))) → z ≡ flowFault rule A C R q t at
+  unfolding flowFault
+  past-head e = first-none _ _ (h .opens) (notSame _ (h .some) (notLess _ (h .whole) e))
+
+  pub k-refused : {m : ℕ} → fault m ≡ kFault rule A C q t (kCountAt C at) (at + 8) 0 → (m ≡ 0 → ⊥) → fault m ≡ flowFault rule A C R q t at
+  k-refused e o = past-head (first-stops _ _ e o)
+
+  module _ (ks : noFault ≡ kFault rule A C q t (kCountAt C at) (at + 8) 0) where
+    pub count-missing : length C < afterK C at + 2 → fault 11 ≡ flowFault rule A C R q t at
+    count-missing l = past-head (first-none _ _ ks (less _ l refl))
+
+    pub ws-missing : afterK C at + 2 ≤ length C → length C < afterFlow C at → fault 11 ≡ flowFault rule A C R q t at
+    ws-missing l k = past-head (first-none _ _ ks (notLess _ l (less _ k refl)))
+
+    module _ (l : afterK C at + 2 ≤ length C) (k : afterFlow C at ≤ length C) where
+      pub w-refused : {m : ℕ} → fault m ≡ wFault A C R (wCountAt C at) (afterK C at + 2) 0 → (m ≡ 0 → ⊥) → fault m ≡ flowFault rule A C R q t at
+      w-refused e o = past-head (first-none _ _ ks (notLess _ l (notLess _ k (first-stops _ _ e o))))
+
+      pub past-ws : {z : rules.Fault} → noFault ≡ wFault A C R (wCountAt C at) (afterK C at + 2) 0 → z ≡ rule .equationsFault A q t (flowAt C at) → z ≡ flowFault rule A C R q t at
+      past-ws ws e = past-head (first-none _ _ ks (notLess _ l (notLess _ k (first-none _ _ ws e))))
+
+-- a refusal says nothing of the remainders, nor of what follows
+module _ {rule : FileRule} {s C : List ℕ} {n : ℕ} {rows : List ℕ} {q t at : ℕ} {remainders target : List ℤ} {r : Met} where
+  refused-by : (f : Fault) → Placed (faultOf f) at (r .fault) → (f .number ≡ 0 → ⊥) → ((R : Pairs) → HoldsPairs n R rows → faultOf f ≡ flowFault rule (automatonIn s) C R q t at) → FlowJudged rule s C n rows q t at remainders target r
+  refused-by f p some e =
+      record {
+        is = λ R h. p .is ∙ e R h;
+        place = p .at;
+        next = λ z. absurd (placed-some f p some z);
+        inside = λ z. absurd (placed-some f p some z);
+        zeros = λ z. absurd (placed-some f p some z);
+      }
+
+  pub not-opened : (f : Fault) → Placed (faultOf f) at (r .fault) → (f .number ≡ 0 → ⊥) → faultOf f ≡ flowOpens C at → FlowJudged rule s C n rows q t at remainders target r
+  unfolding flowFault
+  not-opened f p some e = refused-by f p some (λ R h. first-stops _ _ e some)
+
+  pub refused-with : (f : Fault) {m : ℕ} → Placed (faultOf f) at (r .fault) → faultOf f ≡ fault m → 0 < m → ((R : Pairs) → HoldsPairs n R rows → fault m ≡ flowFault rule (automatonIn s) C R q t at) → FlowJudged rule s C n rows q t at remainders target r
+  refused-with f p is some e = refused-by f p (λ z. omega (arith, ap (λ (g : rules.Fault). g .number) is)) (λ R h. is ∙ e R h)

@@ -1,35 +1,57 @@
 // A flow record judged: its entries, and its equations as one signed number a state, left less right.
 ghost use Prim.Native.Nat.{_+_, _≤_, _<_};
-ghost use mathlib.Core.Path.{_≡_};
 ghost use lib.ListN.{length};
-ghost use Rattle.rules.specs.definitions.Certificate.{afterK, afterFlow};
-ghost use Rattle.fault.specs.Faults.{faultOf};
+ghost use Rattle.rules.specs.definitions.PlainRule.{plainRule};
+ghost use Rattle.fault.specs.Faults.{faultOf, Placed};
 ghost use Rattle.transition.specs.Known.{Known};
 ghost use Rattle.remainders.specs.Remainders.{AllZero};
-ghost use Rattle.flow.specs.FlowJudged.{CanJudge, verdictOf, FlowJudged};
+ghost use Rattle.flow.specs.FlowJudged.{HeadAt, CanJudge, FlowJudged};
 use fault::Fault;
 use field::Cursor;
 use model::Places;
 use pairs::Rows;
-use remainders::Cells;
+use remainders::Remainders;
 
 const MARK: usize = 0x464C;
 
-// 20 and 21, by how many cells of each table are not zero.
-fn verdict(nonzero: usize, target: usize) -> Fault
-    ensures { λ r. ⌜ faultOf r ≡ verdictOf nonzero target ⌝ }
-{
-    if nonzero != 0 {
-        return fault::refusal(20);
-    }
-    if target != 0 {
-        return fault::refusal(21);
-    }
-    fault::none()
+// What a flow record comes to: its fault, and where there is none the cursor past it.
+pub struct Met {
+    pub fault: Fault,
+    pub next: Cursor,
 }
 
-// Refusals 11 and 19 to 21 of the flow at a place, from its k entries on, which are whole.
-fn entries_fault(
+// D and the k count of a flow, and where its entries begin.
+struct Head {
+    d: usize,
+    entries: usize,
+    first: Cursor,
+}
+
+fn head_at(cert: &[u8], at: usize) -> Head
+    requires { ⌜ at + 8 ≤ length (now cert) ⌝ }
+    ensures { λ r. ⌜ HeadAt (now (cert .entry)) at r ⌝ }
+{
+    let d = Cursor::new(at + 2).quad(cert);
+    let entries = d.next.pair(cert);
+    let first = entries.next;
+    Head {
+        d: d.value,
+        entries: entries.value,
+        first,
+    }
+}
+
+fn refused(fault: Fault, place: Cursor) -> Met
+    ensures { λ r. ⌜ Placed (faultOf fault) (place .at) (r .fault) ⌝ }
+{
+    Met {
+        fault: fault.at(place.at),
+        next: place,
+    }
+}
+
+// The flow at a place, from its k entries on, which are whole.
+fn judge_entries(
     s: &[u8],
     n: usize,
     count: usize,
@@ -38,56 +60,63 @@ fn entries_fault(
     q: usize,
     t: usize,
     cert: &[u8],
-    at: usize,
-    entries: usize,
-    d: usize,
-    cells: &mut Cells,
-    target: &mut Cells,
-) -> Fault
-    requires { ⌜ CanJudge (now s) (now cert) n count (now places) q t at entries d (now cells) (now target) ⌝ }
-    ensures { λ r. ⌜ FlowJudged (now (s .entry)) (now (cert .entry)) n (now (rows .entry)) q t at (now (cells .exit)) (now (target .exit)) r ⌝ }
+    place: Cursor,
+    head: Head,
+    remainders: &mut Remainders,
+    target: &mut Remainders,
+) -> Met
+    requires { ⌜ CanJudge (now s) (now cert) n count (now places) q t (place .at) head (now remainders) (now target) ⌝ }
+    ensures { λ r. ⌜ FlowJudged plainRule (now (s .entry)) (now (cert .entry)) n (now (rows .entry)) q t (place .at) (now (remainders .exit)) (now (target .exit)) r ⌝ }
 {
-    let start = at + 8;
     let challenger = transition::fields_of(s, places, q);
-    let action = challenger.action;
-    let denominator = challenger.denominator;
-    let given = remainders::give(cells, t, 1, d, 0);
-    let k = entries_k::take_ks(s, count, places, action, cert, start, entries, cells, given);
-    if k.number != 0 {
-        return fault::refusal(k.number);
+    let given = remainders::give(remainders, t, 1, head.d, 0);
+    let k = entries_k::take_ks(
+        s,
+        count,
+        places,
+        challenger.action,
+        cert,
+        head.first,
+        head.entries,
+        remainders,
+        given,
+    );
+    if !k.good {
+        return refused(fault::refusal(19), place);
     }
-    let middle = start + 7 * entries;
-    if cert.len() - middle < 2 {
-        return fault::refusal(11);
+    if cert.len() - k.next.at < 2 {
+        return refused(fault::refusal(11), place);
     }
-    let ws = Cursor::new(middle).pair(cert);
-    let w_start = ws.next.at;
-    let w_count = ws.value;
-    if cert.len() - w_start < 6 * w_count {
-        return fault::refusal(11);
+    let entries = k.next.pair(cert);
+    if cert.len() - entries.next.at < 6 * entries.value {
+        return refused(fault::refusal(11), place);
     }
-    let asked = remainders::arrive(s, places, q, remainders::minus(d), 0, target, 0);
+    let asked = remainders::arrive(s, places, q, signed::minus(head.d), 0, target, 0);
     let w = entries_w::take_ws(
         cert,
-        w_start,
-        w_count,
+        entries.next,
+        entries.value,
         n,
         rows,
-        denominator,
-        entries_k::arrival(action),
-        cells,
+        challenger.denominator,
+        entries_k::arrival(challenger.action),
+        remainders,
         k.nonzero,
         target,
         asked,
     );
-    if w.number != 0 {
-        return fault::refusal(w.number);
+    if !w.good {
+        return refused(fault::refusal(19), place);
     }
-    verdict(w.nonzero, w.target)
+    let next = w.next;
+    Met {
+        fault: equations::verdict(w.nonzero, w.target).at(place.at),
+        next,
+    }
 }
 
-// Refusals 11, 12 and 19 to 21 of the flow at a place, for the challenger q against t.
-pub fn flow_fault(
+// The flow record at a place, for the challenger q against t. The remainders are zero before it, and after it where it has no fault.
+pub fn judge_flow(
     s: &[u8],
     n: usize,
     count: usize,
@@ -96,34 +125,25 @@ pub fn flow_fault(
     q: usize,
     t: usize,
     cert: &[u8],
-    at: usize,
-    cells: &mut Cells,
-    target: &mut Cells,
-) -> Fault
-    requires { ⌜ Known (now s) n count (now places) × (q < count) × (t < n) × (at ≤ length (now cert)) × AllZero (now cells) × AllZero (now target) ⌝ }
-    ensures { λ r. ⌜ FlowJudged (now (s .entry)) (now (cert .entry)) n (now (rows .entry)) q t at (now (cells .exit)) (now (target .exit)) r ⌝ }
+    place: Cursor,
+    remainders: &mut Remainders,
+    target: &mut Remainders,
+) -> Met
+    requires { ⌜ Known (now s) n count (now places) × (q < count) × (t < n) × (place .at ≤ length (now cert)) × AllZero (now remainders) × AllZero (now target) ⌝ }
+    ensures { λ r. ⌜ FlowJudged plainRule (now (s .entry)) (now (cert .entry)) n (now (rows .entry)) q t (place .at) (now (remainders .exit)) (now (target .exit)) r ⌝ }
 {
-    if cert.len() - at < 2 {
-        return fault::refusal(11);
+    let opened = record::open_certificate(cert, place.at, MARK, 8);
+    if opened.number != 0 {
+        return refused(opened, place);
     }
-    let mark = Cursor::new(at).pair(cert);
-    if mark.value != MARK {
-        return fault::refusal(12);
+    let head = head_at(cert, place.at);
+    if head.d == 0 {
+        return refused(fault::refusal(19), place);
     }
-    if cert.len() - at < 8 {
-        return fault::refusal(11);
+    if cert.len() - head.first.at < 7 * head.entries {
+        return refused(fault::refusal(11), place);
     }
-    let size = mark.next.quad(cert);
-    let ks = size.next.pair(cert);
-    let d = size.value;
-    if d == 0 {
-        return fault::refusal(19);
-    }
-    let entries = ks.value;
-    if cert.len() - ks.next.at < 7 * entries {
-        return fault::refusal(11);
-    }
-    entries_fault(
+    judge_entries(
         s,
         n,
         count,
@@ -132,19 +152,9 @@ pub fn flow_fault(
         q,
         t,
         cert,
-        at,
-        entries,
-        d,
-        cells,
+        place,
+        head,
+        remainders,
         target,
     )
-}
-
-// The place after the flow at a place.
-pub fn after_flow(cert: &[u8], at: usize) -> usize
-    requires { ⌜ (at + 8 ≤ length (now cert)) × (afterK (now cert) at + 2 ≤ length (now cert)) × (afterFlow (now cert) at ≤ length (now cert)) ⌝ }
-    ensures { λ r. ⌜ r ≡ afterFlow (now (cert .entry)) at ⌝ }
-{
-    let middle = at + 8 + 7 * Cursor::new(at + 6).pair(cert).value;
-    middle + 2 + 6 * Cursor::new(middle).pair(cert).value
 }

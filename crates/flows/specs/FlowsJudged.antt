@@ -1,12 +1,13 @@
 -- What judging hands up, in document 01's terms, and what it says of the flows.
 use Prim.Native.Nat.{ℕ, _+_, _≤_}
-use mathlib.Core.Path.{_≡_}
-use mathlib.Core.List.{List}
+use mathlib.Core.Path.{_≡_, refl, _∙_, ap}
+use mathlib.Core.List.{List, [], _∷_}
 use lib.ListN.{length, take, drop}
 use Rattle.bisimulation.specs.definitions.Pairs.{Pairs}
 use Rattle.rules.specs.definitions.Limits.{limits}
-use Rattle.rules.specs.definitions.Certificate.{fault}
-use Rattle.rules.specs.definitions.PlainRule.{plainRule}
+use Rattle.rules.specs.definitions.Certificate.{FileRule}
+use Rattle.rules.specs.definitions.Answers.{Answer, refusalIn, answerWithoutPlace, fileOf, judgementAnswer}
+use Rattle.fault.specs.Faults.{faultOf}
 use Rattle.rules.specs.definitions.Judging.{Judgement, accepted, rejected, questions, judgeFlows}
 use Rattle.pairs.specs.Rows.{HoldsPairs}
 use Rattle.transition.specs.Known.{automatonIn}
@@ -16,17 +17,31 @@ use Rattle.flows.specs.declared.Judged.the-variants.{Accepted, Rejected}
 -- document 01's judgement for each case: the n blocks at a place; a refusal in file 2
 abbrev pub judgementOf : List ℕ → ℕ → Judged → Judgement
 judgementOf C n (Accepted at) = accepted (take n (drop at C))
-judgementOf C n (Rejected number place) = rejected (fault number) 2 place
+judgementOf C n (Rejected f) = rejected (faultOf f) 2 (f .place)
+
+-- its number, file and place, for a certificate of so many bytes: 0, 0 and 0 where it is accepted
+abbrev pub judgedAnswer : ℕ → Judged → Answer
+judgedAnswer size (Accepted at) = answerWithoutPlace 0 0
+judgedAnswer size (Rejected f) = refusalIn (faultOf f) 2 (f .place) size
 
 -- the blocks, or the place of the refusal, lie in the file
 abbrev pub InFile : List ℕ → ℕ → Judged → Type 0
 InFile C n (Accepted at) = at + n ≤ length C
-InFile C n (Rejected number place) = place ≤ length C
+InFile C n (Rejected f) = f .place ≤ length C
 
--- the answer is this judgement
+-- the answer is this judgement, of a model file and this certificate file
 pub record Judges (C : List ℕ) (n : ℕ) (judgement : Judgement) (r : Judged) : Type 0 where
   pub answer : judgementOf C n r ≡ judgement
+  pub says : (M : List ℕ) → judgedAnswer (length C) r ≡ judgementAnswer (M ∷ C ∷ []) judgement
   pub inside : InFile C n r
+
+-- what the judgement is, the answer says
+pub judges : {C : List ℕ} {n : ℕ} {judgement : Judgement} (r : Judged) → judgementOf C n r ≡ judgement → InFile C n r → Judges C n judgement r
+judges {C} {n} r e inside = record { answer = e; says = λ M. cases M r ∙ ap (judgementAnswer (M ∷ C ∷ [])) e; inside = inside }
+  where
+    cases : (M : List ℕ) (x : Judged) → judgedAnswer (length C) x ≡ judgementAnswer (M ∷ C ∷ []) (judgementOf C n x)
+    cases M (Accepted at) = unfold judgementAnswer in refl
+    cases M (Rejected f) = unfold judgementAnswer fileOf in refl
 
 -- the rows hold some related pairs of n states
 pub record Relates (n : ℕ) (rows : List ℕ) : Type 0 where
@@ -34,6 +49,6 @@ pub record Relates (n : ℕ) (rows : List ℕ) : Type 0 where
   pub held : HoldsPairs n pairs rows
 
 -- the flows after n blocks, judged for the pairs that the rows hold
-pub record JudgesFlows (s C : List ℕ) (n : ℕ) (rows : List ℕ) (blocks : ℕ) (r : Judged) : Type 0 where
-  pub answer : (R : Pairs) → HoldsPairs n R rows → judgementOf C n r ≡ judgeFlows limits plainRule (automatonIn s) C R (take n (drop blocks C)) (questions (automatonIn s) (take n (drop blocks C))) (blocks + n)
+pub record JudgesFlows (rule : FileRule) (s C : List ℕ) (n : ℕ) (rows : List ℕ) (blocks : ℕ) (r : Judged) : Type 0 where
+  pub answer : (R : Pairs) → HoldsPairs n R rows → judgementOf C n r ≡ judgeFlows limits rule (automatonIn s) C R (take n (drop blocks C)) (questions (automatonIn s) (take n (drop blocks C))) (blocks + n)
   pub inside : InFile C n r

@@ -1,27 +1,26 @@
 -- What is known before each flow record, and where judging stops.
 use Prim.Native.Nat.{ℕ, _+_, _-_, _≤_, _<_}
 use mathlib.Core.Path.{_≡_, refl, sym, _∙_, ap, subst}
-use mathlib.Core.List.{List, [], _∷_, _++_, append-assoc}
+use mathlib.Core.List.{List, [], _∷_, _++_}
 use lib.ListN.{length, take, drop}
 use lib.IntN.{ℤ}
 use native.Mathlib.Omega.{arith}
-use Rattle.bisimulation.specs.definitions.Choice.{ifLess, ifSame}
 use Rattle.bisimulation.specs.argument.ChoiceLaws.{same, notSame, less, notLess}
 use Rattle.bisimulation.specs.definitions.Pairs.{Pairs}
 use Rattle.rules.specs.definitions.Limits.{limits}
-use Rattle.rules.specs.definitions.Certificate as rules
-use Rattle.rules.specs.definitions.Certificate.{fault, afterK, afterFlow}
-use Rattle.rules.specs.definitions.PlainRule.{plainRule}
-use Rattle.rules.specs.definitions.Judging.{Judgement, accepted, rejected, rejectAt, Question, questions, questionsOfState, questionsFrom, judgeFlows}
+use Rattle.rules.specs.definitions.Certificate.{FileRule}
+use Rattle.rules.specs.definitions.Faults as rules
+use Rattle.rules.specs.definitions.Faults.{fault}
+use Rattle.rules.specs.definitions.Judging.{Judgement, rejected, rejectAt, Question, questions, questionsOfState, questionsFrom, judgeFlows}
 use Rattle.fault.specs.declared.Fault.{Fault}
-use Rattle.fault.specs.Faults.{faultOf}
+use Rattle.fault.specs.Faults.{faultOf, Placed}
 use Rattle.pairs.specs.Rows.{HoldsPairs}
 use Rattle.transition.specs.Known.{automatonIn}
 use Rattle.remainders.specs.Remainders.{AllZero}
 use Rattle.flow.specs.FlowJudged.{FlowJudged}
-use Rattle.flow.specs.FlowLaws.{flow-passed}
-use Rattle.flows.specs.FlowsJudged.{Relates, JudgesFlows, judgementOf}
-use Rattle.flows.specs.Runs.{runQuestions}
+use Rattle.flow.specs.declared.Met.{Met}
+use Rattle.flows.specs.FlowsJudged.{JudgesFlows}
+use Rattle.runs.specs.Runs.{runQuestions}
 use Rattle.flows.specs.declared.Judged.the-variants.{Accepted, Rejected}
 
 -- a record's fault rejects at its place; without one judging goes on
@@ -35,12 +34,12 @@ unfolding rejectAt
 reject-passes {x} {f} at e n h = same _ (ap (λ (g : rules.Fault). g .number) (sym e) ∙ n) h
 
 -- the blocks are those at a place of the certificate C
-module _ (s C : List ℕ) (n : ℕ) (rows : List ℕ) (blocks : ℕ) where
+module _ (rule : FileRule) (s C : List ℕ) (n : ℕ) (rows : List ℕ) (blocks : ℕ) where
   abbrev pub blocksIn : List ℕ
   blocksIn = take n (drop blocks C)
 
   abbrev pub judgedFrom : Pairs → List Question → ℕ → Judgement
-  judgedFrom R asked at = judgeFlows limits plainRule (automatonIn s) C R blocksIn asked at
+  judgedFrom R asked at = judgeFlows limits rule (automatonIn s) C R blocksIn asked at
 
   -- the questions of the states left, of one of them against the states from t on, and of its run from r on
   abbrev pub leftStates : ℕ → List Question
@@ -53,24 +52,19 @@ module _ (s C : List ℕ) (n : ℕ) (rows : List ℕ) (blocks : ℕ) where
   leftRun state t r end = runQuestions t (end - r) r ++ leftDefenders state (t + 1)
 
   -- before the flow of the first of the questions left, at a place
-  pub record Going (asked : List Question) (cells target : List ℤ) (at number : ℕ) : Type 0 where
+  pub record Going (asked : List Question) (remainders target : List ℤ) (at number : ℕ) : Type 0 where
     pub judged : (R : Pairs) → HoldsPairs n R rows → judgedFrom R asked at ≡ judgedFrom R (questions (automatonIn s) blocksIn) (blocks + n)
     pub inside : at ≤ length C
     pub none : number ≡ 0
-    pub moves : AllZero cells
+    pub moves : AllZero remainders
     pub targets : AllZero target
 
-  -- the flow at a place is refused
-  pub record Stopped (at number : ℕ) : Type 0 where
-    pub judged : (R : Pairs) → HoldsPairs n R rows → rejected (fault number) 2 at ≡ judgedFrom R (questions (automatonIn s) blocksIn) (blocks + n)
-    pub inside : at ≤ length C
-
-  module _ {cells target : List ℤ} where
+  module _ {remainders target : List ℤ} where
     -- the same questions
-    pub going-list : {xs ys : List Question} {at number : ℕ} → xs ≡ ys → Going xs cells target at number → Going ys cells target at number
-    going-list {xs} {ys} {at} {number} e g = subst (λ (l : List Question). Going l cells target at number) e g
+    pub going-list : {xs ys : List Question} {at number : ℕ} → xs ≡ ys → Going xs remainders target at number → Going ys remainders target at number
+    going-list {xs} {ys} {at} {number} e g = subst (λ (l : List Question). Going l remainders target at number) e g
 
-    pub going-start : {xs : List Question} {at number : ℕ} → questions (automatonIn s) blocksIn ≡ xs → at ≡ blocks + n → number ≡ 0 → blocks + n ≤ length C → AllZero cells → AllZero target → Going xs cells target at number
+    pub going-start : {xs : List Question} {at number : ℕ} → questions (automatonIn s) blocksIn ≡ xs → at ≡ blocks + n → number ≡ 0 → blocks + n ≤ length C → AllZero remainders → AllZero target → Going xs remainders target at number
     going-start {xs} {at} e place zero whole a b =
         record {
           judged = λ R h. ap (judgedFrom R xs) place ∙ ap (λ (l : List Question). judgedFrom R l (blocks + n)) (sym e);
@@ -80,50 +74,44 @@ module _ (s C : List ℕ) (n : ℕ) (rows : List ℕ) (blocks : ℕ) where
           targets = b;
         }
 
-    module _ {q t at number : ℕ} {xs : List Question} (g : Going (record { challenger = q; defender = t } ∷ xs) cells target at number) {cells′ target′ : List ℤ} {f : Fault} (j : FlowJudged s C n rows q t at cells′ target′ f) where
+    module _ {q t at number : ℕ} {xs : List Question} (g : Going (record { challenger = q; defender = t } ∷ xs) remainders target at number) {remainders′ target′ : List ℤ} {r : Met} (j : FlowJudged rule s C n rows q t at remainders′ target′ r) where
       -- a flow that is refused
-      pub going-stops : (f .number ≡ 0 → ⊥) → Stopped at (f .number)
+      pub going-stops : (r .fault .number ≡ 0 → ⊥) → JudgesFlows rule s C n rows blocks (Rejected (r .fault))
       unfolding judgeFlows
       going-stops bad =
           record {
-            judged = λ R h. reject-stops (faultOf f) at _ (j .number R h) bad ∙ g .judged R h;
-            inside = g .inside;
+            answer = λ R h. ap (rejected (faultOf (r .fault)) 2) (j .place) ∙ reject-stops (faultOf (r .fault)) at _ (j .is R h) bad ∙ g .judged R h;
+            inside = omega (arith, j .place, g .inside);
           }
 
       -- one that is not
-      pub flow-passes : Relates n rows → f .number ≡ 0 → (at + 8 ≤ length C) × (afterK C at + 2 ≤ length C) × (afterFlow C at ≤ length C)
-      flow-passes held good =
-          flow-passed (automatonIn s) C (held .pairs) q t at (ap fault (sym good) ∙ j .number (held .pairs) (held .held))
-
-      pub going-passes : Relates n rows → f .number ≡ 0 → {next : ℕ} → next ≡ afterFlow C at → Going xs cells′ target′ next (f .number)
+      pub going-passes : r .fault .number ≡ 0 → Going xs remainders′ target′ (r .next .at) (r .fault .number)
       unfolding judgeFlows
-      going-passes held good {next} e =
+      going-passes good =
           record {
-            judged = λ R h. reject-passes at (j .number R h) good (ap (judgedFrom R xs) e) ∙ g .judged R h;
-            inside = omega (arith, e, flow-passes held good .2);
+            judged = λ R h. reject-passes at (j .is R h) good (ap (judgedFrom R xs) (j .next good)) ∙ g .judged R h;
+            inside = omega (arith, j .next good, j .inside good);
             none = good;
             moves = j .zeros good .0;
             targets = j .zeros good .1;
           }
 
     -- after the last flow: 22, or acceptance
-    pub going-left : {at number refusal : ℕ} → Going [] cells target at number → at < length C → refusal ≡ 22 → JudgesFlows s C n rows blocks (Rejected refusal at)
+    pub going-left : {at number : ℕ} (f x : Fault) → Going [] remainders target at number → at < length C → faultOf f ≡ fault 22 → Placed (faultOf f) at x → JudgesFlows rule s C n rows blocks (Rejected x)
     unfolding judgeFlows
-    going-left {at} g l e =
+    going-left {at} f x g l e p =
         record {
-          answer = λ R h. ap (λ (x : ℕ). rejected (fault x) 2 at) e ∙ less _ l refl ∙ g .judged R h;
-          inside = g .inside;
+          answer = λ R h. ap (rejected (faultOf x) 2) (p .at) ∙ ap (λ (y : rules.Fault). rejected y 2 at) (p .is ∙ e) ∙ less _ l refl ∙ g .judged R h;
+          inside = omega (arith, p .at, g .inside);
         }
 
-    pub going-ends : {at number : ℕ} → Going [] cells target at number → blocks + n ≤ length C → length C ≤ at → JudgesFlows s C n rows blocks (Accepted blocks)
+    pub going-ends : {at number : ℕ} → Going [] remainders target at number → blocks + n ≤ length C → length C ≤ at → JudgesFlows rule s C n rows blocks (Accepted blocks)
     unfolding judgeFlows
     going-ends {at} g whole l = record { answer = λ R h. notLess _ l refl ∙ g .judged R h; inside = whole }
 
-  pub stopped : {at number place refusal : ℕ} → Stopped at number → place ≡ at → refusal ≡ number → JudgesFlows s C n rows blocks (Rejected refusal place)
-  stopped {at} {number} {place} {refusal} g p q =
-      subst (λ (x : ℕ). JudgesFlows s C n rows blocks (Rejected refusal x)) (sym p)
-      (subst (λ (x : ℕ). JudgesFlows s C n rows blocks (Rejected x at)) (sym q) (record { answer = g .judged; inside = g .inside }))
+  -- the same fault, and the same place
+  pub rejected-as : {f g : Fault} → f ≡ g → JudgesFlows rule s C n rows blocks (Rejected g) → JudgesFlows rule s C n rows blocks (Rejected f)
+  rejected-as e j = subst (λ (x : Fault). JudgesFlows rule s C n rows blocks (Rejected x)) (sym e) j
 
-  -- the place as another variable has it
-  pub going-at : {asked : List Question} {cells target : List ℤ} {at number place : ℕ} → place ≡ at → Going asked cells target at number → Going asked cells target place number
-  going-at {asked} {cells} {target} {at} {number} e g = subst (λ (x : ℕ). Going asked cells target x number) (sym e) g
+  pub going-at : {asked : List Question} {remainders target : List ℤ} {at number place : ℕ} → place ≡ at → Going asked remainders target at number → Going asked remainders target place number
+  going-at {asked} {remainders} {target} {at} {number} e g = subst (λ (x : ℕ). Going asked remainders target x number) (sym e) g

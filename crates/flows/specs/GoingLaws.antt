@@ -5,12 +5,13 @@ use mathlib.Core.List.{List, [], _∷_, _++_, append-assoc}
 use lib.ListN.{length}
 use lib.IntN.{ℤ}
 use native.Mathlib.Omega.{arith}
+use Rattle.rules.specs.definitions.Certificate.{FileRule}
 use Rattle.rules.specs.definitions.Judging.{Question, questions, questionsOfState, questionsFrom}
 use Rattle.remainders.specs.Remainders.{AllZero}
 use Rattle.transition.specs.Known.{automatonIn, Known}
 use Rattle.transition.specs.KnownLaws.{known-states, known-transitions}
-use Rattle.flows.specs.Runs.{IsPast, runEnd, runQuestions, Splits}
-use Rattle.flows.specs.RunsLaws.{state-turn, from-turn, splits-next}
+use Rattle.runs.specs.Runs.{IsPast, runEnd, runQuestions, Splits}
+use Rattle.runs.specs.RunsLaws.{state-turn, from-turn, splits-next}
 use Rattle.flows.specs.Going.{blocksIn, leftStates, leftDefenders, leftRun, Going, going-list, going-start}
 
 from-none : (s blocks : List ℕ) (left state : ℕ) → left ≤ 0 → questionsFrom (automatonIn s) blocks left state ≡ []
@@ -35,64 +36,64 @@ unfolding runQuestions
 run-none t zero r h = refl
 run-none t (suc left) r h = absurd (omega arith)
 
-module _ (s C : List ℕ) (n : ℕ) (rows : List ℕ) (blocks : ℕ) where
-  all-left : automatonIn s .states ≡ n → questions (automatonIn s) (blocksIn s C n rows blocks) ≡ leftStates s C n rows blocks 0
+module _ (rule : FileRule) (s C : List ℕ) (n : ℕ) (rows : List ℕ) (blocks : ℕ) where
+  all-left : automatonIn s .states ≡ n → questions (automatonIn s) (blocksIn rule s C n rows blocks) ≡ leftStates rule s C n rows blocks 0
   unfolding questions
   all-left e =
       let z : automatonIn s .states ≡ n - 0 = omega arith in
-      ap (λ (k : ℕ). questionsFrom (automatonIn s) (blocksIn s C n rows blocks) k 0) z
+      ap (λ (k : ℕ). questionsFrom (automatonIn s) (blocksIn rule s C n rows blocks) k 0) z
 
-  states-turn : (state : ℕ) → automatonIn s .states ≡ n → state < n → leftStates s C n rows blocks state ≡ leftDefenders s C n rows blocks state 0
+  states-turn : (state : ℕ) → automatonIn s .states ≡ n → state < n → leftStates rule s C n rows blocks state ≡ leftDefenders rule s C n rows blocks state 0
   states-turn state e less =
       let z : automatonIn s .states ≡ n - 0 = omega arith in
       let l : n - state - 1 ≡ n - (state + 1) = omega arith in
-      from-turn (automatonIn s) (blocksIn s C n rows blocks) (n - state) state (omega arith)
-      ∙ ap₂ (λ (j k : ℕ). questionsOfState (automatonIn s) (blocksIn s C n rows blocks) state j 0 ++ questionsFrom (automatonIn s) (blocksIn s C n rows blocks) k (state + 1)) z l
+      from-turn (automatonIn s) (blocksIn rule s C n rows blocks) (n - state) state (omega arith)
+      ∙ ap₂ (λ (j k : ℕ). questionsOfState (automatonIn s) (blocksIn rule s C n rows blocks) state j 0 ++ questionsFrom (automatonIn s) (blocksIn rule s C n rows blocks) k (state + 1)) z l
 
-  states-done : (state : ℕ) → n ≤ state → leftStates s C n rows blocks state ≡ []
+  states-done : (state : ℕ) → n ≤ state → leftStates rule s C n rows blocks state ≡ []
   states-done state h = from-none s _ (n - state) state (omega arith)
 
-  defenders-turn : (count state first past t : ℕ) → automatonIn s .transitions ≡ count → Splits (automatonIn s) count state first → IsPast (automatonIn s) count state first past → Splits (automatonIn s) count (state + 1) past → t < n → leftDefenders s C n rows blocks state t ≡ leftRun s C n rows blocks state t first (runEnd (blocksIn s C n rows blocks) state t first past)
+  defenders-turn : (count state first past t : ℕ) → automatonIn s .transitions ≡ count → Splits (automatonIn s) count state first → IsPast (automatonIn s) count state first past → Splits (automatonIn s) count (state + 1) past → t < n → leftDefenders rule s C n rows blocks state t ≡ leftRun rule s C n rows blocks state t first (runEnd (blocksIn rule s C n rows blocks) state t first past)
   defenders-turn count state first past t all h p next less =
       let l : n - t - 1 ≡ n - (t + 1) = omega arith in
-      ap (λ (xs : List Question). xs ++ leftStates s C n rows blocks (state + 1)) (state-turn all h p next (blocksIn s C n rows blocks) (n - t) t (omega arith))
-      ∙ append-assoc (runQuestions t (runEnd (blocksIn s C n rows blocks) state t first past - first) first) _ _
-      ∙ ap (λ (k : ℕ). runQuestions t (runEnd (blocksIn s C n rows blocks) state t first past - first) first ++ (questionsOfState (automatonIn s) (blocksIn s C n rows blocks) state k (t + 1) ++ leftStates s C n rows blocks (state + 1))) l
+      ap (λ (xs : List Question). xs ++ leftStates rule s C n rows blocks (state + 1)) (state-turn all h p next (blocksIn rule s C n rows blocks) (n - t) t (omega arith))
+      ∙ append-assoc (runQuestions t (runEnd (blocksIn rule s C n rows blocks) state t first past - first) first) _ _
+      ∙ ap (λ (k : ℕ). runQuestions t (runEnd (blocksIn rule s C n rows blocks) state t first past - first) first ++ (questionsOfState (automatonIn s) (blocksIn rule s C n rows blocks) state k (t + 1) ++ leftStates rule s C n rows blocks (state + 1))) l
 
-  defenders-done : (state t : ℕ) → n ≤ t → leftDefenders s C n rows blocks state t ≡ leftStates s C n rows blocks (state + 1)
-  defenders-done state t h = ap (λ (xs : List Question). xs ++ leftStates s C n rows blocks (state + 1)) (state-none s _ state (n - t) t (omega arith))
+  defenders-done : (state t : ℕ) → n ≤ t → leftDefenders rule s C n rows blocks state t ≡ leftStates rule s C n rows blocks (state + 1)
+  defenders-done state t h = ap (λ (xs : List Question). xs ++ leftStates rule s C n rows blocks (state + 1)) (state-none s _ state (n - t) t (omega arith))
 
-  run-turn : (state t r end : ℕ) → r < end → leftRun s C n rows blocks state t r end ≡ record { challenger = r; defender = t } ∷ leftRun s C n rows blocks state t (r + 1) end
+  run-turn : (state t r end : ℕ) → r < end → leftRun rule s C n rows blocks state t r end ≡ record { challenger = r; defender = t } ∷ leftRun rule s C n rows blocks state t (r + 1) end
   run-turn state t r end less =
       let l : end - r - 1 ≡ end - (r + 1) = omega arith in
-      ap (λ (xs : List Question). xs ++ leftDefenders s C n rows blocks state (t + 1)) (run-some t (end - r) r (omega arith) ∙ ap (λ (k : ℕ). record { challenger = r; defender = t } ∷ runQuestions t k (r + 1)) l)
+      ap (λ (xs : List Question). xs ++ leftDefenders rule s C n rows blocks state (t + 1)) (run-some t (end - r) r (omega arith) ∙ ap (λ (k : ℕ). record { challenger = r; defender = t } ∷ runQuestions t k (r + 1)) l)
 
-  run-done : (state t r end : ℕ) → end ≤ r → leftRun s C n rows blocks state t r end ≡ leftDefenders s C n rows blocks state (t + 1)
-  run-done state t r end h = ap (λ (xs : List Question). xs ++ leftDefenders s C n rows blocks state (t + 1)) (run-none t (end - r) r (omega arith))
+  run-done : (state t r end : ℕ) → end ≤ r → leftRun rule s C n rows blocks state t r end ≡ leftDefenders rule s C n rows blocks state (t + 1)
+  run-done state t r end h = ap (λ (xs : List Question). xs ++ leftDefenders rule s C n rows blocks state (t + 1)) (run-none t (end - r) r (omega arith))
 
 -- judging goes through the questions in these turns
-module _ {s C : List ℕ} {n : ℕ} {rows : List ℕ} {blocks : ℕ} {cells target : List ℤ} where
-  pub going-all : {count at : ℕ} {table : List ℕ} → Known s n count table → at ≡ blocks + n → blocks + n ≤ length C → AllZero cells → AllZero target → Going s C n rows blocks (leftStates s C n rows blocks 0) cells target at 0
-  going-all k place whole a b = going-start s C n rows blocks (all-left s C n rows blocks (known-states k)) place refl whole a b
+module _ {rule : FileRule} {s C : List ℕ} {n : ℕ} {rows : List ℕ} {blocks : ℕ} {remainders target : List ℤ} where
+  pub going-all : {count at number : ℕ} {table : List ℕ} → Known s n count table → at ≡ blocks + n → number ≡ 0 → blocks + n ≤ length C → AllZero remainders → AllZero target → Going rule s C n rows blocks (leftStates rule s C n rows blocks 0) remainders target at number
+  going-all k place none whole a b = going-start rule s C n rows blocks (all-left rule s C n rows blocks (known-states k)) place none whole a b
 
   module _ {at number : ℕ} where
-    pub going-state : {count : ℕ} {table : List ℕ} (state : ℕ) → Known s n count table → state < n → Going s C n rows blocks (leftStates s C n rows blocks state) cells target at number → Going s C n rows blocks (leftDefenders s C n rows blocks state 0) cells target at number
-    going-state state k less g = going-list s C n rows blocks (states-turn s C n rows blocks state (known-states k) less) g
+    pub going-state : {count : ℕ} {table : List ℕ} (state : ℕ) → Known s n count table → state < n → Going rule s C n rows blocks (leftStates rule s C n rows blocks state) remainders target at number → Going rule s C n rows blocks (leftDefenders rule s C n rows blocks state 0) remainders target at number
+    going-state state k less g = going-list rule s C n rows blocks (states-turn rule s C n rows blocks state (known-states k) less) g
 
-    pub states-end : (state : ℕ) → n ≤ state → Going s C n rows blocks (leftStates s C n rows blocks state) cells target at number → Going s C n rows blocks [] cells target at number
-    states-end state h g = going-list s C n rows blocks (states-done s C n rows blocks state h) g
+    pub states-end : (state : ℕ) → n ≤ state → Going rule s C n rows blocks (leftStates rule s C n rows blocks state) remainders target at number → Going rule s C n rows blocks [] remainders target at number
+    states-end state h g = going-list rule s C n rows blocks (states-done rule s C n rows blocks state h) g
 
-    pub going-defender : {count : ℕ} {table : List ℕ} (state first past t end : ℕ) → Known s n count table → Splits (automatonIn s) count state first → IsPast (automatonIn s) count state first past → end ≡ runEnd (blocksIn s C n rows blocks) state t first past → t < n → Going s C n rows blocks (leftDefenders s C n rows blocks state t) cells target at number → Going s C n rows blocks (leftRun s C n rows blocks state t first end) cells target at number
+    pub going-defender : {count : ℕ} {table : List ℕ} (state first past t end : ℕ) → Known s n count table → Splits (automatonIn s) count state first → IsPast (automatonIn s) count state first past → end ≡ runEnd (blocksIn rule s C n rows blocks) state t first past → t < n → Going rule s C n rows blocks (leftDefenders rule s C n rows blocks state t) remainders target at number → Going rule s C n rows blocks (leftRun rule s C n rows blocks state t first end) remainders target at number
     going-defender {count} state first past t end k h p e less g =
-        going-list s C n rows blocks
-        (defenders-turn s C n rows blocks count state first past t (known-transitions k) h p (splits-next k h p) less ∙ ap (leftRun s C n rows blocks state t first) (sym e))
+        going-list rule s C n rows blocks
+        (defenders-turn rule s C n rows blocks count state first past t (known-transitions k) h p (splits-next k h p) less ∙ ap (leftRun rule s C n rows blocks state t first) (sym e))
         g
 
-    pub defenders-end : (state t : ℕ) → n ≤ t → Going s C n rows blocks (leftDefenders s C n rows blocks state t) cells target at number → Going s C n rows blocks (leftStates s C n rows blocks (state + 1)) cells target at number
-    defenders-end state t h g = going-list s C n rows blocks (defenders-done s C n rows blocks state t h) g
+    pub defenders-end : (state t : ℕ) → n ≤ t → Going rule s C n rows blocks (leftDefenders rule s C n rows blocks state t) remainders target at number → Going rule s C n rows blocks (leftStates rule s C n rows blocks (state + 1)) remainders target at number
+    defenders-end state t h g = going-list rule s C n rows blocks (defenders-done rule s C n rows blocks state t h) g
 
-    pub going-transition : (state t r end : ℕ) → r < end → Going s C n rows blocks (leftRun s C n rows blocks state t r end) cells target at number → Going s C n rows blocks (record { challenger = r; defender = t } ∷ leftRun s C n rows blocks state t (r + 1) end) cells target at number
-    going-transition state t r end less g = going-list s C n rows blocks (run-turn s C n rows blocks state t r end less) g
+    pub going-transition : (state t r end : ℕ) → r < end → Going rule s C n rows blocks (leftRun rule s C n rows blocks state t r end) remainders target at number → Going rule s C n rows blocks (record { challenger = r; defender = t } ∷ leftRun rule s C n rows blocks state t (r + 1) end) remainders target at number
+    going-transition state t r end less g = going-list rule s C n rows blocks (run-turn rule s C n rows blocks state t r end less) g
 
-    pub run-ends : (state t r end : ℕ) → end ≤ r → Going s C n rows blocks (leftRun s C n rows blocks state t r end) cells target at number → Going s C n rows blocks (leftDefenders s C n rows blocks state (t + 1)) cells target at number
-    run-ends state t r end h g = going-list s C n rows blocks (run-done s C n rows blocks state t r end h) g
+    pub run-ends : (state t r end : ℕ) → end ≤ r → Going rule s C n rows blocks (leftRun rule s C n rows blocks state t r end) remainders target at number → Going rule s C n rows blocks (leftDefenders rule s C n rows blocks state (t + 1)) remainders target at number
+    run-ends state t r end h g = going-list rule s C n rows blocks (run-done rule s C n rows blocks state t r end h) g

@@ -9,13 +9,16 @@ use borrow.Table.Elements.{take-le}
 use Rattle.bisimulation.specs.definitions.Choice.{ifLess}
 use Rattle.bisimulation.specs.argument.ChoiceLaws.{less, notLess}
 use Rattle.rules.specs.definitions.Limits.{limits}
-use Rattle.rules.specs.definitions.Bytes.{byteAt, twoBytes}
+use Rattle.rules.specs.definitions.Bytes.{twoBytes}
 use Rattle.rules.specs.definitions.Model.{Transition, Model, headBytes, labelsBytes, transitionsBytes, modelBytes}
 use Rattle.rules.specs.definitions.Reading.{statesOf, actionsOf, modelAt}
 use Rattle.rules.specs.definitions.SoundModel.{SoundModel}
 use Rattle.rules.specs.definitions.Quotient.{blockCount, blockLabels, byBlock, quotient, mergedFile}
 use Rattle.rules.specs.argument.QuotientLaws.{NumberedBlocks, quotient-sound, merged-states, merged-below}
 use Rattle.rules.specs.definitions.Answers.{Outcome, unwritten, filled, mergedOutcome}
+use Rattle.limits.specs.Sizes as sizes
+use Rattle.model_records.specs.declared.Head.{Head}
+use Rattle.model_records.specs.Fields.{HeadAt}
 use Rattle.transition.specs.Known.{Known}
 use Rattle.merged_transition.specs.MergedTransition.{BlocksBelow}
 use Rattle.writer.specs.Appends.{Appends, CanWriteModel, WritesModel}
@@ -30,7 +33,7 @@ held-inside {out = out} {kept} h = omega (arith, take-le (kept .size) out, ap le
 
 -- the blocks of a sound model
 module _ (s blocks : List ℕ) (sound : SoundModel limits (modelAt s)) (named : NumberedBlocks (modelAt s) blocks) where
-  pub few-blocks : blockCount blocks ≤ 64
+  pub few-blocks : blockCount blocks ≤ limits .states
   few-blocks = omega (arith, merged-states limits (modelAt s) sound blocks named, quotient-sound limits (modelAt s) sound blocks named .states)
 
   -- the file's length
@@ -44,9 +47,26 @@ unfolding modelAt
 states-are s n h e = let f : 8 + n - 8 ≡ statesOf s = omega (arith, e) in ap (λ (k : ℕ). take k (drop 8 s)) f
 
 module _ {s : List ℕ} {n : ℕ} {blocks : List ℕ} {k : ℕ} {records : List ℕ} {kept : Kept} {out : List ℕ} (p : CanWriteParts s n blocks k records kept out) where
-  pub labels-fit : (length (take (8 + n - 8) (drop 8 s)) ≡ length blocks) × (0 + k ≤ 64)
+  -- the numbers of a sound model and of its blocks fit their fields and tables
+  pub parts-few : (n ≤ limits .states) × (k ≤ limits .states) × (kept .count ≤ limits .transitions)
+  unfolding quotient
+  parts-few =
+      let q = quotient-sound limits (modelAt s) (p .sound) blocks (p .numbered) in
+      let counted = ap (λ (x : ℕ). length (byBlock blocks (transitionsIn s) x 0)) (p .count) in
+      let states = ap length (states-are s n (p .labels) (p .states)) in (
+        omega (arith, states, length-take-le (8 + n - 8) (drop 8 s) (omega (arith, p .labels, lib.ListN.length-drop 8 s)), p .sound .states),
+        omega (arith, p .count, few-blocks s blocks (p .sound) (p .numbered)),
+        omega (arith, p .held .count, counted, q .count),
+      )
+
+  -- so does the count of actions
+  pub actions-few : {head : Head} → HeadAt s head → (head .states < 256) × (head .actions < 256)
+  unfolding modelAt
+  actions-few h = (h .small, omega (arith, h .actions, p .sound .actions))
+
+  pub labels-fit : (length (take (8 + n - 8) (drop 8 s)) ≡ length blocks) × (0 + k ≤ limits .states)
   labels-fit =
-      (ap length (states-are s n (p .labels) (p .states)) ∙ sym (p .numbered .whole), omega (arith, p .count, few-blocks s blocks (p .sound) (p .numbered)))
+      (ap length (states-are s n (p .labels) (p .states)) ∙ sym (p .numbered .whole), omega (arith, parts-few .1))
 
   module _ {start labels : List ℕ} {next : ℕ} (w : Appends (blockLabels blocks (take (8 + n - 8) (drop 8 s)) k 0) 0 start labels next) where
     labels-told : blockLabels blocks (take (8 + n - 8) (drop 8 s)) k 0 ≡ quotient (modelAt s) blocks .labels
@@ -62,26 +82,23 @@ module _ {s : List ℕ} {n : ℕ} {blocks : List ℕ} {k : ℕ} {records : List 
     first-labels : take k labels ≡ quotient (modelAt s) blocks .labels
     first-labels = ap (λ (x : ℕ). take x labels) (sym next-is) ∙ appended-front w ∙ labels-told
 
-    pub can-write : {m : ℕ} → m < 256 → CanWriteModel m (take k labels) (kept .count) (take (kept .size) records) out
-    unfolding quotient
-    can-write small =
-        let q = quotient-sound limits (modelAt s) (p .sound) blocks (p .numbered) in
-        let counted = ap (λ (x : ℕ). length (byBlock blocks (transitionsIn s) x 0)) (p .count) in
+    pub can-write : {m count : ℕ} → m < 256 → count < 65536 → CanWriteModel m (take k labels) count (take (kept .size) records) out
+    can-write small few =
         record {
-          states = omega (arith, length-take-le k labels labels-inside, p .count, few-blocks s blocks (p .sound) (p .numbered));
+          states = omega (arith, length-take-le k labels labels-inside, parts-few .1);
           actions = small;
-          transitions = omega (arith, p .held .count, counted, q .count);
+          transitions = few;
           room = omega (arith, length-take-le k labels labels-inside, length-take-le (kept .size) records (p .inside), p .room);
         }
 
-    pub parts-written : {m end : ℕ} {after : List ℕ} → m ≡ getD s 3 0 → WritesModel m (take k labels) (kept .count) (take (kept .size) records) out after end → PartsWritten s blocks out after
-    unfolding modelAt actionsOf byteAt quotient mergedFile
+    pub parts-written : {m end : ℕ} {after : List ℕ} → m ≡ actionsOf s → WritesModel m (take k labels) (kept .count) (take (kept .size) records) out after end → PartsWritten s blocks out after
+    unfolding modelAt quotient mergedFile
     parts-written {m} {end} {after} e g =
         let ts = byBlock blocks (transitionsIn s) k 0 in
         let a = g .file ts (p .held .bytes) (p .held .count) in
         let is-file : modelBytes (record { actions = m; labels = take k labels; transitions = ts }) ≡ mergedFile (modelAt s) blocks =
         ap₂ (λ (x : ℕ) (l : List ℕ). modelBytes (record { actions = x; labels = l; transitions = ts })) e first-labels
-        ∙ ap (λ (x : ℕ). modelBytes (record { actions = getD s 3 0; labels = quotient (modelAt s) blocks .labels; transitions = byBlock blocks (transitionsIn s) x 0 })) (p .count) in
+        ∙ ap (λ (x : ℕ). modelBytes (record { actions = actionsOf s; labels = quotient (modelAt s) blocks .labels; transitions = byBlock blocks (transitionsIn s) x 0 })) (p .count) in
         let ends : end ≡ length (mergedFile (modelAt s) blocks) = omega (arith, a .place, ap length is-file) in
         record { buffer = a .written ∙ ap₂ (λ (l : List ℕ) (x : ℕ). l ++ drop x out) is-file ends }
 
@@ -100,7 +117,7 @@ module _ {s : List ℕ} {n count : ℕ} {places blocks : List ℕ} {k : ℕ} (p 
       }
 
   module _ {start records : List ℕ} {kept : Kept} (w : WroteAll s blocks k start records kept) where
-    pub small : 4864 ≡ length start → (k ≤ 64) × (kept .size ≤ 4864)
+    pub small : sizes.records ≡ length start → (k ≤ limits .states) × (kept .size ≤ sizes.records)
     small e = (omega (arith, blocks-known .few), omega (arith, held-inside (w .held), w .size, e))
 
     pub can-write-parts : {out : List ℕ} → 8 + k + kept .size ≤ length out → CanWriteParts s n blocks k records kept out

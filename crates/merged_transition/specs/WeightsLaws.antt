@@ -2,7 +2,7 @@
 use Prim.Native.Nat.{ℕ, zero, suc, _+_, _*_, _-_, _≤_, _<_}
 use mathlib.Core.Path.{_≡_, refl, sym, _∙_, ap, ap₂, subst}
 use mathlib.Core.List.{List, [], _∷_, _++_, append-assoc, append-nil}
-use lib.ListN.{length, getD, set, length-set, length-append, replicate, length-replicate, getD-replicate, take-append-drop}
+use lib.ListN.{length, getD, set, length-set, length-append, replicate, length-replicate, getD-replicate}
 use lib.Seq.{getD-set-same, getD-set-other}
 use native.Mathlib.Decide.{ℕ-discrete}
 use native.Mathlib.Omega.{arith}
@@ -19,15 +19,16 @@ use Rattle.model_records.specs.declared.Fields.{Fields}
 use Rattle.transition.specs.declared.Entry as read
 use Rattle.transition.specs.Known.{FieldsOf, entriesOf}
 use Rattle.transition.specs.KnownLaws.{entries-known}
-use Rattle.transition.specs.Terms.{EntryTaken}
+use Rattle.transition.specs.Entries.{EntryTaken}
 use Rattle.writer.specs.Appends.{Appends}
-use Rattle.writer.specs.AppendsLaws.{append-more}
+use Rattle.writer.specs.AppendsLaws.{append-none, append-more}
 use Rattle.merged_transition.specs.MergedTransition.{NoWeights}
 use Rattle.merged_transition.specs.Weights.{weightIn, entryOf, weightEntries, CanAdd, WeightsOf, CanCount, CanWriteEntry, WroteEntry, CanWriteEntries, WroteEntries}
 
 -- no weights
-pub no-weights : NoWeights (replicate 64 0)
-no-weights = record { size = length-replicate {A = ℕ} 64 0; none = λ b h. getD-replicate {A = ℕ} 64 b 0 0 h }
+pub no-weights : NoWeights (replicate (limits .states) 0)
+no-weights =
+    record { size = length-replicate {A = ℕ} (limits .states) 0; none = λ b h. getD-replicate {A = ℕ} (limits .states) b 0 0 h }
 
 -- a weight to a block is at most the whole, and none leads past the blocks of the states
 pub weight-light : (blocks : List ℕ) (es : List Entry) (b : ℕ) → weightToBlock blocks es b ≤ sumOver (λ (e : Entry). e .weight) es
@@ -214,7 +215,7 @@ pub record Counting (weights : List ℕ) (k b count : ℕ) : Type 0 where
 pub counting-start : {weights : List ℕ} {k : ℕ} → CanCount weights k → Counting weights k k 0
 counting-start h = record { table = h; among = omega arith; makesUp = omega arith }
 
-pub counting-fits : {weights : List ℕ} {k b count : ℕ} → Counting weights k b count → count < 256
+pub counting-fits : {weights : List ℕ} {k b count : ℕ} → Counting weights k b count → count ≤ limits .states
 counting-fits {weights} {k} h = omega (arith, h .makesUp, entries-few (weightIn weights) k, h .table .few)
 
 one-counted : (weight b count now : ℕ) → now ≡ ifSame weight 0 count (count + 1) → now ≡ count + length (entryOf weight b)
@@ -257,9 +258,6 @@ unfolding entriesBytes twoBytes
 entries-bytes [] ys = refl
 entries-bytes (e ∷ xs) ys = ap (λ (l : List ℕ). e .state ∷ (twoBytes (e .weight) ++ l)) (entries-bytes xs ys)
 
-append-none : {at : ℕ} {out : List ℕ} → at ≤ length out → Appends [] at out out at
-append-none {at} {out} h = record { place = omega arith; room = h; size = refl; written = sym (take-append-drop at out) }
-
 -- the entry of one block
 module _ {weights : List ℕ} {b : ℕ} {out : List ℕ} {at : ℕ} (h : CanWriteEntry weights b out at) where
   pub entry-room : (weightIn weights b ≡ 0 → ⊥) → at + 3 ≤ length out
@@ -269,7 +267,7 @@ module _ {weights : List ℕ} {b : ℕ} {out : List ℕ} {at : ℕ} (h : CanWrit
   unfolding entriesBytes
   wrote-none e =
       record {
-        appended = subst (λ (es : List Entry). Appends (entriesBytes es) at out out at) (entry-none b e) (append-none (omega (arith, h .room)));
+        appended = subst (λ (es : List Entry). Appends (entriesBytes es) at out out at) (entry-none b e) (append-none out at (omega (arith, h .room)));
         size = h .size;
         gone = e;
         kept = λ i n. refl;
@@ -298,7 +296,7 @@ module _ {before : List ℕ} {k : ℕ} {out : List ℕ} {at : ℕ} where
       record {
         asked = h;
         among = omega arith;
-        done = record { appended = append-none (omega (arith, h .room)); size = h .table .size; gone = λ i less. absurd (omega arith); kept = λ i le. refl };
+        done = record { appended = append-none out at (omega (arith, h .room)); size = h .table .size; gone = λ i less. absurd (omega arith); kept = λ i le. refl };
       }
 
   pub writing-asks : {weights written : List ℕ} {b next : ℕ} → Writing before k out at weights written b next → b < k → CanWriteEntry weights b written next

@@ -1,8 +1,9 @@
 // One transition merged by blocks: its weights added up by target block, and its record appended to a buffer.
-ghost use Prim.Native.Nat.{_+_, _<_};
+ghost use Prim.Native.Nat.{_+_, _≤_, _<_};
 ghost use mathlib.Core.Path.{_≡_};
 ghost use lib.ListN.{length, getD};
 ghost use Rattle.bisimulation.specs.definitions.Choice.{ifSame};
+ghost use Rattle.rules.specs.definitions.Limits.{limits};
 ghost use Rattle.transition.specs.Known.{entriesOf};
 ghost use Rattle.merged_transition.specs.MergedTransition.{NoWeights, CanMerge, Merged};
 ghost use Rattle.merged_transition.specs.Weights.{weightIn, weightEntries, CanAdd, WeightsOf, CanCount, CanWriteEntry, WroteEntry, CanWriteEntries, WroteEntries};
@@ -59,7 +60,7 @@ fn some_weights(weights: &Weights, k: usize) -> usize
 }
 
 fn one_more(count: usize, weight: usize) -> usize
-    requires { ⌜ count < 256 ⌝ }
+    requires { ⌜ count ≤ limits .states ⌝ }
     ensures { λ r. ⌜ r ≡ ifSame weight 0 count (count + 1) ⌝ }
 {
     if weight == 0 {

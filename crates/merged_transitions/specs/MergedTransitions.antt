@@ -6,6 +6,7 @@ use lib.ListN.{length, take}
 use Rattle.rules.specs.definitions.Model.{Transition, transitionsBytes}
 use Rattle.rules.specs.definitions.Reading.{modelAt}
 use Rattle.rules.specs.definitions.Quotient.{fromBlock, distinct, byBlock}
+use Rattle.limits.specs.Sizes.{records}
 use Rattle.transition.specs.Known.{Known}
 use Rattle.merged_transition.specs.MergedTransition.{NoWeights, BlocksBelow}
 use Rattle.merged_transitions.specs.declared.Kept.{Kept}
@@ -39,7 +40,7 @@ pub record CanKeep (s places : List ℕ) (n count : ℕ) (blocks : List ℕ) (k 
   pub merging : BlocksBelow n k blocks
   pub block : b < k
   pub none : NoWeights weights
-  pub large : 4864 ≤ length out
+  pub large : records ≤ length out
   pub held : InBlock s blocks b r start out kept
 
 -- and after it
@@ -54,7 +55,7 @@ pub record CanWrite (s places : List ℕ) (n count : ℕ) (blocks : List ℕ) (k
   pub merging : BlocksBelow n k blocks
   pub block : b < k
   pub none : NoWeights weights
-  pub large : 4864 ≤ length out
+  pub large : records ≤ length out
   pub held : Holds (before blocks (transitionsIn s) b) out kept
 
 pub record Wrote (s blocks : List ℕ) (b : ℕ) (weights before-out after : List ℕ) (kept : Kept) : Type 0 where

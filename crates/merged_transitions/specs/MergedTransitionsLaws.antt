@@ -19,6 +19,7 @@ use Rattle.rules.specs.argument.FetchedRun.{length-entriesAt}
 use Rattle.rules.specs.argument.KeyedSums.{each-all, sumOver-most, sumOver-length}
 use Rattle.rules.specs.definitions.Quotient.{blockCount, mergedTransition, fromBlock, isAmong, distinct, byBlock}
 use Rattle.rules.specs.argument.QuotientLaws.{merged-few, merged-rules, each-distinct, each-from, transitions-length}
+use Rattle.limits.specs.Sizes.{records}
 use Rattle.model_records.specs.declared.Fields.{Fields}
 use Rattle.transition.specs.Known.{Known, KnownTransition, FieldsOf}
 use Rattle.transition.specs.KnownLaws.{known-own, known-states, known-transitions, known-transition, few-transitions}
@@ -29,7 +30,7 @@ use Rattle.same_transition.specs.SameTransition.{Fits, FitsFrom, StandAs, Stand
 use Rattle.merged_transitions.specs.declared.Kept.{Kept}
 use Rattle.merged_transitions.specs.MergedTransitions.{transitionsIn, Holds, before, here, InBlock, CanKeep, Keeps}
 use Rattle.merged_transitions.specs.DistinctLaws.{distinct-more, from-more, by-block-more}
-use Rattle.merged_transitions.specs.RoomLaws.{sizeOf, room}
+use Rattle.merged_transitions.specs.RoomLaws.{sizeOf, each-first, room}
 
 -- records one after the other
 transitions-append : (xs ys : List Transition) → transitionsBytes (xs ++ ys) ≡ transitionsBytes xs ++ transitionsBytes ys
@@ -59,12 +60,6 @@ unfolding Each sumOver
 part-most [] = tt
 part-most (e ∷ es) = (omega arith, each-map _ _ (λ x l. omega arith) es (part-most es))
 
-each-take : (P : Transition → Type 0) (r : ℕ) (ts : List Transition) → Each P ts → Each P (take r ts)
-unfolding Each
-each-take P zero ts h = tt
-each-take P (suc r) [] h = tt
-each-take P (suc r) (t ∷ ts) h = (h .0, each-take P r ts (h .1))
-
 -- the model's transitions
 module _ {s places : List ℕ} {n count : ℕ} (k : Known s n count places) where
   pub count-is : length (transitionsIn s) ≡ count
@@ -79,8 +74,8 @@ module _ {s places : List ℕ} {n count : ℕ} (k : Known s n count places) wher
   entries-at r h =
       ap (λ (t : Transition). length (t .entries)) (transition-at r h) ∙ length-entriesAt s (entryCountAt s (placeOf s r)) (placeOf s r + 7)
 
-  -- their records have at most 4,864 bytes
-  few-bytes : sumOver sizeOf (transitionsIn s) ≤ 4864
+  -- their records have at most so many bytes
+  few-bytes : sumOver sizeOf (transitionsIn s) ≤ records
   few-bytes = omega (arith, sizes (transitionsIn s), sumOver-length (transitionsIn s), k .sound .count, k .sound .entries)
 
   module _ {blocks : List ℕ} {m : ℕ} (b : BlocksBelow n m blocks) where
@@ -117,7 +112,7 @@ module _ {s places : List ℕ} {n count : ℕ} (k : Known s n count places) wher
     here-fits c r =
         each-distinct (FitsFrom c) [] (fromBlock blocks (take r (transitionsIn s)) c)
         (each-from blocks (FitsFrom c) c (take r (transitionsIn s))
-        (each-take _ r (transitionsIn s) (each-map _ _ (λ t h e. record { fits = merged-fits t h; from = e }) (transitionsIn s) (k .sound .transitions))))
+        (each-first _ r (transitionsIn s) (each-map _ _ (λ t h e. record { fits = merged-fits t h; from = e }) (transitionsIn s) (k .sound .transitions))))
 
 -- a transition of another block changes nothing
 pub keep-other : {s places : List ℕ} {n count : ℕ} {blocks : List ℕ} {k b r : ℕ} {weights out : List ℕ} {start : ℕ} {kept : Kept} → CanKeep s places n count blocks k b r weights out start kept → r < count → (getD blocks (getD (transitionsIn s) r noTransition .source) 0 ≡ b → ⊥) → Keeps s blocks b r weights out out start kept
@@ -160,7 +155,7 @@ module _ {s places : List ℕ} {n count : ℕ} {blocks : List ℕ} {k b r : ℕ}
             omega (arith, room blocks (transitionsIn s) (shorter (c .known) (c .merging)) k b r (blocks-below (c .known) (c .merging)) (c .block) below of, few-bytes (c .known), c .large, c .held .holds .size, transitions-length done, transitionBytes-length (getD (transitionsIn s) r noTransition), entries-at (c .known) r less);
       }
 
-  pub few-kept : kept .count ≤ 4864
+  pub few-kept : kept .count ≤ records
   few-kept =
       omega (arith, c .held .holds .count, sumOver-length done, sumOver-most (λ (t : Transition). 1) sizeOf done (each-all _ (λ t. omega (arith, transitionBytes-length t)) done), room blocks (transitionsIn s) (shorter (c .known) (c .merging)) k b r (blocks-below (c .known) (c .merging)) (c .block) below of, few-bytes (c .known))
 
@@ -275,9 +270,16 @@ unfolding byBlock transitionsBytes
 none-held s blocks out = record { bytes = refl; size = refl; count = refl }
 
 -- the block of the transition's source, found by its fields
-pub block-at : {s : List ℕ} {r n k : ℕ} {f : Fields} {blocks : List ℕ} {x : ℕ} → BlocksBelow n k blocks → FieldsOf s r f → x ≡ getD blocks (f .source) 0 → x ≡ getD blocks (getD (transitionsIn s) r noTransition .source) 0
-unfolding automatonOf
-block-at {blocks = blocks} b f e = e ∙ ap (λ (v : ℕ). getD blocks v 0) (f .source)
+module _ {s places : List ℕ} {n count : ℕ} {blocks : List ℕ} {k b r : ℕ} {weights out : List ℕ} {start : ℕ} {kept : Kept} (c : CanKeep s places n count blocks k b r weights out start kept) {f : Fields} (t : FieldsOf s r f) {x : ℕ} (e : x ≡ getD blocks (f .source) 0) where
+  found : x ≡ getD blocks (getD (transitionsIn s) r noTransition .source) 0
+  unfolding automatonOf
+  found = e ∙ ap (λ (v : ℕ). getD blocks v 0) (t .source)
+
+  pub block-at : x ≡ b → getD blocks (getD (transitionsIn s) r noTransition .source) 0 ≡ b
+  block-at of = sym found ∙ of
+
+  pub other-at : (x ≡ b → ⊥) → getD blocks (getD (transitionsIn s) r noTransition .source) 0 ≡ b → ⊥
+  other-at other of = other (found ∙ of)
 
 pub block-known : {s places : List ℕ} {n count r k : ℕ} {f : Fields} {blocks : List ℕ} → Known s n count places → BlocksBelow n k blocks → FieldsOf s r f → f .source < length blocks
 block-known k b f = omega (arith, f .from, k .states, b .whole)

@@ -28,7 +28,7 @@ one-more f r ts h =
     ∙ sumOver-append f (take r ts) (getD ts r noTransition ∷ [])
     ∙ omega arith
 
-each-first : (P : Transition → Type 0) (r : ℕ) (ts : List Transition) → Each P ts → Each P (take r ts)
+pub each-first : (P : Transition → Type 0) (r : ℕ) (ts : List Transition) → Each P ts → Each P (take r ts)
 unfolding Each
 each-first P zero ts h = tt
 each-first P (suc r) [] h = tt

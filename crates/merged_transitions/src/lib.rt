@@ -1,6 +1,7 @@
 // The transitions of the merged model: by block and then by original place, of equal ones of a block the first.
 ghost use Prim.Native.Nat.{_≤_, _<_};
 ghost use lib.ListN.{length};
+ghost use Rattle.limits.specs.Sizes.{records};
 ghost use Rattle.transition.specs.Known.{Known};
 ghost use Rattle.merged_transition.specs.MergedTransition.{BlocksBelow};
 ghost use Rattle.merged_transitions.specs.MergedTransitions.{CanKeep, Keeps, CanWrite, Wrote, WroteAll};
@@ -94,7 +95,7 @@ pub fn write_transitions(
     k: usize,
     out: &mut [u8],
 ) -> Kept
-    requires { ⌜ Known (now s) n count (now places) × BlocksBelow n k (now blocks) × (4864 ≤ length (now out)) ⌝ }
+    requires { ⌜ Known (now s) n count (now places) × BlocksBelow n k (now blocks) × (records ≤ length (now out)) ⌝ }
     ensures { λ x. ⌜ WroteAll (now (s .entry)) (now (blocks .entry)) k (now (out .entry)) (now (out .exit)) x ⌝ }
 {
     let mut weights = merged_transition::no_weights();

@@ -1,16 +1,24 @@
 -- What the functions of the model reader hand back.
 use Prim.Native.Nat.{ℕ, _+_, _<_}
-use mathlib.Core.Path.{_≡_}
+use mathlib.Core.Path.{_≡_, refl, _∙_, ap}
 use mathlib.Core.List.{List}
 use lib.ListN.{length, getD}
 use Rattle.rules.specs.definitions.Reading.{Scan, sound, refused, placeOf}
+use Rattle.rules.specs.definitions.Answers.{Answer, refusalIn, answerWithoutPlace, scanAnswer}
+use Rattle.fault.specs.Faults.{faultOf}
+use Rattle.limits.specs.Sizes as sizes
 use Rattle.model.specs.declared.Scanned.{Scanned}
 use Rattle.model.specs.declared.Scanned.the-variants.{Sound, Refused}
 
--- document 01's number and place for each case of the reader's answer
+-- document 01's scan for each case of the reader's answer
 abbrev pub scanOf : Scanned → Scan
 scanOf (Sound m) = sound (m .states) (m .actions) (m .transitions) (m .end)
-scanOf (Refused number place) = refused number place
+scanOf (Refused f) = refused (faultOf f) (f .place)
+
+-- its number, file and place, for a file of so many bytes: 0, 0 and 0 where the model is sound
+abbrev pub scannedAnswer : ℕ → Scanned → Answer
+scannedAnswer size (Sound m) = answerWithoutPlace 0 0
+scannedAnswer size (Refused f) = refusalIn (faultOf f) 1 (f .place) size
 
 -- the table holds the places of the transitions below a number
 pub record PlacesHeld (s : List ℕ) (count : ℕ) (table : List ℕ) : Type 0 where
@@ -19,10 +27,19 @@ pub record PlacesHeld (s : List ℕ) (count : ℕ) (table : List ℕ) : Type 0 w
 -- the table of a sound model holds the places of its transitions and of their end; of a refused one nothing is said
 abbrev pub PlacesOf : List ℕ → List ℕ → Scan → Type 0
 PlacesOf s table (sound n m count end) = PlacesHeld s (count + 1) table
-PlacesOf s table (refused number place) = Unit {0}
+PlacesOf s table (refused f place) = Unit {0}
 
 -- the reader's answer and its table, where `scan` says what the answer is to be
 pub record Scans (s : List ℕ) (scan : Scan) (r : Scanned) (table : List ℕ) : Type 0 where
   pub answer : scanOf r ≡ scan
+  pub says : scannedAnswer (length s) r ≡ scanAnswer (length s) scan
   pub places : PlacesOf s table (scanOf r)
-  pub size : length table ≡ 257
+  pub size : length table ≡ sizes.places
+
+-- what the scan is, the answer says
+pub scans : {s : List ℕ} {scan : Scan} (r : Scanned) {table : List ℕ} → scanOf r ≡ scan → PlacesOf s table (scanOf r) → length table ≡ sizes.places → Scans s scan r table
+scans {s} r e places size = record { answer = e; says = cases r ∙ ap (scanAnswer (length s)) e; places = places; size = size }
+  where
+    cases : (x : Scanned) → scannedAnswer (length s) x ≡ scanAnswer (length s) (scanOf x)
+    cases (Sound m) = unfold scanAnswer in refl
+    cases (Refused f) = unfold scanAnswer in refl

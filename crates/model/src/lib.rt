@@ -4,7 +4,10 @@ ghost use lib.ListN.{length};
 ghost use mathlib.Core.Path.{_≡_};
 ghost use Rattle.rules.specs.definitions.Limits.{limits};
 ghost use Rattle.rules.specs.definitions.Reading.{headFault, statesOf, scanTransitions, scanModel, scanWhole};
+ghost use Rattle.limits.specs.Sizes as sizes;
 ghost use Rattle.model.specs.Scanned.{Scans};
+use fault::Fault;
+use field::Cursor;
 use limits::PLACES;
 
 // The place of each transition in the model file, and after them the place where the records end.
@@ -20,83 +23,72 @@ pub struct Model {
 
 pub enum Scanned {
     Sound(Model),
-    Refused { number: usize, place: usize },
+    Refused(Fault),
 }
 
 fn scan_transitions(s: &[u8], n: usize, m: usize, count: usize, places: &mut Places) -> Scanned
-    requires { ⌜ (n ≡ statesOf (now s)) × (8 + n ≤ length (now s)) × (count ≤ 256) × (length (now places) ≡ 257) ⌝ }
+    requires { ⌜ (n ≡ statesOf (now s)) × (8 + n ≤ length (now s)) × (count ≤ limits .transitions) × (length (now places) ≡ sizes.places) ⌝ }
     ensures { λ r. ⌜ Scans (now (s .entry)) (scanTransitions limits (now (s .entry)) n m count count 0 0 (8 + n)) r (now (places .exit)) ⌝ }
 {
     let mut left = count;
     let mut last = 0;
     let mut entries = 0;
-    let mut at = 8 + n;
+    let mut place = Cursor::new(8 + n);
     while 0 < left {
-        let fault = model_records::transition_fault(s, n, m, last, entries, at);
-        if fault != 0 {
-            return Scanned::Refused {
-                number: fault,
-                place: at,
-            };
+        let t = model_records::transition_at(s, n, m, last, entries, place);
+        let wrong = t.fault;
+        if wrong.number != 0 {
+            return Scanned::Refused(wrong);
         }
         let r = count - left;
-        places[r] = at;
-        let t = model_records::fields_at(s, at);
-        let more = t.count;
-        let start = t.entries.at;
+        places[r] = place.at;
         last = t.source;
-        entries += more;
-        at = start + 3 * more;
+        entries += t.count;
+        place = t.next;
         left -= 1;
     }
-    places[count] = at;
+    places[count] = place.at;
     Scanned::Sound(Model {
         states: n,
         actions: m,
         transitions: count,
-        end: at,
+        end: place.at,
     })
 }
 
 // Refusals 1 to 8 from the labels on, or a sound model with the place of each of its transitions. The caller has judged the head, before
 // it makes the table: most of what a refusal at the head costs is a cleared table.
 pub fn scan_model(s: &[u8], places: &mut Places) -> Scanned
-    requires { ⌜ (length (now places) ≡ 257) × (headFault limits (now s) ≡ 0) ⌝ }
+    requires { ⌜ (length (now places) ≡ sizes.places) × (headFault limits (now s) .number ≡ 0) ⌝ }
     ensures { λ r. ⌜ Scans (now (s .entry)) (scanModel limits (now (s .entry))) r (now (places .exit)) ⌝ }
 {
     let head = model_records::head_at(s);
     let labels = model_records::labels_fault(s, head.states);
-    if labels != 0 {
-        return Scanned::Refused {
-            number: labels,
-            place: 6,
-        };
+    if labels.number != 0 {
+        return Scanned::Refused(labels);
     }
     scan_transitions(s, head.states, head.actions, head.transitions, places)
 }
 
 // Refusals 1 to 9 from the labels on, or a sound model that fills the file.
 pub fn scan_whole(s: &[u8], places: &mut Places) -> Scanned
-    requires { ⌜ (length (now places) ≡ 257) × (headFault limits (now s) ≡ 0) ⌝ }
+    requires { ⌜ (length (now places) ≡ sizes.places) × (headFault limits (now s) .number ≡ 0) ⌝ }
     ensures { λ r. ⌜ Scans (now (s .entry)) (scanWhole limits (now (s .entry))) r (now (places .exit)) ⌝ }
 {
     let scanned = scan_model(s, places);
     match scanned {
         Scanned::Sound(m) => {
             if m.end < s.len() {
-                return Scanned::Refused {
-                    number: 9,
-                    place: m.end,
-                };
+                return Scanned::Refused(fault::refusal(9).at(m.end));
             }
             Scanned::Sound(m)
         }
-        Scanned::Refused { number, place } => Scanned::Refused { number, place },
+        Scanned::Refused(wrong) => Scanned::Refused(wrong),
     }
 }
 
 pub fn no_places() -> Places
-    ensures { λ r. ⌜ 257 ≡ length r ⌝ }
+    ensures { λ r. ⌜ sizes.places ≡ length r ⌝ }
 {
     [0; PLACES]
 }

@@ -3,8 +3,10 @@ ghost use Prim.Native.Nat.{_+_, _*_, _≤_, _<_};
 ghost use lib.ListN.{length};
 ghost use mathlib.Core.Path.{_≡_};
 ghost use Rattle.rules.specs.definitions.Limits.{limits};
-ghost use Rattle.rules.specs.definitions.Reading.{headFault, labelFault, labelsFault, rangeFault, fixedFaultAt, entriesFault, transitionFault};
-ghost use Rattle.model_records.specs.Fields.{HeadAt, FieldsAt};
+ghost use Rattle.rules.specs.definitions.Reading.{headFault, labelFault, labelsFault, rangeFault, fixedFaultAt, transitionFault, afterTransition};
+ghost use Rattle.fault.specs.Faults.{faultOf, Placed};
+ghost use Rattle.model_records.specs.Fields.{HeadAt, FieldsAt, EntriesRead, TransitionRead};
+use fault::Fault;
 use field::Cursor;
 use limits::ACTIONS;
 use limits::ENTRIES;
@@ -48,47 +50,42 @@ pub fn head_at(s: &[u8]) -> Head
     }
 }
 
-fn range_fault(n: usize, m: usize, count: usize) -> usize
-    ensures { λ r. ⌜ r ≡ rangeFault limits n m count ⌝ }
+fn range_fault(n: usize, m: usize, count: usize) -> Fault
+    ensures { λ r. ⌜ faultOf r ≡ rangeFault limits n m count ⌝ }
 {
     if n == 0 {
-        return 3;
+        return fault::refusal(3);
     }
     if STATES < n {
-        return 3;
+        return fault::refusal(3);
     }
     if m == 0 {
-        return 3;
+        return fault::refusal(3);
     }
     if ACTIONS < m {
-        return 3;
+        return fault::refusal(3);
     }
     if TRANSITIONS < count {
-        return 3;
+        return fault::refusal(3);
     }
-    0
+    fault::none()
 }
 
-pub fn head_fault(s: &[u8]) -> usize
-    ensures { λ r. ⌜ r ≡ headFault limits (now (s .entry)) ⌝ }
+// Refusals 1 to 3 of the head, which begins the file.
+pub fn head_fault(s: &[u8]) -> Fault
+    ensures { λ r. ⌜ Placed (headFault limits (now (s .entry))) 0 r ⌝ }
 {
-    if s.len() < 2 {
-        return 1;
-    }
-    let mark = Cursor::new(0).pair(s).value;
-    if mark != HEAD_MARK {
-        return 2;
-    }
-    if s.len() < 6 {
-        return 1;
+    let opened = record::open_model(s, 0, HEAD_MARK, 6);
+    if opened.number != 0 {
+        return opened.at(0);
     }
     let head = head_at(s);
-    range_fault(head.states, head.actions, head.transitions)
+    range_fault(head.states, head.actions, head.transitions).at(0)
 }
 
-fn label_fault(s: &[u8], n: usize) -> usize
+fn label_fault(s: &[u8], n: usize) -> Fault
     requires { ⌜ 8 + n ≤ length (now s) ⌝ }
-    ensures { λ r. ⌜ r ≡ labelFault limits (now (s .entry)) n 8 ⌝ }
+    ensures { λ r. ⌜ faultOf r ≡ labelFault limits (now (s .entry)) n 8 ⌝ }
 {
     let mut left = n;
     let mut place = Cursor::new(8);
@@ -96,31 +93,27 @@ fn label_fault(s: &[u8], n: usize) -> usize
         let field = place.byte(s);
         let label = field.value;
         if LABEL < label {
-            return 4;
+            return fault::refusal(4);
         }
         place = field.next;
         left -= 1;
     }
-    0
+    fault::none()
 }
 
-pub fn labels_fault(s: &[u8], n: usize) -> usize
+// Refusals 1, 2 and 4 of the n labels, which follow the head.
+pub fn labels_fault(s: &[u8], n: usize) -> Fault
     requires { ⌜ (6 ≤ length (now s)) × (n < 256) ⌝ }
-    ensures { λ r. ⌜ r ≡ labelsFault limits (now (s .entry)) n ⌝ }
+    ensures { λ r. ⌜ Placed (labelsFault limits (now (s .entry)) n) 6 r ⌝ }
 {
-    if s.len() < 8 {
-        return 1;
+    let opened = record::open_model(s, 6, LABELS_MARK, 2 + n);
+    if opened.number != 0 {
+        return opened.at(6);
     }
-    let mark = Cursor::new(6).pair(s).value;
-    if mark != LABELS_MARK {
-        return 2;
-    }
-    if s.len() < 8 + n {
-        return 1;
-    }
-    label_fault(s, n)
+    label_fault(s, n).at(6)
 }
 
+// The fixed fields of the transition record at a place.
 pub fn fields_at(s: &[u8], at: usize) -> Fields
     requires { ⌜ at + 7 ≤ length (now s) ⌝ }
     ensures { λ r. ⌜ FieldsAt (now (s .entry)) at r ⌝ }
@@ -139,51 +132,57 @@ pub fn fields_at(s: &[u8], at: usize) -> Fields
     }
 }
 
-// The fixed fields of the record at a place, of n states and m actions, after the last source and so many entries. Each field
-// is judged before the next is read: that compiles to one branch a test.
-fn fixed_fault(s: &[u8], n: usize, m: usize, last: usize, entries: usize, at: usize) -> usize
-    requires { ⌜ (at + 7 ≤ length (now s)) × (entries ≤ 1024) ⌝ }
-    ensures { λ r. ⌜ r ≡ fixedFaultAt limits (now (s .entry)) n m last entries at ⌝ }
+// 5 and 8 of the record at a place, of n states and m actions, after the last source and so many entries. Each field is judged before
+// the next is read: that compiles to one branch a test.
+fn fixed_fault(s: &[u8], n: usize, m: usize, last: usize, entries: usize, at: usize) -> Fault
+    requires { ⌜ (at + 7 ≤ length (now s)) × (entries ≤ limits .entries) ⌝ }
+    ensures { λ r. ⌜ faultOf r ≡ fixedFaultAt limits (now (s .entry)) n m last entries at ⌝ }
 {
     let first = Cursor::new(at + 2).byte(s);
     let source = first.value;
     if source < last {
-        return 5;
+        return fault::refusal(5);
     }
     if n <= source {
-        return 5;
+        return fault::refusal(5);
     }
     let second = first.next.byte(s);
     let action = second.value;
     if m <= action {
-        return 5;
+        return fault::refusal(5);
     }
     let third = second.next.pair(s);
     let denominator = third.value;
     if denominator == 0 {
-        return 5;
+        return fault::refusal(5);
     }
     let fourth = third.next.byte(s);
     let count = fourth.value;
     if count == 0 {
-        return 5;
+        return fault::refusal(5);
     }
     if n < count {
-        return 5;
+        return fault::refusal(5);
     }
     if ENTRIES < entries + count {
-        return 8;
+        return fault::refusal(8);
     }
-    0
+    fault::none()
+}
+
+// What the entries of a transition come to: 6 and 7, and the cursor past them.
+struct Entries {
+    fault: Fault,
+    next: Cursor,
 }
 
 // States ascend, so it is enough to test after the last entry that its state is below n: that refusal is 6 as well.
-fn entries_fault(s: &[u8], n: usize, denominator: usize, count: usize, at: usize) -> usize
-    requires { ⌜ (at + 3 * count ≤ length (now s)) × (count < 256) ⌝ }
-    ensures { λ r. ⌜ r ≡ entriesFault (now (s .entry)) n denominator count at 0 0 ⌝ }
+fn entries_at(s: &[u8], n: usize, denominator: usize, count: usize, first: Cursor) -> Entries
+    requires { ⌜ (first .at + 3 * count ≤ length (now s)) × (count < 256) ⌝ }
+    ensures { λ r. ⌜ EntriesRead (now (s .entry)) n denominator count (first .at) r ⌝ }
 {
     let mut unread = count;
-    let mut place = Cursor::new(at);
+    let mut place = first;
     let mut lowest = 0;
     let mut total = 0;
     while 0 < unread {
@@ -192,10 +191,16 @@ fn entries_fault(s: &[u8], n: usize, denominator: usize, count: usize, at: usize
         let v = state.value;
         let p = weight.value;
         if v < lowest {
-            return 6;
+            return Entries {
+                fault: fault::refusal(6),
+                next: place,
+            };
         }
         if p == 0 {
-            return 6;
+            return Entries {
+                fault: fault::refusal(6),
+                next: place,
+            };
         }
         lowest = v + 1;
         total += p;
@@ -203,44 +208,83 @@ fn entries_fault(s: &[u8], n: usize, denominator: usize, count: usize, at: usize
         unread -= 1;
     }
     if n < lowest {
-        return 6;
+        return Entries {
+            fault: fault::refusal(6),
+            next: place,
+        };
     }
     if total != denominator {
-        return 7;
+        return Entries {
+            fault: fault::refusal(7),
+            next: place,
+        };
     }
-    0
+    Entries {
+        fault: fault::none(),
+        next: place,
+    }
 }
 
-pub fn transition_fault(
+// What a transition record comes to: its fault; and where there is none its source, how many entries it has, and the cursor past it.
+pub struct Transition {
+    pub fault: Fault,
+    pub source: usize,
+    pub count: usize,
+    pub next: Cursor,
+}
+
+fn refused(fault: Fault, place: Cursor) -> Transition
+    ensures { λ r. ⌜ Placed (faultOf fault) (place .at) (r .fault) ⌝ }
+{
+    Transition {
+        fault: fault.at(place.at),
+        source: 0,
+        count: 0,
+        next: place,
+    }
+}
+
+// The transition record at a place, of n states and m actions, after the last source and so many entries.
+pub fn transition_at(
     s: &[u8],
     n: usize,
     m: usize,
     last: usize,
     entries: usize,
-    at: usize,
-) -> usize
-    requires { ⌜ (at ≤ length (now s)) × (entries ≤ 1024) ⌝ }
-    ensures { λ r. ⌜ r ≡ transitionFault limits (now (s .entry)) n m last entries at ⌝ }
+    place: Cursor,
+) -> Transition
+    requires { ⌜ (place .at ≤ length (now s)) × (entries ≤ limits .entries) ⌝ }
+    ensures { λ r. ⌜ TransitionRead (now (s .entry)) n m last entries (place .at) r ⌝ }
 {
-    if s.len() - at < 2 {
-        return 1;
+    let opened = record::open_model(s, place.at, TRANSITION_MARK, 7);
+    if opened.number != 0 {
+        return refused(opened, place);
     }
-    let mark = Cursor::new(at).pair(s).value;
-    if mark != TRANSITION_MARK {
-        return 2;
+    let fixed = fixed_fault(s, n, m, last, entries, place.at);
+    if fixed.number != 0 {
+        return refused(fixed, place);
     }
-    if s.len() - at < 7 {
-        return 1;
-    }
-    let fixed = fixed_fault(s, n, m, last, entries, at);
-    if fixed != 0 {
-        return fixed;
-    }
-    let t = fields_at(s, at);
-    let count = t.count;
+    let t = fields_at(s, place.at);
     let start = t.entries.at;
-    if s.len() - start < 3 * count {
-        return 1;
+    if s.len() - start < 3 * t.count {
+        return refused(fault::refusal(1), place);
     }
-    entries_fault(s, n, t.denominator, count, start)
+    let read = entries_at(s, n, t.denominator, t.count, t.entries);
+    let wrong = read.fault;
+    let next = read.next;
+    Transition {
+        fault: wrong.at(place.at),
+        source: t.source,
+        count: t.count,
+        next,
+    }
+}
+
+// The place after the record at a place.
+pub fn after_transition(s: &[u8], at: usize) -> usize
+    requires { ⌜ afterTransition (now s) at ≤ length (now s) ⌝ }
+    ensures { λ r. ⌜ r ≡ afterTransition (now (s .entry)) at ⌝ }
+{
+    let count = Cursor::new(at + 6).byte(s).value;
+    at + 7 + 3 * count
 }

@@ -21,8 +21,9 @@ use Rattle.model_records.specs.declared.Fields.{Fields}
 use Rattle.transition.specs.declared.Entry as read
 use Rattle.transition.specs.Known.{automatonIn, KnownTransition, FieldsOf, EntriesKnown}
 use Rattle.transition.specs.KnownLaws.{few-states, entries-known, price-known}
-use Rattle.transition.specs.Terms.{EntryTaken, Addable, WithTerm}
-use Rattle.transition.specs.TermsLaws.{mag-abs}
+use Rattle.transition.specs.Entries.{EntryTaken}
+use Rattle.signed.specs.Terms.{Addable, WithTerm}
+use Rattle.signed.specs.TermsLaws.{mag-abs}
 use Rattle.prices.specs.Prices.{HoldsPrices, SmallPrices, priceIn, HasPrice, Summable, IsSum}
 
 -- a table holds no price at first
@@ -61,7 +62,7 @@ sum-back {z = z} h = toZ-ofZ (record { sfits = omega (arith, h .small, mag-abs z
 
 -- d times a price is a term that fits
 pub product : (d : ℕ) (price : ℤ) → d < 65536 → mag price < 2 ^ 31 → Addable (pos 0) d price
-product d price light small = record { soFar = omega arith; light = light; small = omega (arith, small) }
+product d price light small = record { room = omega arith; small = omega (arith, small) }
 
 -- entries whose states are below n have prices in a table of n prices
 have-prices : (n : ℕ) (table : List ℤ) → SmallPrices n table → n ≤ limits .states → (es : List Entry) → Each (λ (e : Entry). e .state < n) es → Each (HasPrice table) es
@@ -94,7 +95,7 @@ module _ {s : List ℕ} {table : List ℤ} where
     pub summing-asks : (left : ℕ) {at : ℕ} {sum : ℤ} {r : read.Entry} → Summing s table all left at sum → 0 < left → EntryTaken s at r → Addable sum (r .weight) (toZ w64 (ofZ w64 (priceIn table (r .state))))
     summing-asks left h some t =
         let small = summing-price left h some t .small in
-        record { soFar = omega (arith, h .small); light = t .small; small = rw (price-back _ small) (omega (arith, small)) }
+        record { room = omega (arith, h .small, t .small); small = rw (price-back _ small) (omega (arith, small)) }
 
     one-turn : (left at : ℕ) (sum : ℤ) → Summing s table all (suc left) at sum → (r : read.Entry) → EntryTaken s at r → mag (priceIn table (r .state)) < 2 ^ 31 → (z : ℤ) → WithTerm sum (r .weight) (priceIn table (r .state)) z → Summing s table all left (at + 3) z
     unfolding Each entriesAt sumOver priceOfEntries

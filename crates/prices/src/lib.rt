@@ -44,7 +44,7 @@ pub fn sum_of(s: &[u8], at: usize, count: usize, prices: &Prices) -> i64
         let entry = transition::entry_at(s, place);
         let v = entry.state;
         let price = prices[v];
-        sum = transition::with_term(sum, entry.weight, price);
+        sum = signed::with_term(sum, entry.weight, price);
         place = entry.next;
         unread -= 1;
     }
@@ -65,8 +65,8 @@ pub fn sums_of(s: &[u8], at: usize, count: usize, first: &Prices, second: &Price
         let v = entry.state;
         let price = first[v];
         let other_price = second[v];
-        one = transition::with_term(one, entry.weight, price);
-        other = transition::with_term(other, entry.weight, other_price);
+        one = signed::with_term(one, entry.weight, price);
+        other = signed::with_term(other, entry.weight, other_price);
         place = entry.next;
         left -= 1;
     }

@@ -1,5 +1,5 @@
-// The judging program of document 01, and the reducing program beside it, as functions that the programs call.
-ghost use Prim.Native.Nat.{_≤_};
+// The judging program of document 01, the reducing program beside it, and a fetch, as functions that the programs call.
+ghost use Rattle.io.specs.Counts.{Counts};
 use libc::STDOUT_FILENO;
 
 // Of the model file the first 8,192 bytes are read; of the certificate file up to 49,152.
@@ -7,15 +7,21 @@ const MODEL: usize = 8192;
 
 const CERTIFICATE: usize = 49152;
 
-const BLOCKS: usize = 64;
+// What is asked of a model and a certificate.
+enum Asked {
+    Judge,
+    Reduce { keeps: bool },
+    Fetch { state: u32 },
+}
 
-fn least(a: usize, b: usize) -> usize
-    ensures { λ r. ⌜ (r ≤ a) × (r ≤ b) ⌝ }
+// So many bytes, or all that a buffer has.
+fn at_most(n: usize, buffer: &[u8]) -> usize
+    ensures { λ r. ⌜ Counts r (now (buffer .entry)) ⌝ }
 {
-    if a < b {
-        return a;
+    if n < buffer.len() {
+        return n;
     }
-    b
+    buffer.len()
 }
 
 fn print(text: &[u8]) {
@@ -26,24 +32,29 @@ fn print_number(n: usize) {
     io::print_decimal(STDOUT_FILENO, n as u64);
 }
 
-// A line of a state and its block for each of the blocks.
+fn print_byte(b: u8) {
+    io::print_hex(STDOUT_FILENO, b as u64, 2);
+}
+
+// A line of a state and its block.
+fn print_block(state: usize, block: u8) {
+    print_number(state);
+    print(b" ");
+    print_number(block as usize);
+    print(b"\n");
+}
+
+// Each state with its block.
 fn print_blocks(blocks: &[u8]) {
-    let mut state = 0;
-    while state < blocks.len() {
-        print_number(state);
-        print(b" ");
-        print_number(blocks[state] as usize);
-        print(b"\n");
-        state += 1;
+    for state in 0..blocks.len() {
+        print_block(state, blocks[state]);
     }
 }
 
 // Two hexadecimal digits for each of the bytes, in one line.
 fn print_bytes(bytes: &[u8]) {
-    let mut i = 0;
-    while i < bytes.len() {
-        io::print_hex(STDOUT_FILENO, bytes[i] as u64, 2);
-        i += 1;
+    for i in 0..bytes.len() {
+        print_byte(bytes[i]);
     }
     print(b"\n");
 }
@@ -60,11 +71,23 @@ fn print_result(number: u32, file: u32, place: usize) {
 }
 
 // Prints number, file and place, and on acceptance each state with its block.
-fn judge_and_print(model: &[u8], certificate: &[u8], blocks: &mut [u8]) {
-    let answer = zolkirta::zolkirta_judge(model, certificate, blocks);
-    let written = least(answer.written, blocks.len());
-    print_result(answer.number, answer.file, answer.place);
-    print_blocks(&blocks[..written]);
+fn judge_and_print<'a>(model: &'a [u8], certificate: &'a [u8], blocks: &mut [u8]) {
+    let mut number = 0;
+    let mut file = 0;
+    let mut place = 0;
+    let mut written = 0;
+    zolkirta::judge(
+        model,
+        certificate,
+        blocks,
+        &mut number,
+        &mut file,
+        &mut place,
+        &mut written,
+    );
+    print_result(number, file, place);
+    let end = at_most(written, blocks);
+    print_blocks(&blocks[..end]);
 }
 
 // Writes merged.bin; a line on standard error says why where that fails.
@@ -81,64 +104,113 @@ fn keep_merged(merged: &[u8]) {
     libc::close(fd);
 }
 
-// Prints number, file and place, and on acceptance writes the merged model into merged.bin and prints its bytes. A refusal leaves
-// merged.bin alone.
-fn reduce_and_print(model: &[u8], certificate: &[u8], out: &mut [u8]) {
-    let answer = zolkirta::zolkirta_reduce(model, certificate, out);
-    let written = least(answer.written, out.len());
-    print_result(answer.number, answer.file, answer.place);
-    if answer.number == 0 {
-        keep_merged(&out[..written]);
-        print_bytes(&out[..written]);
+// Prints the merged model's bytes, and writes them into merged.bin where they are to be kept.
+fn print_merged(merged: &[u8], keeps: bool) {
+    if keeps {
+        keep_merged(merged);
+    }
+    print_bytes(merged);
+}
+
+// Prints number, file and place, and on acceptance the merged model, which may be kept. A refusal leaves merged.bin alone.
+fn reduce_and_print<'a>(model: &'a [u8], certificate: &'a [u8], out: &mut [u8], keeps: bool) {
+    let mut number = 0;
+    let mut file = 0;
+    let mut place = 0;
+    let mut written = 0;
+    zolkirta::reduce(
+        model,
+        certificate,
+        out,
+        &mut number,
+        &mut file,
+        &mut place,
+        &mut written,
+    );
+    print_result(number, file, place);
+    if number == 0 {
+        let end = at_most(written, out);
+        print_merged(&out[..end], keeps);
     }
 }
 
-// Reads the two files, each as far as its slice has room, and judges them, or reduces the model by the certificate.
-fn read_and_answer(pa: i32, model: &mut [u8], ct: i32, certificate: &mut [u8], reduces: bool) {
+// Prints number, file and place, and the run or the stretch: its length, a colon, its bytes.
+fn fetch_and_print(model: &[u8], state: u32) {
+    let mut number = 0;
+    let mut file = 0;
+    let mut place = 0;
+    let part = zolkirta::fetch(model, state, &mut number, &mut file, &mut place);
+    print_result(number, file, place);
+    print_number(part.len());
+    print(b":");
+    print_bytes(part);
+}
+
+fn answer<'a>(asked: Asked, model: &'a [u8], certificate: &'a [u8]) {
+    match asked {
+        Asked::Judge => {
+            let mut blocks = [0u8; limits::STATES];
+            judge_and_print(model, certificate, &mut blocks);
+        }
+        Asked::Reduce { keeps } => {
+            // long enough: no merged model is longer than its model
+            let mut out = [0u8; MODEL];
+            reduce_and_print(model, certificate, &mut out, keeps);
+        }
+        Asked::Fetch { state } => fetch_and_print(model, state),
+    }
+}
+
+// Reads the two files, each as far as its slice has room, and answers.
+fn read_and_answer(asked: Asked, pa: i32, model: &mut [u8], ct: i32, certificate: &mut [u8]) {
     let m = io::read_full(pa, model);
     let c = io::read_full(ct, certificate);
     if CERTIFICATE < c {
         print(b"certificate too long\n");
         return;
     }
-    if reduces {
-        let mut out = [0u8; MODEL];
-        reduce_and_print(&model[..m], &certificate[..c], &mut out);
-        return;
-    }
-    let mut blocks = [0u8; BLOCKS];
-    judge_and_print(&model[..m], &certificate[..c], &mut blocks);
+    answer(asked, &model[..m], &certificate[..c]);
 }
 
 // Answers for two open files, of which at most so many bytes are theirs. A descriptor below 0 reads as an empty file.
-fn answer_streams(pa: i32, pa_bytes: usize, ct: i32, ct_bytes: usize, reduces: bool) {
-    let mut model = io::large_buffer();
-    let mut certificate = io::large_buffer();
-    let m = least(pa_bytes, MODEL);
-    let c = least(ct_bytes, CERTIFICATE + 1);
-    read_and_answer(pa, &mut model[..m], ct, &mut certificate[..c], reduces);
+fn answer_streams(asked: Asked, pa: i32, pa_bytes: usize, ct: i32, ct_bytes: usize) {
+    let mut model = [0u8; MODEL];
+    let mut certificate = [0u8; CERTIFICATE + 1];
+    let m = at_most(pa_bytes, &model);
+    let c = at_most(ct_bytes, &certificate);
+    read_and_answer(asked, pa, &mut model[..m], ct, &mut certificate[..c]);
 }
 
 // Judges two open files, of which at most so many bytes are theirs, and prints the answer.
 pub fn judge_streams(pa: i32, pa_bytes: usize, ct: i32, ct_bytes: usize) {
-    answer_streams(pa, pa_bytes, ct, ct_bytes, false);
+    answer_streams(Asked::Judge, pa, pa_bytes, ct, ct_bytes);
+}
+
+// Reduces likewise, and keeps no merged.bin.
+pub fn reduce_streams(pa: i32, pa_bytes: usize, ct: i32, ct_bytes: usize) {
+    answer_streams(Asked::Reduce { keeps: false }, pa, pa_bytes, ct, ct_bytes);
+}
+
+// Fetches a state of an open model file likewise; no certificate is read.
+pub fn fetch_stream(pa: i32, pa_bytes: usize, state: u32) {
+    answer_streams(Asked::Fetch { state }, pa, pa_bytes, -1, 0);
 }
 
 // Answers for pa.bin and ct.bin of the current folder. A missing file reads as empty.
-fn answer_files(reduces: bool) {
+fn answer_files(asked: Asked) {
     let pa = os::open_read(b"pa.bin");
     let ct = os::open_read(b"ct.bin");
-    answer_streams(pa, usize::MAX, ct, usize::MAX, reduces);
+    answer_streams(asked, pa, usize::MAX, ct, usize::MAX);
     libc::close(pa);
     libc::close(ct);
 }
 
 // The judging program.
 pub fn judge_files() {
-    answer_files(false);
+    answer_files(Asked::Judge);
 }
 
 // The reducing program: writes merged.bin.
 pub fn reduce_files() {
-    answer_files(true);
+    answer_files(Asked::Reduce { keeps: true });
 }

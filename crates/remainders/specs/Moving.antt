@@ -1,43 +1,53 @@
--- What a term, and a transition's weights and denominator, change in the cells.
+-- What a term, and a transition's weights and denominator, change in the remainders.
 use Prim.Native.Nat.{ℕ, _+_, _*_, _^_, _≤_, _<_}
 use mathlib.Core.List.{List, [], _∷_}
 use lib.ListN.{set}
 use lib.IntN.{ℤ, pos, _+ℤ_, _*ℤ_, natAbs}
 use lib.Signed.{mag}
 use Rattle.bisimulation.specs.definitions.Automaton.{Automaton}
+use Rattle.rules.specs.definitions.Limits.{limits}
 use Rattle.rules.specs.definitions.Model.{Entry}
+use Rattle.limits.specs.Sizes as sizes
 use Rattle.transition.specs.Known.{KnownTransition}
-use Rattle.transition.specs.Terms.{Addable}
-use Rattle.remainders.specs.Remainders.{cellIn}
+use Rattle.signed.specs.Terms.{Addable}
+use Rattle.remainders.specs.Remainders.{remainderAt}
 use Rattle.remainders.specs.Nonzero.{Counted}
 
--- one cell with one more term
+-- one remainder with one more term
 unfoldable pub added : List ℤ → (i weight : ℕ) → ℤ → List ℤ
-added cells i weight factor = set cells i (cellIn cells i +ℤ pos weight *ℤ factor)
+added remainders i weight factor = set remainders i (remainderAt remainders i +ℤ pos weight *ℤ factor)
 
--- the weights of entries, times a factor, at the cells of their states, which begin at `first`
+-- the weights of entries, times a factor, at the remainders of their states, which begin at `first`
 unfoldable pub arrived : List Entry → ℤ → ℕ → List ℤ → List ℤ
-arrived [] factor first cells = cells
-arrived (e ∷ es) factor first cells = arrived es factor first (added cells (first + e .state) (e .weight) factor)
+arrived [] factor first remainders = remainders
+arrived (e ∷ es) factor first remainders = arrived es factor first (added remainders (first + e .state) (e .weight) factor)
 
--- the denominator of a transition, times a factor, at the cell of its source
+-- the denominator of a transition, times a factor, at the remainder of its source
 unfoldable pub departed : Automaton → ℕ → ℤ → ℕ → List ℤ → List ℤ
-departed A r factor first cells = added cells (first + A .source r) (A .denominator r) factor
+departed A r factor first remainders = added remainders (first + A .source r) (A .denominator r) factor
 
--- the cells have room for so many more changes
-pub record Room (cells : List ℤ) (changes : ℕ) : Type 0 where
-  pub small : (i : ℕ) → i < 128 → natAbs (cellIn cells i) + changes * 2 ^ 49 ≤ 2 ^ 62
+-- a change is less than this: a weight or a denominator, of 2 bytes, times an amount, of 4
+abbrev pub change : ℕ
+change = 2 ^ 48
 
--- a cell to which a term can be added
-pub record CanAdd (cells : List ℤ) (i weight : ℕ) (factor : ℤ) (nonzero : ℕ) : Type 0 where
-  pub table : Counted cells nonzero
-  pub inside : i < 128
-  pub fits : Addable (cellIn cells i) weight factor
+-- so many changes of a remainder that is zero at first stay in its 8 bytes
+abbrev pub mostChanges : ℕ
+mostChanges = 2 ^ 15
 
--- cells to which a transition's weights or its denominator can be added
-pub record CanMove (s places : List ℕ) (r : ℕ) (factor : ℤ) (first : ℕ) (cells : List ℤ) (nonzero : ℕ) : Type 0 where
+-- the remainders have room for so many more changes
+pub record Room (remainders : List ℤ) (changes : ℕ) : Type 0 where
+  pub small : (i : ℕ) → i < sizes.remainders → natAbs (remainderAt remainders i) + changes * change ≤ mostChanges * change
+
+-- a remainder to which a term can be added
+pub record CanAdd (remainders : List ℤ) (i weight : ℕ) (factor : ℤ) (nonzero : ℕ) : Type 0 where
+  pub table : Counted remainders nonzero
+  pub inside : i < sizes.remainders
+  pub fits : Addable (remainderAt remainders i) weight factor
+
+-- remainders to which a transition's weights or its denominator can be added
+pub record CanMove (s places : List ℕ) (r : ℕ) (factor : ℤ) (first : ℕ) (remainders : List ℤ) (nonzero : ℕ) : Type 0 where
   pub known : KnownTransition s places r
-  pub small : mag factor < 2 ^ 33
-  pub layer : first ≤ 64
-  pub table : Counted cells nonzero
-  pub room : Room cells 1
+  pub small : mag factor < 2 ^ 32
+  pub layer : first ≤ limits .states
+  pub table : Counted remainders nonzero
+  pub room : Room remainders 1

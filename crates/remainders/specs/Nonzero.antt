@@ -1,9 +1,10 @@
--- How many cells of a table are not zero.
+-- How many remainders of a table are not zero.
 use Prim.Native.Nat.{ℕ, zero, suc, _+_, _≤_}
 use mathlib.Core.Path.{_≡_}
 use mathlib.Core.List.{List, [], _∷_}
 use lib.ListN.{length}
 use lib.IntN.{ℤ, pos, negsuc}
+use Rattle.limits.specs.Sizes as sizes
 
 -- 1 where the number is not zero
 unfoldable pub isNonzero : ℤ → ℕ
@@ -19,14 +20,14 @@ nonzeroIn (z ∷ zs) = isNonzero z + nonzeroIn zs
 -- a count of which one may be taken away where the old number is not zero
 pub record CanChange (nonzero : ℕ) (old : ℤ) : Type 0 where
   pub some : isNonzero old ≤ nonzero
-  pub few : nonzero ≤ 128
+  pub few : nonzero ≤ sizes.remainders
 
--- a table of cells and its count
-pub record Counted (cells : List ℤ) (nonzero : ℕ) : Type 0 where
-  pub size : length cells ≡ 128
-  pub count : nonzero ≡ nonzeroIn cells
+-- a table of remainders and its count
+pub record Counted (remainders : List ℤ) (nonzero : ℕ) : Type 0 where
+  pub size : length remainders ≡ sizes.remainders
+  pub count : nonzero ≡ nonzeroIn remainders
 
 -- a table that became what was to come, and its count
-pub record Became (to cells : List ℤ) (nonzero : ℕ) : Type 0 where
-  pub same : cells ≡ to
-  pub counted : Counted cells nonzero
+pub record Became (to remainders : List ℤ) (nonzero : ℕ) : Type 0 where
+  pub same : remainders ≡ to
+  pub counted : Counted remainders nonzero

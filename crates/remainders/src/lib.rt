@@ -1,5 +1,5 @@
 // A table of signed numbers, one a state before and one after a flow's move, with the count of those that are not zero.
-ghost use Prim.Native.Nat.{_+_, _<_};
+ghost use Prim.Native.Nat.{_+_, _<_, _^_};
 ghost use mathlib.Core.Path.{_≡_};
 ghost use lib.IntN.{pos, negℤ};
 ghost use Rattle.transition.specs.Known.{automatonIn, entriesOf};
@@ -11,16 +11,16 @@ use model::Places;
 
 // Left less right of the equations at each state: those before the move, or of an internal one, at the state's own number, and
 // those after the move from STATES on. All are zero between flows.
-pub type Cells = [i64; REMAINDERS];
+pub type Remainders = [i64; REMAINDERS];
 
-// Cells that are all zero.
-pub fn no_cells() -> Cells
+// Remainders that are all zero.
+pub fn no_remainders() -> Remainders
     ensures { λ r. ⌜ AllZero r ⌝ }
 {
     [0; REMAINDERS]
 }
 
-// How many cells are not zero, after one of them changed.
+// How many remainders are not zero, after one of them changed.
 fn nonzero_after(nonzero: usize, old: i64, new: i64) -> usize
     requires { ⌜ CanChange nonzero old ⌝ }
     ensures { λ r. ⌜ r + isNonzero old ≡ nonzero + isNonzero new ⌝ }
@@ -37,53 +37,57 @@ fn nonzero_after(nonzero: usize, old: i64, new: i64) -> usize
     nonzero
 }
 
-// A cell with one more term, weight times factor; answers how many cells are not zero then.
-fn add(cells: &mut Cells, i: usize, weight: usize, factor: i64, nonzero: usize) -> usize
-    requires { ⌜ CanAdd (now cells) i weight factor nonzero ⌝ }
-    ensures { λ r. ⌜ Became (added (now (cells .entry)) i weight factor) (now (cells .exit)) r ⌝ }
+// A remainder with one more term, weight times factor; answers how many remainders are not zero then.
+fn add(remainders: &mut Remainders, i: usize, weight: usize, factor: i64, nonzero: usize) -> usize
+    requires { ⌜ CanAdd (now remainders) i weight factor nonzero ⌝ }
+    ensures { λ r. ⌜ Became (added (now (remainders .entry)) i weight factor) (now (remainders .exit)) r ⌝ }
 {
-    let old = cells[i];
-    let new = transition::with_term(old, weight, factor);
-    cells[i] = new;
+    let old = remainders[i];
+    let new = signed::with_term(old, weight, factor);
+    remainders[i] = new;
     nonzero_after(nonzero, old, new)
 }
 
-// An amount with the sign turned.
-pub fn minus(amount: usize) -> i64
-    requires { ⌜ amount < 4294967296 ⌝ }
-    ensures { λ r. ⌜ r ≡ negℤ (pos amount) ⌝ }
+// A remainder with one more term, weight times amount.
+pub fn give(
+    remainders: &mut Remainders,
+    i: usize,
+    weight: usize,
+    amount: usize,
+    nonzero: usize,
+) -> usize
+    requires { ⌜ CanAdd (now remainders) i weight (pos amount) nonzero × (amount < 2 ^ 32) ⌝ }
+    ensures { λ r. ⌜ Became (added (now (remainders .entry)) i weight (pos amount)) (now (remainders .exit)) r ⌝ }
 {
-    -(amount as i64)
+    add(remainders, i, weight, amount as i64, nonzero)
 }
 
-// A cell with one more term, weight times amount.
-pub fn give(cells: &mut Cells, i: usize, weight: usize, amount: usize, nonzero: usize) -> usize
-    requires { ⌜ CanAdd (now cells) i weight (pos amount) nonzero × (amount < 4294967296) ⌝ }
-    ensures { λ r. ⌜ Became (added (now (cells .entry)) i weight (pos amount)) (now (cells .exit)) r ⌝ }
+// A remainder with that term taken away.
+pub fn take(
+    remainders: &mut Remainders,
+    i: usize,
+    weight: usize,
+    amount: usize,
+    nonzero: usize,
+) -> usize
+    requires { ⌜ CanAdd (now remainders) i weight (negℤ (pos amount)) nonzero × (amount < 2 ^ 32) ⌝ }
+    ensures { λ r. ⌜ Became (added (now (remainders .entry)) i weight (negℤ (pos amount))) (now (remainders .exit)) r ⌝ }
 {
-    add(cells, i, weight, amount as i64, nonzero)
+    add(remainders, i, weight, signed::minus(amount), nonzero)
 }
 
-// A cell with that term taken away.
-pub fn take(cells: &mut Cells, i: usize, weight: usize, amount: usize, nonzero: usize) -> usize
-    requires { ⌜ CanAdd (now cells) i weight (negℤ (pos amount)) nonzero × (amount < 4294967296) ⌝ }
-    ensures { λ r. ⌜ Became (added (now (cells .entry)) i weight (negℤ (pos amount))) (now (cells .exit)) r ⌝ }
-{
-    add(cells, i, weight, minus(amount), nonzero)
-}
-
-// The weights of the transition r, times a factor, at the cells of its targets, which begin at `first`.
+// The weights of the transition r, times a factor, at the remainders of its targets, which begin at `first`.
 pub fn arrive(
     s: &[u8],
     places: &Places,
     r: usize,
     factor: i64,
     first: usize,
-    cells: &mut Cells,
+    remainders: &mut Remainders,
     nonzero: usize,
 ) -> usize
-    requires { ⌜ CanMove (now s) (now places) r factor first (now cells) nonzero ⌝ }
-    ensures { λ x. ⌜ Became (arrived (entriesOf (now (s .entry)) r) factor first (now (cells .entry))) (now (cells .exit)) x ⌝ }
+    requires { ⌜ CanMove (now s) (now places) r factor first (now remainders) nonzero ⌝ }
+    ensures { λ x. ⌜ Became (arrived (entriesOf (now (s .entry)) r) factor first (now (remainders .entry))) (now (remainders .exit)) x ⌝ }
 {
     let t = transition::fields_of(s, places, r);
     let mut left = t.count;
@@ -92,7 +96,7 @@ pub fn arrive(
     while 0 < left {
         let entry = transition::entry_at(s, next);
         now_nonzero = add(
-            cells,
+            remainders,
             first + entry.state,
             entry.weight,
             factor,
@@ -104,19 +108,19 @@ pub fn arrive(
     now_nonzero
 }
 
-// Its denominator, times a factor, at the cell of its source.
+// Its denominator, times a factor, at the remainder of its source.
 pub fn leave(
     s: &[u8],
     places: &Places,
     r: usize,
     factor: i64,
     first: usize,
-    cells: &mut Cells,
+    remainders: &mut Remainders,
     nonzero: usize,
 ) -> usize
-    requires { ⌜ CanMove (now s) (now places) r factor first (now cells) nonzero ⌝ }
-    ensures { λ x. ⌜ Became (departed (automatonIn (now (s .entry))) r factor first (now (cells .entry))) (now (cells .exit)) x ⌝ }
+    requires { ⌜ CanMove (now s) (now places) r factor first (now remainders) nonzero ⌝ }
+    ensures { λ x. ⌜ Became (departed (automatonIn (now (s .entry))) r factor first (now (remainders .entry))) (now (remainders .exit)) x ⌝ }
 {
     let t = transition::fields_of(s, places, r);
-    add(cells, first + t.source, t.denominator, factor, nonzero)
+    add(remainders, first + t.source, t.denominator, factor, nonzero)
 }

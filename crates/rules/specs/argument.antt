@@ -1,4 +1,6 @@
 -- Laws and theorems: the argument, which the prover has read.
+pub mod FaultLaws
+pub mod AnyRule
 pub mod Standing
 pub mod ReadingLaws
 pub mod BytesLaws
@@ -17,6 +19,7 @@ pub mod PlainDecides
 pub mod LargestBlocks
 pub mod Demand3Holds
 pub mod Numbers
+pub mod PlainRules
 pub mod KeyedSums
 pub mod QuotientLaws
 pub mod QuotientHolds
@@ -24,5 +27,6 @@ pub mod AnswerLaws
 pub mod ModelAutomaton
 pub mod EntryPrices
 pub mod FetchedRun
-pub mod JudgeOutcome
-pub mod ReduceOutcome
+pub mod PairOutcome
+pub mod DemandsHold
+pub mod PlainHolds

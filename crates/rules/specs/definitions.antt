@@ -3,6 +3,7 @@ pub mod Limits
 pub mod Bytes
 pub mod Model
 pub mod SoundModel
+pub mod Faults
 pub mod Reading
 pub mod Certificate
 pub mod PlainRule
@@ -10,7 +11,9 @@ pub mod Judging
 pub mod Encoding
 pub mod Accepted
 pub mod PlainSays
-pub mod AnyRule
 pub mod Quotient
 pub mod Answers
 pub mod Demand3
+pub mod Merged
+pub mod JudgedBy
+pub mod Demands

@@ -2,7 +2,6 @@
 ghost use Prim.Native.Nat.{_+_, _≤_};
 ghost use lib.ListN.{length};
 ghost use mathlib.Core.Path.{_≡_};
-ghost use Rattle.rules.specs.definitions.Reading.{afterTransition};
 ghost use Rattle.same_transition.specs.SameTransition.{Stand, IsRepeated, sameBytes};
 
 // The bytes at two places are the same, so many of them. Compared from the last on: records with one d that differ do so in a weight
@@ -21,15 +20,6 @@ fn same_bytes(s: &[u8], first: usize, second: usize, size: usize) -> bool
     true
 }
 
-// The place after the record at `place`.
-fn after_record(s: &[u8], place: usize) -> usize
-    requires { ⌜ afterTransition (now s) place ≤ length (now s) ⌝ }
-    ensures { λ r. ⌜ r ≡ afterTransition (now (s .entry)) place ⌝ }
-{
-    let count = s[place + 6] as usize;
-    place + 7 + 3 * count
-}
-
 // One of the records from `start` to `at` is the same as the record from `at` to `next`.
 pub fn is_repeated(s: &[u8], start: usize, at: usize, next: usize) -> bool
     requires { ⌜ Stand (now s) start at next ⌝ }
@@ -40,7 +30,7 @@ pub fn is_repeated(s: &[u8], start: usize, at: usize, next: usize) -> bool
         if same_bytes(s, place, at, next - at) {
             return true;
         }
-        place = after_record(s, place);
+        place = model_records::after_transition(s, place);
     }
     false
 }

@@ -5,6 +5,7 @@ use mathlib.Core.List.{List}
 use lib.ListN.{length}
 use Rattle.bisimulation.specs.definitions.Automaton.{Automaton}
 use Rattle.rules.specs.definitions.Limits.{limits}
+use Rattle.limits.specs.Sizes as sizes
 use Rattle.rules.specs.definitions.Model.{Entry, automatonOf}
 use Rattle.rules.specs.definitions.Reading.{statesOf, countOf, entryCountAt, afterTransition, entriesAt, modelAt, placeOf}
 use Rattle.rules.specs.definitions.SoundModel.{Each, sumOver, SoundModel}
@@ -24,7 +25,7 @@ pub record Known (s : List ℕ) (n count : ℕ) (table : List ℕ) : Type 0 wher
   pub labels : 8 + n ≤ length s
   pub records : (r : ℕ) → r < count → afterTransition s (placeOf s r) ≤ length s
   pub places : PlacesHeld s (count + 1) table
-  pub size : length table ≡ 257
+  pub size : length table ≡ sizes.places
 
 -- one of its transitions
 pub record KnownTransition (s table : List ℕ) (r : ℕ) : Type 0 where

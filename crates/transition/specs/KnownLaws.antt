@@ -1,6 +1,6 @@
 -- Laws of a sound model and its transitions.
 use Prim.Native.Nat.{ℕ, _+_, _≤_, _<_}
-use mathlib.Core.Path.{_≡_, refl, sym, _∙_, ap, subst}
+use mathlib.Core.Path.{_≡_, sym, _∙_, ap, subst}
 use mathlib.Core.List.{List}
 use lib.ListN.{length, getD}
 use native.Mathlib.Omega.{arith}
@@ -8,8 +8,9 @@ use Rattle.bisimulation.specs.definitions.Prices.{priceOfTargets}
 use Rattle.bisimulation.specs.argument.SumLaws.{sumℤCong}
 use lib.IntN.{ℤ, pos, _*ℤ_}
 use Rattle.rules.specs.definitions.Limits.{limits}
-use Rattle.rules.specs.definitions.Model.{Entry, Transition, noTransition, automatonOf}
-use Rattle.rules.specs.definitions.Reading.{Scan, sound, scanWhole, readWhole, statesOf, countOf, sourceAt, actionAt, denominatorAt, entryCountAt, afterTransition, transitionAt, modelAt, placeOf, readingOf, model}
+use Rattle.limits.specs.Sizes as sizes
+use Rattle.rules.specs.definitions.Model.{Entry, noTransition, automatonOf}
+use Rattle.rules.specs.definitions.Reading.{sound, scanWhole, readWhole, statesOf, countOf, afterTransition, transitionAt, modelAt, placeOf, readingOf}
 use Rattle.rules.specs.argument.ReadingLaws.{Sound, Tells, whole-tells}
 use Rattle.rules.specs.definitions.SoundModel.{Bytes, SoundModel, TransitionRules}
 use Rattle.rules.specs.argument.SoundModelLaws.{each-at, from-along}
@@ -23,7 +24,7 @@ use Rattle.model_records.specs.declared.Fields.{Fields}
 use Rattle.transition.specs.Known.{automatonIn, Known, KnownTransition, FieldsOf, entriesOf, EntriesKnown}
 
 -- what the reader's answer tells
-pub known : (s : List ℕ) (n m count end : ℕ) (table : List ℕ) → Bytes s → sound n m count end ≡ scanWhole limits s → PlacesHeld s (count + 1) table → length table ≡ 257 → Known s n count table
+pub known : (s : List ℕ) (n m count end : ℕ) (table : List ℕ) → Bytes s → sound n m count end ≡ scanWhole limits s → PlacesHeld s (count + 1) table → length table ≡ sizes.places → Known s n count table
 unfolding readWhole readingOf
 known s n m count end table bytes e held size =
     record {
@@ -82,7 +83,7 @@ module _ {s table : List ℕ} {r : ℕ} (t : KnownTransition s table r) where
   pub place-known : getD table r 0 ≡ placeOf s r
   place-known = t .known .places .held r (omega (arith, t .below))
 
-  pub place-in-table : r < length table
+  pub place-in-table : r + 1 < length table
   place-in-table = omega (arith, t .known .size, t .below, few-transitions (t .known))
 
   pub fixed-inside : placeOf s r + 7 ≤ length s

@@ -1,4 +1,3 @@
 pub mod Known
 pub mod KnownLaws
-pub mod Terms
-pub mod TermsLaws
+pub mod Entries

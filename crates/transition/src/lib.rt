@@ -1,8 +1,8 @@
-// A transition of a sound model by its number: its fields, its entries in their order, and a sum with one more term.
+// A transition of a sound model by its number: its fields, and its entries in their order.
 ghost use Prim.Native.Nat.{_+_, _<_};
 ghost use lib.ListN.{length};
 ghost use Rattle.transition.specs.Known.{KnownTransition, FieldsOf};
-ghost use Rattle.transition.specs.Terms.{EntryTaken, Addable, WithTerm};
+ghost use Rattle.transition.specs.Entries.{EntryTaken};
 use field::Cursor;
 use model::Places;
 use model_records::Fields;
@@ -34,12 +34,4 @@ pub fn entry_at(s: &[u8], place: Cursor) -> Entry
         weight: weight.value,
         next,
     }
-}
-
-// A sum with one more term, weight times factor.
-pub fn with_term(sum: i64, weight: usize, factor: i64) -> i64
-    requires { ⌜ Addable sum weight factor ⌝ }
-    ensures { λ r. ⌜ WithTerm sum weight factor r ⌝ }
-{
-    sum + weight as i64 * factor
 }

@@ -3,65 +3,14 @@ ghost use mathlib.Core.Path.{_≡_};
 ghost use lib.ListN.{length};
 ghost use denote.Ref.{ptr};
 ghost use Rattle.rules.specs.definitions.Limits.{limits};
-ghost use Rattle.rules.specs.definitions.Answers.{runAnswer, fetchAnswer};
-ghost use Rattle.answer.specs.Answered.{answered, StretchInside};
-ghost use Rattle.zolkirta.specs.Calls.{FetchAnswered, FetchHandedBack, JudgeAnswered, JudgeHandedBack, ReduceAnswered, ReduceHandedBack};
-ghost use Rattle.zolkirta.specs.Parts.{HandsBack, Reduced};
-ghost use Rattle.merged_model.specs.File.{CanWriteFile};
+ghost use Rattle.rules.specs.definitions.Reading.{headFault};
+ghost use Rattle.rules.specs.definitions.Answers.{writesBlocks, writesMerged, JudgeNumber, ReduceNumber};
+ghost use Rattle.acceptance.specs.Tasks.{followsOf, numbersOf, roomOf};
+ghost use Rattle.zolkirta.specs.Calls.{FetchAnswered, FetchHandedBack, PairAnswered, PairHandedBack};
+use acceptance::Task;
 use answer::Answer;
-use answer::Verdict;
-use fetch::Fetched;
-use model::Places;
-
-fn run_from(start: usize, end: usize) -> Answer
-    ensures { λ r. ⌜ answered r ≡ runAnswer start end ⌝ }
-{
-    if start < end {
-        return Answer {
-            number: 0,
-            file: 0,
-            place: 0,
-            stretch_start: start,
-            stretch_length: end - start,
-            written: 0,
-        };
-    }
-    answer::without_place(0, 0)
-}
-
-// Hands an answer back: the tail of the slice that holds the record at fault, empty where none does, and the numbers beside it.
-fn hand_back<'a>(
-    model: &'a [u8],
-    certificate: &'a [u8],
-    answer: Answer,
-    number: &mut u32,
-    file: &mut u32,
-    place: &mut usize,
-) -> &'a [u8]
-    requires { ⌜ StretchInside (now model) (now certificate) answer ⌝ }
-    ensures { λ r. ⌜ HandsBack (now (model .entry)) (now (certificate .entry)) (ptr (model .entry)) (ptr (certificate .entry)) answer (now (number .exit)) (now (file .exit)) (now (place .exit)) (now r) (ptr r) ⌝ }
-{
-    let start = answer.stretch_start;
-    let size = answer.stretch_length;
-    *number = answer.number;
-    *file = answer.file;
-    *place = answer.place;
-    if answer.file == 2 {
-        return &certificate[start..start + size];
-    }
-    &model[start..start + size]
-}
-
-fn fetch_answer(model: &[u8], state: u32) -> Answer
-    ensures { λ r. ⌜ answered r ≡ fetchAnswer limits (now (model .entry)) state ⌝ }
-{
-    let fetched = fetch::fetch_run(model, state as usize);
-    match fetched {
-        Fetched::Found { start, end } => run_from(start, end),
-        Fetched::NoState => answer::without_place(24, 0),
-        Fetched::Unsound { number, place } => answer::refusal_in(number, 1, place, model.len()),
-    }
-}
+use judgement::Verdict;
+use limits::STATES;
 
 // The part of the model that holds the transitions that leave a state, empty where none leave, or the stretch of a refusal;
 // number, file and place stand beside it.
@@ -74,8 +23,8 @@ pub fn fetch<'a>(
 ) -> &'a [u8]
     ensures { λ r. ⌜ FetchHandedBack (now (model .entry)) (ptr (model .entry)) state (now (number .exit)) (now (file .exit)) (now (place .exit)) (now r) (ptr r) ⌝ }
 {
-    let answer = fetch_answer(model, state);
-    hand_back(model, model, answer, number, file, place)
+    let answer = fetch::fetch_answer(model, state);
+    answer::hand_back(model, model, model, answer, number, file, place)
 }
 
 // The same for C: the run or the stretch by where it starts in the model and how long it is.
@@ -83,90 +32,29 @@ pub fn fetch<'a>(
 pub extern "C" fn zolkirta_fetch(model: &[u8], state: u32) -> Answer
     ensures { λ r. ⌜ FetchAnswered (now (model .entry)) state r ⌝ }
 {
-    fetch_answer(model, state)
+    fetch::fetch_answer(model, state)
 }
 
-fn judge_answer(model: &[u8], certificate: &[u8], blocks: &mut [u8]) -> Answer
-    ensures { λ r. ⌜ JudgeAnswered (now (model .entry)) (now (certificate .entry)) (now (blocks .entry)) (now (blocks .exit)) r ⌝ }
-{
-    let wrong = model_records::head_fault(model);
-    if wrong != 0 {
-        return answer::refusal_in(wrong, 1, 0, model.len());
-    }
-    let mut places = model::no_places();
-    let found = answer::judge_files(model, certificate, &mut places, blocks.len());
-    match found {
-        Verdict::Accepted {
-            states,
-            transitions: _,
-            blocks: at,
-        } => {
-            bytes::copy(&certificate[at..at + states], blocks);
-            answer::without_place(0, states)
-        }
-        Verdict::Refused(answer) => answer,
-    }
-}
-
-// Judges a certificate for a model: hands back the tail of the slice that holds the record at fault, empty where none does;
-// number, file and place stand beside it. Acceptance writes the blocks, one byte a state.
-pub fn judge<'a>(
-    model: &'a [u8],
-    certificate: &'a [u8],
-    blocks: &mut [u8],
-    number: &mut u32,
-    file: &mut u32,
-    place: &mut usize,
-) -> &'a [u8]
-    ensures { λ r. ⌜ JudgeHandedBack (now (model .entry)) (now (certificate .entry)) (now (blocks .entry)) (now (blocks .exit)) (ptr (model .entry)) (ptr (certificate .entry)) (now (number .exit)) (now (file .exit)) (now (place .exit)) (now r) (ptr r) ⌝ }
-{
-    let answer = judge_answer(model, certificate, blocks);
-    hand_back(model, certificate, answer, number, file, place)
-}
-
-// The same for C: the stretch by where it starts in its file and how long it is.
-#[no_mangle]
-pub extern "C" fn zolkirta_judge(model: &[u8], certificate: &[u8], blocks: &mut [u8]) -> Answer
-    ensures { λ r. ⌜ JudgeAnswered (now (model .entry)) (now (certificate .entry)) (now (blocks .entry)) (now (blocks .exit)) r ⌝ }
-{
-    judge_answer(model, certificate, blocks)
-}
-
-// The merged model of an accepted certificate, written if there is room for it.
-fn reduce_accepted(
+// A pair whose model has a good head: the table of places, the judgement, and what follows acceptance, with room for so many blocks.
+fn answer_headed(
+    task: Task,
+    room: usize,
     model: &[u8],
-    n: usize,
-    count: usize,
-    places: &Places,
-    blocks: &[u8],
+    certificate: &[u8],
     out: &mut [u8],
 ) -> Answer
-    requires { ⌜ CanWriteFile (now model) n count (now places) (now blocks) ⌝ }
-    ensures { λ r. ⌜ Reduced (now (model .entry)) (now (blocks .entry)) (now (out .entry)) (now (out .exit)) r ⌝ }
+    requires { ⌜ (headFault limits (now model) .number ≡ 0) × (room ≡ roomOf task (length (now out))) ⌝ }
+    ensures { λ r. ⌜ PairAnswered (followsOf task) (numbersOf task) (now (model .entry)) (now (certificate .entry)) (now (out .entry)) (now (out .exit)) r ⌝ }
 {
-    let room = out.len();
-    let size = merged_model::write_file(model, n, count, places, blocks, out);
-    if room < size {
-        return answer::without_place(23, 0);
-    }
-    answer::without_place(0, size)
-}
-
-fn reduce_answer(model: &[u8], certificate: &[u8], out: &mut [u8]) -> Answer
-    ensures { λ r. ⌜ ReduceAnswered (now (model .entry)) (now (certificate .entry)) (now (out .entry)) (now (out .exit)) r ⌝ }
-{
-    let wrong = model_records::head_fault(model);
-    if wrong != 0 {
-        return answer::refusal_in(wrong, 1, 0, model.len());
-    }
     let mut places = model::no_places();
-    let found = answer::judge_files(model, certificate, &mut places, 64);
+    let found = judgement::judge_files(model, certificate, &mut places, room);
     match found {
         Verdict::Accepted {
             states,
             transitions,
             blocks: at,
-        } => reduce_accepted(
+        } => acceptance::follow(
+            task,
             model,
             states,
             transitions,
@@ -178,8 +66,82 @@ fn reduce_answer(model: &[u8], certificate: &[u8], out: &mut [u8]) -> Answer
     }
 }
 
-// Judges a certificate for a model and writes the model with each block merged into one state; hands back what `judge` does, with
-// the written length beside it, 0 on refusal.
+// The one way in of all calls that judge: the head, and the rest of the pair. Only a call that lends a block buffer limits the blocks. The
+// rest has a large frame and two callers, so it stays out of line, and a refusal at the head needs no such frame.
+fn answer_pair(task: Task, model: &[u8], certificate: &[u8], out: &mut [u8]) -> Answer
+    ensures { λ r. ⌜ PairAnswered (followsOf task) (numbersOf task) (now (model .entry)) (now (certificate .entry)) (now (out .entry)) (now (out .exit)) r ⌝ }
+{
+    let head = model_records::head_fault(model);
+    if head.number != 0 {
+        return answer::refusal_in(head, 1, model.len());
+    }
+    let size = out.len();
+    match task {
+        Task::Blocks => answer_headed(task, size, model, certificate, out),
+        Task::Merged => answer_headed(task, STATES, model, certificate, out),
+    }
+}
+
+// The answer of a call that judges, with its stretch handed back.
+fn hand_back_pair<'a>(
+    task: Task,
+    model: &'a [u8],
+    certificate: &'a [u8],
+    out: &mut [u8],
+    number: &mut u32,
+    file: &mut u32,
+    place: &mut usize,
+    written: &mut usize,
+) -> &'a [u8]
+    ensures { λ r. ⌜ PairHandedBack (followsOf task) (numbersOf task) (now (model .entry)) (now (certificate .entry)) (now (out .entry)) (now (out .exit)) (ptr (model .entry)) (ptr (certificate .entry)) (now (number .exit)) (now (file .exit)) (now (place .exit)) (now (written .exit)) (now r) (ptr r) ⌝ }
+{
+    let answer = answer_pair(task, model, certificate, out);
+    *written = answer.written;
+    answer::hand_back(
+        model,
+        certificate,
+        &model[0..0],
+        answer,
+        number,
+        file,
+        place,
+    )
+}
+
+// Judges a certificate for a model: hands back the tail of the slice that holds the record at fault, empty where none does; number,
+// file, place and the written length, 0 on refusal, stand beside it. Acceptance writes the blocks, one byte a state.
+pub fn judge<'a>(
+    model: &'a [u8],
+    certificate: &'a [u8],
+    blocks: &mut [u8],
+    number: &mut u32,
+    file: &mut u32,
+    place: &mut usize,
+    written: &mut usize,
+) -> &'a [u8]
+    ensures { λ r. ⌜ PairHandedBack writesBlocks JudgeNumber (now (model .entry)) (now (certificate .entry)) (now (blocks .entry)) (now (blocks .exit)) (ptr (model .entry)) (ptr (certificate .entry)) (now (number .exit)) (now (file .exit)) (now (place .exit)) (now (written .exit)) (now r) (ptr r) ⌝ }
+{
+    hand_back_pair(
+        Task::Blocks,
+        model,
+        certificate,
+        blocks,
+        number,
+        file,
+        place,
+        written,
+    )
+}
+
+// The same for C: the stretch by where it starts in its file and how long it is.
+#[no_mangle]
+pub extern "C" fn zolkirta_judge(model: &[u8], certificate: &[u8], blocks: &mut [u8]) -> Answer
+    ensures { λ r. ⌜ PairAnswered writesBlocks JudgeNumber (now (model .entry)) (now (certificate .entry)) (now (blocks .entry)) (now (blocks .exit)) r ⌝ }
+{
+    answer_pair(Task::Blocks, model, certificate, blocks)
+}
+
+// Judges a certificate for a model and writes the model with each block merged into one state; hands back what `judge` does.
 pub fn reduce<'a>(
     model: &'a [u8],
     certificate: &'a [u8],
@@ -189,17 +151,24 @@ pub fn reduce<'a>(
     place: &mut usize,
     written: &mut usize,
 ) -> &'a [u8]
-    ensures { λ r. ⌜ ReduceHandedBack (now (model .entry)) (now (certificate .entry)) (now (out .entry)) (now (out .exit)) (ptr (model .entry)) (ptr (certificate .entry)) (now (number .exit)) (now (file .exit)) (now (place .exit)) (now (written .exit)) (now r) (ptr r) ⌝ }
+    ensures { λ r. ⌜ PairHandedBack writesMerged ReduceNumber (now (model .entry)) (now (certificate .entry)) (now (out .entry)) (now (out .exit)) (ptr (model .entry)) (ptr (certificate .entry)) (now (number .exit)) (now (file .exit)) (now (place .exit)) (now (written .exit)) (now r) (ptr r) ⌝ }
 {
-    let answer = reduce_answer(model, certificate, out);
-    *written = answer.written;
-    hand_back(model, certificate, answer, number, file, place)
+    hand_back_pair(
+        Task::Merged,
+        model,
+        certificate,
+        out,
+        number,
+        file,
+        place,
+        written,
+    )
 }
 
 // The same for C.
 #[no_mangle]
 pub extern "C" fn zolkirta_reduce(model: &[u8], certificate: &[u8], out: &mut [u8]) -> Answer
-    ensures { λ r. ⌜ ReduceAnswered (now (model .entry)) (now (certificate .entry)) (now (out .entry)) (now (out .exit)) r ⌝ }
+    ensures { λ r. ⌜ PairAnswered writesMerged ReduceNumber (now (model .entry)) (now (certificate .entry)) (now (out .entry)) (now (out .exit)) r ⌝ }
 {
-    reduce_answer(model, certificate, out)
+    answer_pair(Task::Merged, model, certificate, out)
 }

@@ -41,10 +41,5 @@ fn run(model: &str, certificate: &str, merged: Option<&String>) -> Result<(), St
 }
 
 fn print_result(refusal: &Refusal) {
-    let file = match refusal.file {
-        Some(File::Model) => 1,
-        Some(_) => 2,
-        None => 0,
-    };
-    println!("result {} {file} {}", refusal.number, refusal.place);
+    println!("result {} {} {}", refusal.number, refusal.file.map_or(0, File::number), refusal.place);
 }

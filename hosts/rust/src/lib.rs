@@ -30,12 +30,38 @@ pub mod raw;
 /// The most states that a model has. A block buffer of this length is always long enough.
 pub const STATES: usize = 64;
 
+/// The bytes of the longest model. An output buffer of this length is always long enough for [`reduce`].
+pub const MODEL: usize = 4936;
+
 /// A file that was handed to a call.
 #[derive(Clone, Copy, Debug, PartialEq, Eq, Hash)]
 #[non_exhaustive]
 pub enum File {
     Model,
     Certificate,
+    /// A file that this crate does not know, by the number that the library gives it.
+    Unknown(u32),
+}
+
+impl File {
+    /// The library's number of the file: 1 model, 2 certificate.
+    pub fn number(self) -> u32 {
+        match self {
+            File::Model => 1,
+            File::Certificate => 2,
+            File::Unknown(number) => number,
+        }
+    }
+}
+
+impl fmt::Display for File {
+    fn fmt(&self, out: &mut fmt::Formatter) -> fmt::Result {
+        match self {
+            File::Model => out.write_str("model"),
+            File::Certificate => out.write_str("certificate"),
+            File::Unknown(number) => write!(out, "unknown file {number}"),
+        }
+    }
 }
 
 /// Why a call did not accept. A refusal writes no byte of any lent buffer.
@@ -60,7 +86,7 @@ pub struct Refusal<'a> {
     pub file: Option<File>,
     /// The byte of that file where the record at fault begins; for bytes left (9 and 22), the first of them. 0 without a file.
     pub place: usize,
-    /// The caller's own bytes of that file from the place to its end. Empty without a file.
+    /// The caller's own bytes of that file from the place to its end. Empty without a file, and for one that this crate does not know.
     pub stretch: &'a [u8],
 }
 
@@ -93,14 +119,14 @@ const MEANINGS: [&str; 25] = [
 ];
 
 impl Refusal<'_> {
-    /// What the number means, in the words of the C header.
+    /// What the number means, in the words of the C header; `unknown number` for one that this crate does not know.
     ///
     /// ```
     /// let refusal = zolkirta::fetch(b"PA\0", 0).unwrap_err();
     /// assert_eq!(refusal.meaning(), "the file ends inside a record");
     /// ```
     pub fn meaning(&self) -> &'static str {
-        MEANINGS[self.number as usize]
+        MEANINGS.get(self.number as usize).copied().unwrap_or("unknown number")
     }
 }
 
@@ -112,8 +138,7 @@ impl fmt::Display for Refusal<'_> {
     fn fmt(&self, out: &mut fmt::Formatter) -> fmt::Result {
         write!(out, "refusal {}: {}", self.number, self.meaning())?;
         match self.file {
-            Some(File::Model) => write!(out, " (model, byte {})", self.place),
-            Some(File::Certificate) => write!(out, " (certificate, byte {})", self.place),
+            Some(file) => write!(out, " ({file}, byte {})", self.place),
             None => Ok(()),
         }
     }
@@ -138,12 +163,13 @@ fn accepted<'a>(answer: raw::Answer, model: &'a [u8], certificate: &'a [u8]) -> 
     if answer.number == 0 {
         return Ok(answer);
     }
-    let (file, bytes) = match answer.file {
+    let (file, stretch) = match answer.file {
         0 => (None, &[][..]),
-        1 => (Some(File::Model), model),
-        _ => (Some(File::Certificate), certificate),
+        1 => (Some(File::Model), &model[answer.place..]),
+        2 => (Some(File::Certificate), &certificate[answer.place..]),
+        unknown => (Some(File::Unknown(unknown)), &[][..]),
     };
-    Err(Refusal { number: answer.number, file, place: answer.place, stretch: &bytes[answer.place..] })
+    Err(Refusal { number: answer.number, file, place: answer.place, stretch })
 }
 
 /// The run of the model's own bytes that holds the transitions that leave `state`, empty where none leave.
@@ -196,7 +222,7 @@ pub fn judge<'a, 'b>(model: &'a [u8], certificate: &'a [u8], buffer: &'b mut [u8
 /// are the merged model's file, and they are what is handed back; the buffer's later bytes stay.
 ///
 /// Refusals: 1 to 9 in the model, 11 to 22 in the certificate, and 23 where the certificate is accepted and the buffer is shorter
-/// than the file. A buffer as long as the model is always enough.
+/// than the file. A buffer as long as the model is always enough, and so is one of [`MODEL`] bytes.
 ///
 /// ```
 /// let (model, certificate) = (b"PA\x02\x01\0\0LB\0\0", b"CT\0\0BK\0\0");
@@ -218,21 +244,61 @@ fn lend<'a, 'b>(call: raw::Lending, model: &'a [u8], certificate: &'a [u8], buff
 
 #[cfg(test)]
 mod tests {
+    use super::*;
+
+    const HEADER: &str = include_str!("../../../include/zolkirta.h");
+
+    fn refusal(number: u32, file: u32, place: usize) -> Refusal<'static> {
+        accepted(raw::Answer { number, file, place, ..raw::Answer::default() }, b"model", b"certificate").unwrap_err()
+    }
+
+    #[test]
+    fn each_file_is_named_by_its_number() {
+        let told = [(0, None), (1, Some(File::Model)), (2, Some(File::Certificate))];
+        let unknown = [3, 4, u32::MAX].map(|file| (file, Some(File::Unknown(file))));
+        for (number, file) in told.into_iter().chain(unknown) {
+            assert_eq!(refusal(1, number, 0).file, file);
+            assert_eq!(file.map_or(0, File::number), number);
+        }
+        assert_eq!([refusal(1, 1, 2).stretch, refusal(11, 2, 4).stretch], [&b"del"[..], b"ificate"]);
+    }
+
+    #[test]
+    fn an_unknown_file_has_no_stretch() {
+        let refusal = refusal(2, 3, 700);
+        assert_eq!((refusal.place, refusal.stretch), (700, &[][..]));
+        assert_eq!(refusal.to_string(), "refusal 2: a record has a wrong mark (unknown file 3, byte 700)");
+    }
+
+    #[test]
+    fn an_unknown_number_is_said() {
+        for number in [25, 26, u32::MAX] {
+            assert_eq!(refusal(number, 0, 0).to_string(), format!("refusal {number}: unknown number"));
+        }
+        assert_eq!(refusal(25, 2, 5).to_string(), "refusal 25: unknown number (certificate, byte 5)");
+    }
+
     /// Every number has the words that its line of the C header has.
     #[test]
     fn meanings_are_those_of_the_header() {
-        let header = std::fs::read_to_string(concat!(env!("CARGO_MANIFEST_DIR"), "/../../include/zolkirta.h")).unwrap();
-        let (_, list) = header.split_once("enum zolkirta_number {").unwrap();
+        let (_, list) = HEADER.split_once("enum zolkirta_number {").unwrap();
         let (list, _) = list.split_once('}').unwrap();
         let mut said = 0;
         for line in list.lines().filter(|line| line.contains(" = ")) {
             let (_, value) = line.split_once(" = ").unwrap();
             let number: usize = value.split(|c: char| !c.is_ascii_digit()).next().unwrap().parse().unwrap();
             if let Some((_, words)) = value.split_once("/* ") {
-                assert_eq!(words.trim_end_matches(" */"), super::MEANINGS[number]);
+                assert_eq!(words.trim_end_matches(" */"), MEANINGS[number]);
                 said += 1;
             }
         }
-        assert_eq!(said, super::MEANINGS.len() - 1);
+        assert_eq!(said, MEANINGS.len() - 1);
+    }
+
+    #[test]
+    fn limits_are_the_headers() {
+        for (name, limit) in [("STATES", STATES), ("MODEL", MODEL)] {
+            assert!(HEADER.contains(&format!("#define ZOLKIRTA_{name} {limit}\n")), "{name}");
+        }
     }
 }

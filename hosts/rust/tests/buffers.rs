@@ -111,6 +111,7 @@ fn long_certificates() {
 fn long_models() {
     let mut counts = Counts::default();
     let largest = largest().0.bytes();
+    assert_eq!(largest.len(), zolkirta::MODEL);
     assert_eq!(fetch(&largest, 63).stretch_length, 4 * 19);
     for more in [1, 65_535, 300_000] {
         let long = [&largest[..], &vec![0; more]].concat();

@@ -5,6 +5,7 @@ use Rattle.bisimulation.specs.definitions.Refutation.{PlainRefutes}
 use Rattle.bisimulation.specs.argument.Duality.{plainDuality}
 use Rattle.bisimulation.specs.argument.Own.{plainOwn}
 use Rattle.bisimulation.specs.argument.Respelled.{plainRespelled}
+use Rattle.bisimulation.specs.argument.Wider.{plainWider}
 
 -- document 01's step rule
 abbrev pub plain : Rule
@@ -15,4 +16,5 @@ plain =
       duality = plainDuality;
       own = plainOwn;
       respelled = plainRespelled;
+      wider = plainWider;
     }

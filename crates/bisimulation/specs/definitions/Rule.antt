@@ -31,6 +31,11 @@ MetRespelled met =
     (A B : Automaton) → SoundAutomaton A → SoundAutomaton B → SameProbabilities A B
     → (W : ℕ → ℕ → Type 0) (q t : ℕ) → q < A .transitions → met A W q t → met B W q t
 
+-- what is met for a relation is met for a wider one
+abbrev pub MetWider : StepRule → Type 1
+MetWider met =
+    (A : Automaton) (W Wide : ℕ → ℕ → Type 0) → ((v u : ℕ) → W v u → Wide v u) → (q t : ℕ) → met A W q t → met A Wide q t
+
 -- a step rule with its price conditions, and what is proved of them
 pub record Rule : Type 1 where
   pub met : StepRule
@@ -38,3 +43,4 @@ pub record Rule : Type 1 where
   pub duality : WeakDuality met refutes
   pub own : MeetsOwn met
   pub respelled : MetRespelled met
+  pub wider : MetWider met

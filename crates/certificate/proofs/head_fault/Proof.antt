@@ -1,75 +1,74 @@
--- `head_fault` meets its contract: each return follows the tests before it through `certificateHeadFault`.
+-- `head_fault` meets its contract: each return is one way out of `certificateHeadFault`.
 use native.Mathlib.Omega.{arith}
-use mathlib.Core.Path.{refl, _∙_}
-use Rattle.rules.specs.definitions.Certificate.{refutationCount, certificateHeadFault}
-use Rattle.bisimulation.specs.argument.ChoiceLaws.{less, notLess, same, notSame}
+use Rattle.rules.specs.definitions.Certificate.{refutationCount}
+use Rattle.rules.specs.definitions.PlainRule.{plainRule}
 use Rattle.field.specs.Taken.{taken-at}
+use Rattle.certificate.specs.HeadLaws.{not-opened, fixed-whole, too-many, stands}
 use borrow.Author.Needs.{needs}
 use Rattle.certificate.proofs.head_fault.Statement.{statement}
 use Rattle.certificate.proofs.head_fault.Tie as tie
 
-refusal-requires : tie.Need-refusal-requires
-refusal-requires c κs = search needs
+open-certificate-requires : tie.Need-open-certificate-requires
+open-certificate-requires c κs = search needs
+
+at-requires : tie.Need-at-requires
+at-requires c κs = search needs
 
 returns : tie.Need-returns
-unfolding certificateHeadFault
-returns c = c .refusal .ensures ∙ less _ (omega arith) refl
+returns c =
+    let opening = c .before .before .before .open-certificate in
+    not-opened plainRule _ (opening .result) (opening .ensures) (c .before .if1 .taken) (c .at .ensures)
 
 new-requires : tie.Need-new-requires
 new-requires c κs = search needs
 
 pair-requires : tie.Need-pair-requires
-pair-requires c κs = search needs
+pair-requires c κs =
+    let opening = c .before .before .before .open-certificate in
+    omega (arith, c .new .ensures, fixed-whole plainRule _ (opening .result) (opening .ensures) (c .before .if1 .left))
 
-refusal-requires-2 : tie.Need-refusal-requires-2
-refusal-requires-2 c κs = search needs
+refusal-requires : tie.Need-refusal-requires
+refusal-requires c κs = search needs
+
+at-requires-2 : tie.Need-at-requires-2
+at-requires-2 c κs = search needs
 
 returns-2 : tie.Need-returns-2
-unfolding certificateHeadFault
-returns-2 c = c .refusal2 .ensures ∙ notLess _ (omega arith) (notSame _ (omega (arith, taken-at (c .before .before .pair .ensures) _ (c .before .before .before .new .ensures))) refl)
-
-refusal-requires-3 : tie.Need-refusal-requires-3
-refusal-requires-3 c κs = search needs
-
-returns-3 : tie.Need-returns-3
-unfolding certificateHeadFault
-returns-3 c = c .refusal3 .ensures ∙ notLess _ (omega arith) (same _ (omega (arith, taken-at (c .before .before .before .pair .ensures) _ (c .before .before .before .before .new .ensures))) (less _ (omega arith) refl))
-
-new-requires-2 : tie.Need-new-requires-2
-new-requires-2 c κs = search needs
-
-pair-requires-2 : tie.Need-pair-requires-2
-pair-requires-2 c κs = search needs
-
-refusal-requires-4 : tie.Need-refusal-requires-4
-refusal-requires-4 c κs = search needs
-
-returns-4 : tie.Need-returns-4
-unfolding certificateHeadFault refutationCount
-returns-4 c = c .refusal4 .ensures ∙ notLess _ (omega arith) (same _ (omega (arith, taken-at (c .before .before .before .before .before .before .pair .ensures) _ (c .before .before .before .before .before .before .before .new .ensures))) (notLess _ (omega arith) (less _ (omega (arith, taken-at (c .before .before .pair2 .ensures) _ (c .before .before .before .new2 .ensures))) refl)))
+unfolding refutationCount
+returns-2 c =
+    let count = c .before .before .before in
+    let past = count .before .before in
+    let opening = past .before .before .open-certificate in
+    too-many plainRule _ (opening .result) (opening .ensures) (past .if1 .left) (count .pair .result .value) (taken-at (count .pair .ensures) _ (count .before .new .ensures))
+    (c .before .refusal .result) (c .at2 .ensures) (c .before .before .if2 .taken) (c .before .refusal .ensures)
 
 none-requires : tie.Need-none-requires
 none-requires c κs = search needs
 
-returns-5 : tie.Need-returns-5
-unfolding certificateHeadFault refutationCount
-returns-5 c = c .none .ensures ∙ notLess _ (omega arith) (same _ (omega (arith, taken-at (c .before .before .before .before .before .before .pair .ensures) _ (c .before .before .before .before .before .before .before .new .ensures))) (notLess _ (omega arith) (notLess _ (omega (arith, taken-at (c .before .before .pair2 .ensures) _ (c .before .before .before .new2 .ensures))) refl)))
+at-requires-3 : tie.Need-at-requires-3
+at-requires-3 c κs = search needs
+
+returns-3 : tie.Need-returns-3
+unfolding refutationCount
+returns-3 c =
+    let count = c .before .before .before in
+    let past = count .before .before in
+    let opening = past .before .before .open-certificate in
+    stands plainRule _ (opening .result) (opening .ensures) (past .if1 .left) (count .pair .result .value) (taken-at (count .pair .ensures) _ (count .before .new .ensures))
+    (c .before .none .result) (c .at3 .ensures) (c .before .before .if2 .left) (c .before .none .ensures)
 
 pub head-fault-spec : {M : Type 1} → statement M
 head-fault-spec =
     tie.close
     (tie.spec
-    refusal-requires
+    open-certificate-requires
+    at-requires
     returns
     new-requires
     pair-requires
-    refusal-requires-2
+    refusal-requires
+    at-requires-2
     returns-2
-    refusal-requires-3
-    returns-3
-    new-requires-2
-    pair-requires-2
-    refusal-requires-4
-    returns-4
     none-requires
-    returns-5)
+    at-requires-3
+    returns-3)

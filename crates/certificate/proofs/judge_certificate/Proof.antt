@@ -1,36 +1,40 @@
 -- `judge_certificate` meets its contract. Before each refutation the rows hold the pairs left (`Refuting`).
 use native.Mathlib.Omega.{arith}
-use Prim.Native.Nat.{ℕ, _+_, _-_}
-use mathlib.Core.Path.{_≡_, refl, sym, _∙_, ap}
-use lib.ListN.{length, drop, length-drop}
+use Prim.Native.Nat.{_+_, _-_}
+use mathlib.Core.Path.{_≡_, refl, _∙_}
+use lib.ListN.{drop, length-drop}
 use lib.Seq.{length-take-le}
+use Rattle.rules.specs.definitions.Certificate.{refutationCount}
+use Rattle.rules.specs.definitions.PlainRule.{plainRule}
 use Rattle.field.specs.Taken.{taken-at}
-use Rattle.rules.specs.definitions.Certificate.{refutationCount, challengerAt, defenderAt, afterRefutation}
-use Rattle.transition.specs.Known.{automatonIn}
-use Rattle.transition.specs.KnownLaws.{few-states, known-states, known-transition, known-transitions}
-use Rattle.certificate.specs.Refuting.{Refuting, head-stops, head-whole, labels-small, labels-hold, refuting-start, refuting-stops, refutes, refuting-passes, refuting-related, refuting-ends}
+use Rattle.transition.specs.KnownLaws.{few-states}
+use Rattle.refutation_prices.specs.PricesJudged.{Tables}
+use Rattle.certificate.specs.Labels.{labels-small, labels-hold}
+use Rattle.certificate.specs.Refuting.{Refuting, head-stops, head-whole, refuting-start, refuting-stops, refuting-passes, refuting-ends}
 use borrow.Author.Needs.{needs}
 use Rattle.certificate.proofs.judge_certificate.Statement.{statement}
 use Rattle.certificate.proofs.judge_certificate.Tie as tie
 
 abbrev Inv-loop : tie.InvT-loop
-Inv-loop s n count places cert wrong rows₀ x₀ y₀ g₀ left₀ at₀ rows x y g left at =
-    Refuting s cert n rows left at × (length x ≡ 64) × (length y ≡ 64) × (length g ≡ 64)
+Inv-loop s n count places cert rows₀ x₀ y₀ g₀ left₀ place₀ rows x y g left place =
+    Refuting plainRule s cert n rows left (place .at) × Tables x y g
 
 abbrev μ-loop : tie.MeasureT-loop
-μ-loop s n count places cert wrong rows₀ x₀ y₀ g₀ left₀ at₀ rows x y g left at = left
+μ-loop s n count places cert rows₀ x₀ y₀ g₀ left₀ place₀ rows x y g left place = left
 
 head-fault-requires : tie.Need-head-fault-requires Inv-loop μ-loop
-head-fault-requires c κs = search needs
+head-fault-requires c κs = tt
 
 returns : tie.Need-returns Inv-loop μ-loop
-returns c = head-stops (c .before .before .before .before .pre) (c .before .head-fault .ensures) (λ z. omega (arith, z, c .if1 .taken)) (omega arith)
+returns c =
+    let head = c .before .before .head-fault in
+    head-stops plainRule _ _ _ (head .result) (head .ensures) (c .if1 .taken)
 
 no-rows-requires : tie.Need-no-rows-requires Inv-loop μ-loop
-no-rows-requires c κs = search needs
+no-rows-requires c κs = tt
 
 add-start : tie.Need-add-start Inv-loop μ-loop
-add-start c = omega (arith, few-states (c .before .before .before .before .before .pre))
+add-start c = omega (arith, few-states (c .before .before .before .before .before .before .pre))
 
 sub-start : tie.Need-sub-start Inv-loop μ-loop
 sub-start c = omega arith
@@ -39,12 +43,13 @@ part-start-start : tie.Need-part-start-start Inv-loop μ-loop
 part-start-start c = omega arith
 
 part-start-end : tie.Need-part-start-end Inv-loop μ-loop
-part-start-end c = omega (arith, c .before .before .before .before .before .pre .labels)
+part-start-end c = omega (arith, c .before .before .before .before .before .before .pre .labels)
 
 start-requires : tie.Need-start-requires Inv-loop μ-loop
 start-requires c κs =
-    let k = c .before .before .before .before .before .before .before .pre in
-    let a = c .before .before .before .before .before .before .before .args in
+    let start = c .before .before .before .before .before .before .before .before in
+    let k = start .pre in
+    let a = start .args in
     let part : 8 + a .n - 8 ≡ a .n = omega arith in (
       few-states k,
       omega (arith, part, k .labels, length-take-le (8 + a .n - 8) (drop 8 (a .s .now)) (omega (arith, part, k .labels, length-drop 8 (a .s .now)))),
@@ -53,62 +58,74 @@ start-requires c κs =
     )
 
 new-requires : tie.Need-new-requires Inv-loop μ-loop
-new-requires c κs = search needs
+new-requires c κs = tt
 
 pair-requires : tie.Need-pair-requires Inv-loop μ-loop
-pair-requires c κs = omega (arith, c .new .ensures, head-whole _ (c .before .before .before .before .before .before .head-fault .ensures) (omega (arith, c .before .before .before .before .before .if1 .left)))
+pair-requires c κs =
+    let past = c .before .before .before .before .before in
+    let head = past .before .before .head-fault in
+    omega (arith, c .new .ensures, head-whole plainRule _ (head .result) (head .ensures .is) (past .if1 .left))
+
+new-requires-2 : tie.Need-new-requires-2 Inv-loop μ-loop
+new-requires-2 c κs = tt
 
 loop-holds : tie.Need-loop-holds Inv-loop μ-loop
 unfolding refutationCount
 loop-holds c =
-    let k = c .before .before .before .before .before .before .before .before .before .before .pre in
-    let a = c .before .before .before .before .before .before .before .before .before .before .args in
+    let past = c .before .before .before .before .before .before .before in
+    let head = past .before .before .head-fault in
+    let start = past .before .before .before .before .before in
+    let a = start .args in
     let part : 8 + a .n - 8 ≡ a .n = omega arith in (
-      refuting-start k (c .before .before .before .before .before .before .before .head-fault .ensures) (omega (arith, c .before .before .before .before .before .before .if1 .left)) (taken-at (c .pair .ensures) _ (c .before .new .ensures)) (labels-hold k _ part (c .before .before .start .ensures)),
-      refl,
-      refl,
-      refl,
+      refuting-start plainRule _ _ _ (head .result) (head .ensures) (past .if1 .left) (taken-at (c .before .pair .ensures) _ (c .before .before .new .ensures)) (c .new2 .ensures)
+          (labels-hold (start .pre) _ part (c .before .before .before .start .ensures)),
+      record { first = refl; second = refl; third = refl },
     )
 
-refutation-fault-requires : tie.Need-refutation-fault-requires Inv-loop μ-loop
-refutation-fault-requires c κs =
-    let i = c .before .before .before .before .before .loop .inv in
-    (c .before .before .before .before .before .before .before .before .before .before .before .before .before .before .before .before .pre, i .0 .inside, i .1, i .2, i .3)
+judge-refutation-requires : tie.Need-judge-refutation-requires Inv-loop μ-loop
+judge-refutation-requires c κs =
+    let l = c .before .before .before .before .before in
+    let start = l .before .before .before .before .before .before .before .before .before .before .before .before .before in
+    (start .pre, l .loop .inv .0 .inside, l .loop .inv .1)
 
 returns-2 : tie.Need-returns-2 Inv-loop μ-loop
-returns-2 c = refuting-stops (c .before .before .before .before .before .before .before .before .before .before .before .before .before .before .before .before .before .before .pre) (c .before .before .before .before .before .before .before .loop .inv .0) (c .before .refutation-fault .ensures) (c .before .before .before .before .before .before .loop-test .taken) (λ z. omega (arith, z, c .if2 .taken))
-
-removed-by-requires : tie.Need-removed-by-requires Inv-loop μ-loop
-removed-by-requires c κs = (c .before .before .before .before .before .before .before .before .before .before .before .before .before .before .before .before .before .before .pre, refutes (c .before .before .before .before .before .before .before .before .before .before .before .before .before .before .before .before .before .before .pre) (c .before .before .before .before .before .before .before .loop .inv .0) (c .before .refutation-fault .ensures) (omega (arith, c .if2 .left)))
+returns-2 c =
+    refuting-stops plainRule _ _ _ (c .before .before .before .before .before .before .before .before .before .loop .inv .0) (c .before .before .before .judge-refutation .ensures) (c .before .before .before .before .before .before .before .before .loop-test .taken) (λ z. omega (arith, z, c .if2 .taken))
 
 remove-requires : tie.Need-remove-requires Inv-loop μ-loop
 remove-requires c κs =
-    let r = c .before .removed-by .ensures in
-    let few = few-states (c .before .before .before .before .before .before .before .before .before .before .before .before .before .before .before .before .before .before .before .before .pre) in
-    (omega (arith, r .first, few), omega (arith, r .second, few))
+    let l = c .before .before .before .before .before .before .before .before .before .before in
+    let start = l .before .before .before .before .before .before .before .before .before .before .before .before .before in
+    let pair = c .before .before .before .before .judge-refutation .ensures .refutes (c .before .if2 .left) in
+    let few = few-states (start .pre) in
+    (omega (arith, pair .first, few), omega (arith, pair .second, few))
 
 sub-left : tie.Need-sub-left Inv-loop μ-loop
-sub-left c = omega (arith, c .before .before .before .before .before .before .before .before .before .loop-test .taken)
+sub-left c =
+    let past = c .before .before .before in
+    omega (arith, past .before .before .before .before .before .before .before .before .loop-test .taken)
 
 loop-less : tie.Need-loop-less Inv-loop μ-loop
-loop-less c = omega (arith, c .before .before .before .before .before .before .before .before .before .loop-test .taken)
+loop-less c =
+    let past = c .before .before .before in
+    omega (arith, past .before .before .before .before .before .before .before .before .loop-test .taken)
 
 loop-again : tie.Need-loop-again Inv-loop μ-loop
 loop-again c =
-    let r = c .before .before .before .before .refutation-fault .ensures in (
-      refuting-passes (c .before .before .before .before .before .before .before .before .before .before .before .before .before .before .before .before .before .before .before .before .before .pre) (c .before .before .before .before .before .before .before .before .before .before .loop .inv .0) r (c .before .before .before .before .before .before .before .before .before .loop-test .taken) (omega (arith, c .before .before .before .if2 .left)) (c .before .before .removed-by .ensures) (c .remove .ensures),
-      r .first,
-      r .second,
-      r .third,
-    )
+    let past = c .before .before .before in
+    let l = past .before .before .before .before .before .before .before .before .before in
+    let start = l .before .before .before .before .before .before .before .before .before .before .before .before .before in
+    let judged = past .before .before .before .judge-refutation .ensures in
+    (refuting-passes plainRule _ _ _ (l .loop .inv .0) judged (past .before .before .before .before .before .before .before .before .loop-test .taken) (past .if2 .left) (few-states (start .pre)) (c .before .remove .ensures), judged .tables)
 
 judge-blocks-requires : tie.Need-judge-blocks-requires Inv-loop μ-loop
 judge-blocks-requires c κs =
-    let g = c .before .before .loop .inv .0 in
-    (c .before .before .before .before .before .before .before .before .before .before .before .before .before .pre, g .inside, refuting-related (c .before .before .before .before .before .before .before .before .before .before .before .before .before .pre) g)
+    let l = c .before .before in
+    let start = l .before .before .before .before .before .before .before .before .before .before .before .before .before in
+    (start .pre, l .loop .inv .0 .inside)
 
 returns-3 : tie.Need-returns-3 Inv-loop μ-loop
-returns-3 c = refuting-ends (c .before .before .before .before .before .before .before .before .before .before .before .before .before .before .pre) (c .before .before .before .loop .inv .0) (omega arith) (c .judge-blocks .ensures)
+returns-3 c = refuting-ends plainRule _ _ _ (c .before .before .before .loop .inv .0) (omega arith) (c .judge-blocks .ensures)
 
 pub judge-certificate-spec : {M : Type 1} → statement M
 judge-certificate-spec =
@@ -126,10 +143,10 @@ judge-certificate-spec =
     start-requires
     new-requires
     pair-requires
+    new-requires-2
     loop-holds
-    refutation-fault-requires
+    judge-refutation-requires
     returns-2
-    removed-by-requires
     remove-requires
     sub-left
     loop-less

@@ -2,7 +2,7 @@
 use mathlib.Core.Path.{refl}
 use denote.Ref.{now}
 use mir.Facts.{toZ-ofZ}
-use Rattle.transition.specs.TermsLaws.{term-is, term-fits}
+use Rattle.signed.specs.TermsLaws.{term-is, term-fits}
 use Rattle.prices.specs.Prices.{priceIn}
 use Rattle.prices.specs.PricesLaws.{price-back, product}
 use borrow.Author.Needs.{needs}

@@ -14,7 +14,7 @@ highest-requires : tie.Need-highest-requires
 highest-requires c κs = search needs
 
 returns-2 : tie.Need-returns-2
-returns-2 c = search needs
+returns-2 c = highest-back (c .highest .ensures)
 
 pub highest-after-spec : {M : Type 1} → statement M
 highest-after-spec = tie.close (tie.spec same-row-requires returns highest-requires returns-2)

@@ -4,7 +4,8 @@ use borrow.Author.Needs.{needs}
 use borrow.Author.Tests.{not-true, not-false}
 use Rattle.transition.specs.KnownLaws.{known-transition}
 use Rattle.entries_k.specs.Taking.{unordered, absent, unasked, nothing}
-use Rattle.entries_k.specs.KEntriesLaws.{tells-wrong, tells-right, asked-by}
+use Rattle.entries_k.specs.KEntriesLaws.{tells-wrong, tells-right}
+use Rattle.entries_k.specs.PlainAsked.{asked-by}
 use Rattle.entries_k.proofs.stands.Statement.{statement}
 use Rattle.entries_k.proofs.stands.Tie as tie
 

@@ -1,5 +1,5 @@
 -- `take_k` meets its contract: the transition arrives, then leaves.
-use Rattle.remainders.specs.MovingLaws.{plus-back, minus-back}
+use Rattle.signed.specs.TermsLaws.{plus-back, minus-back}
 use Rattle.entries_k.specs.KEntriesLaws.{can-arrive, can-leave, took-k}
 use borrow.Author.Needs.{needs}
 use Rattle.entries_k.proofs.take_k.Statement.{statement}

@@ -4,23 +4,22 @@ use native.Mathlib.Omega.{arith}
 use borrow.Author.Tests.{not-true, not-false}
 use Rattle.transition.specs.KnownLaws.{known-transitions}
 use borrow.Author.Needs.{needs}
+use Rattle.rules.specs.definitions.PlainRule.{plainRule}
+use Rattle.entries_k.specs.PlainAsked.{plain-tests}
 use Rattle.entries_k.specs.KEntriesLaws.{TakingKs, ks-start, ks-refused, ks-asks, ks-turn, ks-end, k-read}
 use Rattle.entries_k.proofs.take_ks.Statement.{statement}
 use Rattle.entries_k.proofs.take_ks.Tie as tie
 
 abbrev Inv-loop : tie.InvT-loop
-Inv-loop s count places action cert at entries cells₀ initial left₀ place₀ lowest₀ nonzero₀ cells left place lowest nonzero =
-    TakingKs s cert action at entries cells₀ cells left (place .at) lowest nonzero
+Inv-loop s count places action cert entries remainders₀ initial left₀ place₀ lowest₀ nonzero₀ remainders left place lowest nonzero =
+    TakingKs plainRule s cert action (place₀ .at) entries remainders₀ remainders left (place .at) lowest nonzero
 
 abbrev μ-loop : tie.MeasureT-loop
-μ-loop s count places action cert at entries cells₀ initial left₀ place₀ lowest₀ nonzero₀ cells left place lowest nonzero =
+μ-loop s count places action cert entries remainders₀ initial left₀ place₀ lowest₀ nonzero₀ remainders left place lowest nonzero =
     left
 
-new-requires : tie.Need-new-requires Inv-loop μ-loop
-new-requires c κs = search needs
-
 loop-holds : tie.Need-loop-holds Inv-loop μ-loop
-loop-holds c = ks-start (c .before .before .before .pre) _ (c .new .ensures)
+loop-holds c = ks-start (c .before .before .pre) _
 
 byte-requires : tie.Need-byte-requires Inv-loop μ-loop
 byte-requires c κs = omega arith
@@ -33,7 +32,7 @@ quad-requires c κs = omega arith
 
 stands-requires : tie.Need-stands-requires Inv-loop μ-loop
 stands-requires c κs =
-    let start = c .before .before .before .before .before .before .before .before in
+    let start = c .before .before .before .before .before .before .before in
     record { states = start .pre .states; known = start .pre .known; small = omega arith; other = omega arith }
 
 returns : tie.Need-returns Inv-loop μ-loop
@@ -42,9 +41,9 @@ returns c =
     let at-pair = at-quad .before in
     let at-byte = at-pair .before in
     let turn = at-byte .before .before in
-    let start = turn .before .before .before .before in
+    let start = turn .before .before .before in
     let read = k-read (at-byte .byte .ensures) (at-pair .pair .ensures) (at-quad .quad .ensures) in
-    ks-refused (known-transitions (start .pre .known)) _ (turn .loop .inv) (omega arith) read (c .before .stands .ensures .wrong (not-true _ (c .if1 .taken))) refl
+    ks-refused plain-tests (known-transitions (start .pre .known)) _ (turn .loop .inv) (omega arith) read (c .before .stands .ensures .wrong (not-true _ (c .if1 .taken))) refl
 
 take-k-requires : tie.Need-take-k-requires Inv-loop μ-loop
 take-k-requires c κs =
@@ -52,9 +51,9 @@ take-k-requires c κs =
     let at-pair = at-quad .before in
     let at-byte = at-pair .before in
     let turn = at-byte .before .before in
-    let start = turn .before .before .before .before in
+    let start = turn .before .before .before in
     let read = k-read (at-byte .byte .ensures) (at-pair .pair .ensures) (at-quad .quad .ensures) in
-    ks-asks (known-transitions (start .pre .known)) (turn .loop .inv) read (start .pre .known) (c .before .before .stands .ensures .right (not-false _ (c .before .if1 .left)))
+    ks-asks plain-tests (known-transitions (start .pre .known)) (turn .loop .inv) read (start .pre .known) (c .before .before .stands .ensures .right (not-false _ (c .before .if1 .left)))
 
 mul-lowest : tie.Need-mul-lowest Inv-loop μ-loop
 mul-lowest c = search needs
@@ -77,12 +76,12 @@ loop-again c =
     let at-pair = at-quad .before in
     let at-byte = at-pair .before in
     let turn = at-byte .before .before in
-    let start = turn .before .before .before .before in
+    let start = turn .before .before .before in
     let read = k-read (at-byte .byte .ensures) (at-pair .pair .ensures) (at-quad .quad .ensures) in
-    ks-turn (known-transitions (start .pre .known)) _ (turn .loop .inv) (omega arith) read (start .pre .known) (c .before .before .before .before .stands .ensures .right (not-false _ (c .before .before .before .if1 .left))) (c .before .take-k .ensures) (omega arith) (omega arith)
+    ks-turn plain-tests (known-transitions (start .pre .known)) _ (turn .loop .inv) (omega arith) read (start .pre .known) (c .before .before .before .before .stands .ensures .right (not-false _ (c .before .before .before .if1 .left))) (c .before .take-k .ensures) (omega arith) (omega arith)
 
 returns-2 : tie.Need-returns-2 Inv-loop μ-loop
-returns-2 c = ks-end _ (c .before .loop .inv) (omega arith) refl refl
+returns-2 c = ks-end _ (c .before .loop .inv) (omega arith) refl refl refl
 
 pub take-ks-spec : {M : Type 1} → statement M
 take-ks-spec =
@@ -90,7 +89,6 @@ take-ks-spec =
     (tie.spec
     Inv-loop
     μ-loop
-    new-requires
     loop-holds
     byte-requires
     pair-requires

@@ -8,19 +8,16 @@ use Rattle.entries_w.proofs.take_ws.Statement.{statement}
 use Rattle.entries_w.proofs.take_ws.Tie as tie
 
 abbrev Inv-loop : tie.InvT-loop
-Inv-loop cert at entries n rows d first cells₀ initial target₀ asked left₀ place₀ lowest₀ nonzero₀ target-nonzero₀ cells target left place lowest nonzero target-nonzero =
-    TakingWs cert at entries n rows d first cells₀ cells target₀ target left (place .at) lowest nonzero target-nonzero
+Inv-loop cert entries n rows d layer remainders₀ initial target₀ asked left₀ place₀ lowest₀ nonzero₀ target-nonzero₀ remainders target left place lowest nonzero target-nonzero =
+    TakingWs cert (place₀ .at) entries n rows d layer remainders₀ remainders target₀ target left (place .at) lowest nonzero target-nonzero
 
 abbrev μ-loop : tie.MeasureT-loop
-μ-loop cert at entries n rows d first cells₀ initial target₀ asked left₀ place₀ lowest₀ nonzero₀ target-nonzero₀ cells target left place lowest nonzero target-nonzero =
+μ-loop cert entries n rows d layer remainders₀ initial target₀ asked left₀ place₀ lowest₀ nonzero₀ target-nonzero₀ remainders target left place lowest nonzero target-nonzero =
     left
-
-new-requires : tie.Need-new-requires Inv-loop μ-loop
-new-requires c κs = search needs
 
 loop-holds : tie.Need-loop-holds Inv-loop μ-loop
 loop-holds c =
-    ws-start (c .before .before .pre) _ (c .new .ensures)
+    ws-start (c .before .pre) _
 
 byte-requires : tie.Need-byte-requires Inv-loop μ-loop
 byte-requires c κs = omega arith
@@ -91,7 +88,7 @@ loop-again c =
     (c .before .before .before .take .ensures) (c .before .give .ensures) (omega arith)
 
 returns-2 : tie.Need-returns-2 Inv-loop μ-loop
-returns-2 c = ws-end _ (c .before .loop .inv) (omega arith) refl refl refl
+returns-2 c = ws-end _ (c .before .loop .inv) (omega arith) refl refl refl refl
 
 pub take-ws-spec : {M : Type 1} → statement M
 take-ws-spec =
@@ -99,7 +96,6 @@ take-ws-spec =
     (tie.spec
     Inv-loop
     μ-loop
-    new-requires
     loop-holds
     byte-requires
     byte-requires-2

@@ -1,11 +1,16 @@
 -- `fetch_run` meets its contract: each case of the scan is a case of the answer.
-use Rattle.fetch.specs.Fetched.{walkable, few-states}
+use Rattle.rules.specs.definitions.SoundModel.{Bytes}
+use Rattle.rules.specs.definitions.Bytes.{byteAt}
+use Rattle.transition.specs.KnownLaws.{known, known-own, few-states}
 use Rattle.model.specs.Scanned.{scanOf, PlacesOf}
 use Rattle.model.specs.declared.Scanned.{Scanned}
 use Rattle.rules.specs.argument.AnswerLaws.{fetch-refused, fetch-no-state, fetch-runs}
 use Rattle.rules.specs.argument.ReadingLaws.{head-stops}
 use Rattle.rules.specs.definitions.Answers.{runAnswer}
 use Rattle.rules.specs.definitions.Limits.{limits}
+use Rattle.rules.specs.definitions.Faults.{Fault}
+use Rattle.rules.specs.definitions.Reading.{refused}
+use Rattle.fault.specs.Faults.{faultOf}
 use denote.Ref.{now}
 use mathlib.Core.Path.{sym, _∙_, ap, ap₂, subst}
 use native.Mathlib.Omega.{arith}
@@ -18,13 +23,13 @@ head-fault-requires c κs = search needs
 
 returns : tie.Need-returns
 returns c =
-    let s = now (c .before .before .before .args .s) in fetch-refused limits s _ _ _ (head-stops limits s (c .before .head-fault .ensures) (c .if1 .taken))
+    let s = now (c .before .before .before .before .args .s) in fetch-refused limits s _ _ _ (ap (refused (faultOf (c .before .before .head-fault .result))) (c .before .before .head-fault .ensures .at) ∙ head-stops limits s (c .before .before .head-fault .ensures .is) (c .if1 .taken))
 
 no-places-requires : tie.Need-no-places-requires
 no-places-requires c κs = search needs
 
 scan-whole-requires : tie.Need-scan-whole-requires
-scan-whole-requires c κs = (omega arith, sym (c .before .before .before .head-fault .ensures) ∙ c .before .before .if1 .left)
+scan-whole-requires c κs = (omega arith, ap (λ (f : Fault). f .number) (sym (c .before .before .before .before .head-fault .ensures .is)) ∙ c .before .before .if1 .left)
 
 enum-known-scanned : tie.Need-enum-known-scanned
 enum-known-scanned c = search needs
@@ -33,18 +38,20 @@ returns-2 : tie.Need-returns-2
 returns-2 c =
     let same = c .before .before .scanned .given .1 in
     let told = c .before .before .before .before .scan-whole .ensures in
-    let s = now (c .before .before .before .before .before .before .before .before .before .before .args .s) in
+    let s = now (c .before .before .before .before .before .before .before .before .before .before .before .args .s) in
     let q = sym (ap scanOf same) ∙ told .answer in
     fetch-no-state limits s _ _ _ _ _ q (omega arith)
 
 run-of-requires : tie.Need-run-of-requires
+unfolding Bytes byteAt
 run-of-requires c κs =
     let same = c .before .before .before .scanned .given .1 in
     let told = c .before .before .before .before .before .scan-whole .ensures in
-    let s = now (c .before .before .before .before .before .before .before .before .before .before .before .args .s) in
+    let s = now (c .before .before .before .before .before .before .before .before .before .before .before .before .args .s) in
     let q = sym (ap scanOf same) ∙ told .answer in
     let held = subst (λ (r : Scanned). PlacesOf s (c .before .before .before .before .before .scan-whole .last .1 .0) (scanOf r)) same (told .places) in
-    (omega (arith, few-states s _ _ _ _ q), walkable s _ _ _ _ _ q held)
+    let k = known s _ _ _ _ _ (λ i h. omega (arith, c .before .before .before .before .before .before .before .before .before .before .before .shared-slice-known .given i)) q held (told .size) in
+    (omega (arith, few-states k), known-own k)
 
 enum-known-scanned-2 : tie.Need-enum-known-scanned-2
 enum-known-scanned-2 c = search needs
@@ -53,7 +60,7 @@ returns-3 : tie.Need-returns-3
 returns-3 c =
     let same = c .before .before .before .before .scanned .given .1 in
     let told = c .before .before .before .before .before .before .scan-whole .ensures in
-    let s = now (c .before .before .before .before .before .before .before .before .before .before .before .before .args .s) in
+    let s = now (c .before .before .before .before .before .before .before .before .before .before .before .before .before .args .s) in
     let q = sym (ap scanOf same) ∙ told .answer in
     ap₂ runAnswer (c .run-of .ensures .start) (c .run-of .ensures .end) ∙ fetch-runs limits s _ _ _ _ _ q (omega arith)
 
@@ -61,7 +68,7 @@ returns-4 : tie.Need-returns-4
 returns-4 c =
     let same = c .before .scanned2 .given .1 in
     let told = c .before .before .before .scan-whole .ensures in
-    let s = now (c .before .before .before .before .before .before .before .before .before .args .s) in
+    let s = now (c .before .before .before .before .before .before .before .before .before .before .args .s) in
     let q = sym (ap scanOf same) ∙ told .answer in
     fetch-refused limits s _ _ _ q
 

@@ -1,7 +1,8 @@
 -- `first_not_below` meets its contract. The invariant: the search from here on finds what the whole search finds.
-use Rattle.field.specs.Taken.{taken-at}
+use Rattle.rules.specs.argument.ModelAutomaton.{automaton-source}
+use Rattle.transition.specs.KnownLaws.{known-transition}
 use Rattle.rules.specs.argument.ReadingLaws.{firstNotBelow-turn, firstNotBelow-end}
-use Rattle.rules.specs.definitions.Reading.{sourceAt, placeOf, firstNotBelow}
+use Rattle.rules.specs.definitions.Reading.{firstNotBelow}
 use Rattle.bisimulation.specs.argument.ChoiceLaws.{via, less, notLess}
 use denote.Ref.{now}
 use Prim.Native.Nat.{_+_, _-_}
@@ -24,29 +25,16 @@ sub-ahead c = omega arith
 loop-holds : tie.Need-loop-holds Inv-loop μ-loop
 loop-holds c = (omega arith, refl)
 
-mul-place : tie.Need-mul-place Inv-loop μ-loop
-mul-place c = omega arith
-
-element-copy-out-place : tie.Need-element-copy-out-place Inv-loop μ-loop
-element-copy-out-place c = omega arith
-
-add-new : tie.Need-add-new Inv-loop μ-loop
-add-new c = omega (arith, c .before .before .before .before .pre .1 .places .held (c .before .before .loop .at) (omega arith), c .before .before .before .before .pre .1 .inside (c .before .before .loop .at) (omega arith))
-
-new-requires : tie.Need-new-requires Inv-loop μ-loop
-new-requires c κs = search needs
-
-byte-requires : tie.Need-byte-requires Inv-loop μ-loop
-byte-requires c κs = omega (arith, c .before .before .before .before .before .pre .1 .places .held (c .before .before .before .loop .at) (omega arith), c .before .before .before .before .before .pre .1 .inside (c .before .before .before .loop .at) (omega arith))
+fields-of-requires : tie.Need-fields-of-requires Inv-loop μ-loop
+fields-of-requires c κs = known-transition (c .before .before .before .pre .1) (omega arith)
 
 returns : tie.Need-returns Inv-loop μ-loop
-unfolding sourceAt
 returns c =
-    let l = c .before .before .before .before .before .loop in
-    let s = now (c .before .before .before .before .before .before .before .args .s) in
-    let held = c .before .before .before .before .before .before .before .pre .1 .places .held (l .at) (omega arith) in
-    let read = taken-at (c .before .byte .ensures) (placeOf s (l .at) + 2) (omega arith) in
-    via (firstNotBelow-turn s _ (l .ahead) (l .at) (omega arith)) (notLess _ (omega arith) refl) ∙ l .inv .1
+    let l = c .before .before .before .loop in
+    let s = now (c .before .before .before .before .before .args .s) in
+    let k = c .before .before .before .before .before .pre .1 in
+    let source = automaton-source s (l .at) (omega (arith, k .transitions)) in
+    via (firstNotBelow-turn s _ (l .ahead) (l .at) (omega arith)) (notLess _ (omega (arith, source, c .before .fields-of .ensures .source)) refl) ∙ l .inv .1
 
 add-at : tie.Need-add-at Inv-loop μ-loop
 add-at c = omega arith
@@ -58,13 +46,12 @@ loop-less : tie.Need-loop-less Inv-loop μ-loop
 loop-less c = omega arith
 
 loop-again : tie.Need-loop-again Inv-loop μ-loop
-unfolding sourceAt
 loop-again c =
-    let l = c .before .before .before .before .before .loop in
-    let s = now (c .before .before .before .before .before .before .before .args .s) in
-    let held = c .before .before .before .before .before .before .before .pre .1 .places .held (l .at) (omega arith) in
-    let read = taken-at (c .before .byte .ensures) (placeOf s (l .at) + 2) (omega arith) in
-    (omega arith, via (firstNotBelow-turn s _ (l .ahead) (l .at) (omega arith)) (less _ (omega arith) refl) ∙ l .inv .1)
+    let l = c .before .before .before .loop in
+    let s = now (c .before .before .before .before .before .args .s) in
+    let k = c .before .before .before .before .before .pre .1 in
+    let source = automaton-source s (l .at) (omega (arith, k .transitions)) in
+    (omega arith, via (firstNotBelow-turn s _ (l .ahead) (l .at) (omega arith)) (less _ (omega (arith, source, c .before .fields-of .ensures .source)) refl) ∙ l .inv .1)
 
 returns-2 : tie.Need-returns-2 Inv-loop μ-loop
 returns-2 c =
@@ -74,19 +61,4 @@ returns-2 c =
 pub first-not-below-spec : {M : Type 1} → statement M
 first-not-below-spec =
     tie.close
-    (tie.spec
-    Inv-loop
-    μ-loop
-    sub-ahead
-    loop-holds
-    mul-place
-    element-copy-out-place
-    add-new
-    new-requires
-    byte-requires
-    returns
-    add-at
-    sub-ahead-2
-    loop-less
-    loop-again
-    returns-2)
+    (tie.spec Inv-loop μ-loop sub-ahead loop-holds fields-of-requires returns add-at sub-ahead-2 loop-less loop-again returns-2)

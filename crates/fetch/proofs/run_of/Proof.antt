@@ -1,5 +1,6 @@
 -- `run_of` meets its contract: the two searches find the run's ends, whose places are in the table.
-use Rattle.fetch.specs.Fetched.{Walkable}
+use Rattle.transition.specs.Known.{Known}
+use Rattle.transition.specs.KnownLaws.{few-transitions}
 use Rattle.rules.specs.argument.AnswerLaws.{run-most}
 use Rattle.rules.specs.definitions.Reading.{countOf, placeOf, firstNotBelow, runFirst, runPast, runStart, runEnd}
 use denote.Ref.{now}
@@ -12,7 +13,7 @@ use Rattle.fetch.proofs.run_of.Statement.{statement}
 use Rattle.fetch.proofs.run_of.Tie as tie
 
 -- the two searches find the run's ends, which are transitions of the model or its end
-module _ (s table : List ℕ) (state count : ℕ) (w : Walkable s count table) where
+module _ (s table : List ℕ) (state count : ℕ) {n : ℕ} (w : Known s n count table) where
   first-is : (first : ℕ) → first ≡ firstNotBelow s state (count - 0) 0 → first ≡ runFirst s state
   unfolding runFirst
   first-is first e = let z : count - 0 ≡ countOf s = omega (arith, w .transitions) in e ∙ ap (λ (k : ℕ). firstNotBelow s state k 0) z
@@ -37,16 +38,16 @@ first-not-below-requires-2 : tie.Need-first-not-below-requires-2
 first-not-below-requires-2 c κs = (first-most _ _ _ _ (c .before .before .pre .1) _ (c .first-not-below .ensures), c .before .before .pre .1)
 
 mul-t7 : tie.Need-mul-t7
-mul-t7 c = omega (arith, first-most _ _ _ _ (c .before .before .before .pre .1) _ (c .before .first-not-below .ensures), c .before .before .before .pre .1 .most)
+mul-t7 c = omega (arith, first-most _ _ _ _ (c .before .before .before .pre .1) _ (c .before .first-not-below .ensures), few-transitions (c .before .before .before .pre .1), c .before .before .before .pre .1 .size)
 
 element-copy-out-t10 : tie.Need-element-copy-out-t10
-element-copy-out-t10 c = omega (arith, first-most _ _ _ _ (c .before .before .before .pre .1) _ (c .before .first-not-below .ensures), c .before .before .before .pre .1 .most)
+element-copy-out-t10 c = omega (arith, first-most _ _ _ _ (c .before .before .before .pre .1) _ (c .before .first-not-below .ensures), few-transitions (c .before .before .before .pre .1), c .before .before .before .pre .1 .size)
 
 mul-t11 : tie.Need-mul-t11
-mul-t11 c = omega (arith, past-most _ _ _ _ (c .before .before .before .before .pre .1) _ _ _ (first-is _ _ _ _ (c .before .before .before .before .pre .1) _ (c .before .before .first-not-below .ensures)) (c .before .first-not-below2 .ensures) (omega arith), c .before .before .before .before .pre .1 .most)
+mul-t11 c = omega (arith, past-most _ _ _ _ (c .before .before .before .before .pre .1) _ _ _ (first-is _ _ _ _ (c .before .before .before .before .pre .1) _ (c .before .before .first-not-below .ensures)) (c .before .first-not-below2 .ensures) (omega arith), few-transitions (c .before .before .before .before .pre .1), c .before .before .before .before .pre .1 .size)
 
 element-copy-out-t14 : tie.Need-element-copy-out-t14
-element-copy-out-t14 c = omega (arith, past-most _ _ _ _ (c .before .before .before .before .pre .1) _ _ _ (first-is _ _ _ _ (c .before .before .before .before .pre .1) _ (c .before .before .first-not-below .ensures)) (c .before .first-not-below2 .ensures) (omega arith), c .before .before .before .before .pre .1 .most)
+element-copy-out-t14 c = omega (arith, past-most _ _ _ _ (c .before .before .before .before .pre .1) _ _ _ (first-is _ _ _ _ (c .before .before .before .before .pre .1) _ (c .before .before .first-not-below .ensures)) (c .before .first-not-below2 .ensures) (omega arith), few-transitions (c .before .before .before .before .pre .1), c .before .before .before .before .pre .1 .size)
 
 returns : tie.Need-returns
 unfolding runStart runEnd

@@ -2,166 +2,240 @@
 -- questions of a state, of a state against t, and of the transitions of the run.
 use native.Mathlib.Omega.{arith}
 use Prim.Native.Nat.{_-_, _≤_}
-use mathlib.Core.Path.{_≡_, refl, sym, _∙_, ap, subst}
+use mathlib.Core.Path.{_≡_, sym, _∙_, ap}
 use mathlib.Core.Logic.{⊎-elim}
-use denote.Ref.{now}
+use Rattle.rules.specs.definitions.Faults as rules
+use Rattle.rules.specs.definitions.PlainRule.{plainRule}
+use Rattle.fault.specs.declared.Fault.{Fault}
+use Rattle.field.specs.declared.Cursor.{Cursor}
 use Rattle.transition.specs.Known.{automatonIn}
-use Rattle.transition.specs.KnownLaws.{known-own, known-states, known-transitions, few-states, few-transitions}
-use Rattle.flows.specs.Runs.{Splits}
-use Rattle.flows.specs.RunsLaws.{splits-start, splits-next, end-between}
-use Rattle.flows.specs.Going.{leftStates, leftDefenders, leftRun, Going, Stopped, going-stops, flow-passes, going-passes, going-left, going-ends, stopped, going-at}
+use Rattle.transition.specs.KnownLaws.{known-own, few-states, few-transitions}
+use Rattle.runs.specs.Runs.{Splits}
+use Rattle.runs.specs.RunsLaws.{splits-start, splits-next, end-between}
+use Rattle.flows.specs.Going.{leftStates, leftDefenders, leftRun, Going, going-stops, going-passes, going-left, going-ends, rejected-as, going-at}
 use Rattle.flows.specs.GoingLaws.{going-all, going-state, states-end, going-defender, defenders-end, going-transition, run-ends}
-use borrow.Author.Needs.{needs}
 use Rattle.flows.proofs.judge_flows.Statement.{statement}
 use Rattle.flows.proofs.judge_flows.Tie as tie
 
 abbrev Inv-loop2 : tie.InvT-loop2
-Inv-loop2 s n count places rows cert blocks cells₀ target₀ at₀ number₀ state first past t end r₀ cells target at number r =
-    (first ≤ r) × (r ≤ end) × Going s cert n rows blocks (leftRun s cert n rows blocks state t r end) cells target at number
+Inv-loop2 s n count places rows cert blocks remainders₀ target₀ place₀ wrong₀ state first past t end r₀ remainders target place wrong r =
+    (first ≤ r) × (r ≤ end) × Going plainRule s cert n rows blocks (leftRun plainRule s cert n rows blocks state t r end) remainders target (place .at) (wrong .number)
 
 abbrev μ-loop2 : tie.MeasureT-loop2
-μ-loop2 s n count places rows cert blocks cells₀ target₀ at₀ number₀ state first past t end r₀ cells target at number r =
+μ-loop2 s n count places rows cert blocks remainders₀ target₀ place₀ wrong₀ state first past t end r₀ remainders target place wrong r =
     end - r
 
 abbrev Inv-loop : tie.InvT-loop
-Inv-loop s n count places rows cert blocks cells₀ target₀ at₀ number₀ state first past t₀ cells target at number t =
-    (t ≤ n) × Going s cert n rows blocks (leftDefenders s cert n rows blocks state t) cells target at number
+Inv-loop s n count places rows cert blocks remainders₀ target₀ place₀ wrong₀ state first past t₀ remainders target place wrong t =
+    (t ≤ n) × Going plainRule s cert n rows blocks (leftDefenders plainRule s cert n rows blocks state t) remainders target (place .at) (wrong .number)
 
 abbrev μ-loop : tie.MeasureT-loop
-μ-loop s n count places rows cert blocks cells₀ target₀ at₀ number₀ state first past t₀ cells target at number t =
+μ-loop s n count places rows cert blocks remainders₀ target₀ place₀ wrong₀ state first past t₀ remainders target place wrong t =
     n - t
 
 abbrev Inv-flows : tie.InvT-flows
-Inv-flows s n count places rows cert blocks cells₀ target₀ at₀ number₀ state₀ first₀ cells target at number state first =
-    (state ≤ n) × Splits (automatonIn s) count state first × Going s cert n rows blocks (leftStates s cert n rows blocks state) cells target at number
+Inv-flows s n count places rows cert blocks remainders₀ target₀ place₀ wrong₀ state₀ first₀ remainders target place wrong state first =
+    (state ≤ n) × Splits (automatonIn s) count state first × Going plainRule s cert n rows blocks (leftStates plainRule s cert n rows blocks state) remainders target (place .at) (wrong .number)
 
 abbrev μ-flows : tie.MeasureT-flows
-μ-flows s n count places rows cert blocks cells₀ target₀ at₀ number₀ state₀ first₀ cells target at number state first =
+μ-flows s n count places rows cert blocks remainders₀ target₀ place₀ wrong₀ state₀ first₀ remainders target place wrong state first =
     n - state
 
-no-cells-requires : tie.Need-no-cells-requires Inv-loop2 μ-loop2 Inv-loop μ-loop Inv-flows μ-flows
-no-cells-requires c κs = search needs
+no-remainders-requires : tie.Need-no-remainders-requires Inv-loop2 μ-loop2 Inv-loop μ-loop Inv-flows μ-flows
+no-remainders-requires c κs = tt
 
-no-cells-requires-2 :
-    tie.Need-no-cells-requires-2 Inv-loop2 μ-loop2 Inv-loop μ-loop Inv-flows μ-flows
-no-cells-requires-2 c κs = search needs
+no-remainders-requires-2 : tie.Need-no-remainders-requires-2 Inv-loop2 μ-loop2 Inv-loop μ-loop Inv-flows μ-flows
+no-remainders-requires-2 c κs = tt
 
-add-at : tie.Need-add-at Inv-loop2 μ-loop2 Inv-loop μ-loop Inv-flows μ-flows
-add-at c = omega arith
+add-new : tie.Need-add-new Inv-loop2 μ-loop2 Inv-loop μ-loop Inv-flows μ-flows
+add-new c =
+    let start = c .before .before .before .before in
+    omega (arith, start .pre .1, start .good)
+
+new-requires : tie.Need-new-requires Inv-loop2 μ-loop2 Inv-loop μ-loop Inv-flows μ-flows
+new-requires c κs = tt
+
+none-requires : tie.Need-none-requires Inv-loop2 μ-loop2 Inv-loop μ-loop Inv-flows μ-flows
+none-requires c κs = tt
 
 flows-holds : tie.Need-flows-holds Inv-loop2 μ-loop2 Inv-loop μ-loop Inv-flows μ-flows
 flows-holds c =
-    let k = c .before .before .before .before .pre in
-    (omega arith, splits-start (k .0), going-all (k .0) refl (k .1) (c .before .no-cells .ensures) (c .no-cells2 .ensures))
+    let at-new = c .before in
+    let at-second = at-new .before in
+    let at-first = at-second .before in
+    let start = at-first .before .before .before in (
+      omega arith,
+      splits-start (start .pre .0),
+      going-all (start .pre .0) (at-new .new .ensures) (ap (λ (f : rules.Fault). f .number) (c .none .ensures)) (start .pre .1) (at-first .no-remainders .ensures) (at-second .no-remainders2 .ensures),
+    )
 
 run-past-requires : tie.Need-run-past-requires Inv-loop2 μ-loop2 Inv-loop μ-loop Inv-flows μ-flows
-run-past-requires c κs = (known-own (c .before .before .before .before .before .before .pre .0), c .before .flows .inv .1 .most)
+run-past-requires c κs =
+    let at-flows = c .before in
+    let start = at-flows .before .before .before .before .before .before .before in
+    (known-own (start .pre .0), at-flows .flows .inv .1 .most)
 
 loop-holds : tie.Need-loop-holds Inv-loop2 μ-loop2 Inv-loop μ-loop Inv-flows μ-flows
 loop-holds c =
-    let l = c .before .before .flows in
-    (omega arith, going-state (l .state) (c .before .before .before .before .before .before .before .pre .0) (omega arith) (l .inv .2))
+    let at-flows-test = c .before in
+    let at-flows = at-flows-test .before in
+    let start = at-flows .before .before .before .before .before .before .before in
+    (omega arith, going-state (at-flows .flows .state) (start .pre .0) (omega (arith, at-flows-test .flows-test)) (at-flows .flows .inv .2))
 
 run-end-requires : tie.Need-run-end-requires Inv-loop2 μ-loop2 Inv-loop μ-loop Inv-flows μ-flows
-run-end-requires c κs = (c .before .before .before .before .before .before .before .before .before .pre .1, omega arith, omega arith)
+run-end-requires c κs =
+    let at-flows-test = c .before .before .before in
+    let start = at-flows-test .before .before .before .before .before .before .before .before in
+    (start .pre .1, omega (arith, at-flows-test .flows-test), omega (arith, c .loop-test))
 
 loop2-holds : tie.Need-loop2-holds Inv-loop2 μ-loop2 Inv-loop μ-loop Inv-flows μ-flows
 loop2-holds c =
-    let f = c .before .before .before .before .before .flows in
-    let l = c .before .before .loop in
-    let p = c .before .before .before .run-past .ensures in (
+    let at-loop-test = c .before in
+    let at-loop = at-loop-test .before in
+    let at-past = at-loop .before in
+    let at-flows = at-past .before .before in
+    let start = at-flows .before .before .before .before .before .before .before in
+    let past = at-past .run-past .ensures in (
       omega arith,
-      end-between _ _ _ _ _ _ (c .run-end .ensures) (p .from) .0,
-      going-defender (f .state) (f .first) _ (l .t) _ (c .before .before .before .before .before .before .before .before .before .before .pre .0) (f .inv .1) p (c .run-end .ensures) (omega arith) (l .inv .1),
+      end-between _ _ _ _ _ _ (c .run-end .ensures) (past .from) .0,
+      going-defender (at-flows .flows .state) (at-flows .flows .first) _ (at-loop .loop .t) _ (start .pre .0) (at-flows .flows .inv .1) past (c .run-end .ensures) (omega (arith, at-loop-test .loop-test)) (at-loop .loop .inv .1),
     )
 
-flow-fault-requires :
-    tie.Need-flow-fault-requires Inv-loop2 μ-loop2 Inv-loop μ-loop Inv-flows μ-flows
-flow-fault-requires c κs =
-    let l = c .before .before .before .loop2 in
-    let p = c .before .before .before .before .before .before .before .run-past .ensures in
-    let b = end-between _ _ _ _ _ _ (c .before .before .before .before .run-end .ensures) (p .from) in (
-      c .before .before .before .before .before .before .before .before .before .before .before .before .before .before .pre .0,
-      omega (arith, b, p .most),
-      omega arith,
-      l .inv .2 .inside,
-      l .inv .2 .moves,
-      l .inv .2 .targets,
+judge-flow-requires : tie.Need-judge-flow-requires Inv-loop2 μ-loop2 Inv-loop μ-loop Inv-flows μ-flows
+judge-flow-requires c κs =
+    let at-loop2-test = c .before .before in
+    let at-loop2 = at-loop2-test .before in
+    let at-end = at-loop2 .before in
+    let at-loop-test = at-end .before in
+    let at-past = at-loop-test .before .before in
+    let start = at-past .before .before .before .before .before .before .before .before .before in
+    let past = at-past .run-past .ensures in
+    let between = end-between _ _ _ _ _ _ (at-end .run-end .ensures) (past .from) in
+    let going = at-loop2 .loop2 .inv .2 in (
+      start .pre .0,
+      omega (arith, at-loop2-test .loop2-test, between .1, past .most),
+      omega (arith, at-loop-test .loop-test),
+      going .inside,
+      going .moves,
+      going .targets,
     )
-
-after-flow-requires :
-    tie.Need-after-flow-requires Inv-loop2 μ-loop2 Inv-loop μ-loop Inv-flows μ-flows
-after-flow-requires c κs =
-    let l = c .before .before .before .before .before .loop2 in
-    let g = going-transition (c .before .before .before .before .before .before .before .before .before .before .before .flows .state) (c .before .before .before .before .before .before .before .before .loop .t) (l .r) (c .before .before .before .before .before .before .run-end .result) (omega arith) (l .inv .2) in
-    flow-passes _ _ _ _ _ g (c .before .flow-fault .ensures) (c .before .before .before .before .before .before .before .before .before .before .before .before .before .before .before .before .pre .2) (omega (arith, c .if1 .left))
 
 add-r : tie.Need-add-r Inv-loop2 μ-loop2 Inv-loop μ-loop Inv-flows μ-flows
-add-r c = omega arith
+add-r c =
+    let at-loop2-test = c .before .before .before .before .before .before .before in
+    let at-end = at-loop2-test .before .before in
+    let at-past = at-end .before .before .before in
+    let start = at-past .before .before .before .before .before .before .before .before .before in
+    omega (arith, at-loop2-test .loop2-test, end-between _ _ _ _ _ _ (at-end .run-end .ensures) (at-past .run-past .ensures .from) .1, at-past .run-past .ensures .most, few-transitions (start .pre .0))
 
 loop2-less : tie.Need-loop2-less Inv-loop2 μ-loop2 Inv-loop μ-loop Inv-flows μ-flows
-loop2-less c = omega arith
+loop2-less c =
+    let at-loop2-test = c .before .before .before .before .before .before .before in
+    omega (arith, at-loop2-test .loop2-test)
 
 loop2-again : tie.Need-loop2-again Inv-loop2 μ-loop2 Inv-loop μ-loop Inv-flows μ-flows
 loop2-again c =
-    let l = c .before .before .before .before .before .before .loop2 in
-    let g = going-transition (c .before .before .before .before .before .before .before .before .before .before .before .before .flows .state) (c .before .before .before .before .before .before .before .before .before .loop .t) (l .r) (c .before .before .before .before .before .before .before .run-end .result) (omega arith) (l .inv .2) in (
-      omega arith,
-      omega arith,
-      going-passes _ _ _ _ _ g (c .before .before .flow-fault .ensures) (c .before .before .before .before .before .before .before .before .before .before .before .before .before .before .before .before .before .pre .2) (omega (arith, c .before .if1 .left)) (c .after-flow .ensures),
+    let at-if1 = c .before in
+    let at-judge = at-if1 .before .before .before in
+    let at-loop2-test = at-judge .before .before .before in
+    let at-loop2 = at-loop2-test .before in
+    let at-end = at-loop2 .before in
+    let at-loop = at-end .before .before in
+    let at-flows = at-loop .before .before .before in
+    let asked = going-transition (at-flows .flows .state) (at-loop .loop .t) (at-loop2 .loop2 .r) (at-end .run-end .result) (omega (arith, at-loop2-test .loop2-test)) (at-loop2 .loop2 .inv .2) in (
+      omega (arith, at-loop2 .loop2 .inv .0),
+      omega (arith, at-loop2-test .loop2-test),
+      going-passes _ _ _ _ _ _ asked (at-judge .judge-flow .ensures) (omega (arith, at-if1 .if1 .left)),
     )
 
 add-t : tie.Need-add-t Inv-loop2 μ-loop2 Inv-loop μ-loop Inv-flows μ-flows
-add-t c = omega arith
+add-t c =
+    let at-loop-test = c .before .before .before in
+    let start = at-loop-test .before .before .before .before .before .before .before .before .before .before .before in
+    omega (arith, at-loop-test .loop-test, few-states (start .pre .0))
 
 loop-less : tie.Need-loop-less Inv-loop2 μ-loop2 Inv-loop μ-loop Inv-flows μ-flows
-loop-less c = omega arith
+loop-less c =
+    let at-loop-test = c .before .before .before in
+    omega (arith, at-loop-test .loop-test)
 
 loop-again : tie.Need-loop-again Inv-loop2 μ-loop2 Inv-loop μ-loop Inv-flows μ-flows
 loop-again c =
-    let l = c .before .loop2 in
-    (omega arith, run-ends (c .before .before .before .before .before .before .before .flows .state) (c .before .before .before .before .loop .t) (l .r) (c .before .before .run-end .result) (omega arith) (l .inv .2))
+    let at-loop2 = c .before in
+    let at-end = at-loop2 .before in
+    let at-loop-test = at-end .before in
+    let at-loop = at-loop-test .before in
+    let at-flows = at-loop .before .before .before in
+    (omega (arith, at-loop-test .loop-test), run-ends (at-flows .flows .state) (at-loop .loop .t) (at-loop2 .loop2 .r) (at-end .run-end .result) (omega (arith, c .loop2-test)) (at-loop2 .loop2 .inv .2))
 
 add-state : tie.Need-add-state Inv-loop2 μ-loop2 Inv-loop μ-loop Inv-flows μ-flows
-add-state c = omega arith
+add-state c =
+    let at-flows-test = c .before .before .before in
+    let start = at-flows-test .before .before .before .before .before .before .before .before in
+    omega (arith, at-flows-test .flows-test, few-states (start .pre .0))
 
 flows-less : tie.Need-flows-less Inv-loop2 μ-loop2 Inv-loop μ-loop Inv-flows μ-flows
-flows-less c = omega arith
+flows-less c =
+    let at-flows-test = c .before .before .before in
+    omega (arith, at-flows-test .flows-test)
 
 flows-again : tie.Need-flows-again Inv-loop2 μ-loop2 Inv-loop μ-loop Inv-flows μ-flows
 flows-again c =
-    let f = c .before .before .before .before .flows in
-    let l = c .before .loop in (
-      omega arith,
-      splits-next (c .before .before .before .before .before .before .before .before .before .pre .0) (f .inv .1) (c .before .before .run-past .ensures),
-      defenders-end (f .state) (l .t) (omega arith) (l .inv .1),
+    let at-loop = c .before in
+    let at-past = at-loop .before in
+    let at-flows-test = at-past .before in
+    let at-flows = at-flows-test .before in
+    let start = at-flows .before .before .before .before .before .before .before in (
+      omega (arith, at-flows-test .flows-test),
+      splits-next (start .pre .0) (at-flows .flows .inv .1) (at-past .run-past .ensures),
+      defenders-end (at-flows .flows .state) (at-loop .loop .t) (omega (arith, c .loop-test)) (at-loop .loop .inv .1),
     )
 
 returns : tie.Need-returns Inv-loop2 μ-loop2 Inv-loop μ-loop Inv-flows μ-flows
 returns c =
-    let f = c .before .before .flows in
+    let at-flows-test = c .before .before in
+    let at-flows = at-flows-test .before in
     ⊎-elim
-    (λ x. absurd (omega (arith, c .if2 .taken, x .2, f .inv .2 .none)))
+    (λ x. absurd (c .if2 .taken (ap (λ (f : Fault). f .number) (x .2) ∙ at-flows .flows .inv .2 .none)))
     (λ x.
-    let g = going-transition (f .state) (x .2 .t) (x .5 .r) (x .4 .result) (omega arith) (x .5 .inv .2) in
-    stopped _ _ _ _ _ (going-stops _ _ _ _ _ g (x .9 .ensures) (λ z. omega (arith, z, x .10 .taken))) (x .11) (x .12))
-    (c .before .flows-test .came)
+    let asked = going-transition (at-flows .flows .state) (x .2 .t) (x .5 .r) (x .4 .result) (omega (arith, x .6)) (x .5 .inv .2) in
+    rejected-as _ _ _ _ _ _ (x .14) (going-stops _ _ _ _ _ _ asked (x .9 .ensures) (λ z. c .if2 .taken (ap (λ (f : Fault). f .number) (x .14) ∙ z))))
+    (at-flows-test .flows-test .came)
+
+refusal-requires : tie.Need-refusal-requires Inv-loop2 μ-loop2 Inv-loop μ-loop Inv-flows μ-flows
+refusal-requires c κs = tt
+
+at-requires : tie.Need-at-requires Inv-loop2 μ-loop2 Inv-loop μ-loop Inv-flows μ-flows
+at-requires c κs = tt
 
 returns-2 : tie.Need-returns-2 Inv-loop2 μ-loop2 Inv-loop μ-loop Inv-flows μ-flows
 returns-2 c =
-    let f = c .before .before .before .flows in
+    let at-refusal = c .before in
+    let at-if3 = at-refusal .before in
+    let at-if2 = at-if3 .before .before in
+    let at-flows-test = at-if2 .before .before in
+    let at-flows = at-flows-test .before in
     ⊎-elim
-    (λ x. going-left _ _ _ _ _ (going-at _ _ _ _ _ (x .1) (states-end (f .state) (omega arith) (f .inv .2))) (omega arith) (omega arith))
-    (λ x. absurd (omega (arith, x .10 .taken, x .12, c .before .if2 .left)))
-    (c .before .before .flows-test .came)
+    (λ x.
+    let ended = states-end (at-flows .flows .state) (omega (arith, x .0)) (at-flows .flows .inv .2) in
+    let there = going-at _ _ _ _ _ _ (ap (λ (p : Cursor). p .at) (x .1)) ended in
+    going-left _ _ _ _ _ _ (at-refusal .refusal .result) _ there (omega (arith, at-if3 .if3 .taken)) (at-refusal .refusal .ensures) (c .at .ensures))
+    (λ x. absurd (omega (arith, x .12 .taken, ap (λ (f : Fault). f .number) (x .14), at-if2 .if2 .left)))
+    (at-flows-test .flows-test .came)
 
 returns-3 : tie.Need-returns-3 Inv-loop2 μ-loop2 Inv-loop μ-loop Inv-flows μ-flows
 returns-3 c =
-    let f = c .before .before .before .flows in
+    let at-if2 = c .before .before in
+    let at-flows-test = at-if2 .before .before in
+    let at-flows = at-flows-test .before in
+    let start = at-flows .before .before .before .before .before .before .before in
     ⊎-elim
-    (λ x. going-ends _ _ _ _ _ (going-at _ _ _ _ _ (x .1) (states-end (f .state) (omega arith) (f .inv .2))) (c .before .before .before .before .before .before .before .before .pre .1) (omega arith))
-    (λ x. absurd (omega (arith, x .10 .taken, x .12, c .before .if2 .left)))
-    (c .before .before .flows-test .came)
+    (λ x.
+    let ended = states-end (at-flows .flows .state) (omega (arith, x .0)) (at-flows .flows .inv .2) in
+    let there = going-at _ _ _ _ _ _ (ap (λ (p : Cursor). p .at) (x .1)) ended in
+    going-ends _ _ _ _ _ _ there (start .pre .1) (omega (arith, c .if3 .left)))
+    (λ x. absurd (omega (arith, x .12 .taken, ap (λ (f : Fault). f .number) (x .14), at-if2 .if2 .left)))
+    (at-flows-test .flows-test .came)
 
 pub judge-flows-spec : {M : Type 1} → statement M
 judge-flows-spec =
@@ -173,16 +247,17 @@ judge-flows-spec =
     μ-loop
     Inv-flows
     μ-flows
-    no-cells-requires
-    no-cells-requires-2
-    add-at
+    no-remainders-requires
+    no-remainders-requires-2
+    add-new
+    new-requires
+    none-requires
     flows-holds
     run-past-requires
     loop-holds
     run-end-requires
     loop2-holds
-    flow-fault-requires
-    after-flow-requires
+    judge-flow-requires
     add-r
     loop2-less
     loop2-again
@@ -193,5 +268,7 @@ judge-flows-spec =
     flows-less
     flows-again
     returns
+    refusal-requires
+    at-requires
     returns-2
     returns-3)

@@ -19,22 +19,37 @@ add-size : tie.Need-add-size
 add-size c = omega (arith, blocks-known (c .before .before .before .before .before .before .before .pre) (c .before .before .before .block-count .ensures) .few)
 
 add-size-2 : tie.Need-add-size-2
-add-size-2 c = omega (arith, small (c .before .before .before .before .before .before .before .before .pre) (c .before .before .before .before .block-count .ensures) (c .before .before .write-transitions .ensures) refl)
+add-size-2 c =
+    let records = c .before .before in
+    let blocks = records .before .before in
+    omega (arith, small (blocks .before .before .before .before .pre) (blocks .block-count .ensures) (records .write-transitions .ensures) refl)
 
 slice-aggregate-write-parts : tie.Need-slice-aggregate-write-parts
 slice-aggregate-write-parts c = search needs
 
 write-parts-requires : tie.Need-write-parts-requires
-write-parts-requires c κs = can-write-parts (c .before .before .before .before .before .before .before .before .before .before .before .pre) (c .before .before .before .before .before .before .before .block-count .ensures) (c .before .before .before .before .before .write-transitions .ensures) (omega arith)
+write-parts-requires c κs =
+    let records = c .before .before .before .before .before in
+    let blocks = records .before .before in
+    let start = blocks .before .before .before .before in
+    can-write-parts (start .pre) (blocks .block-count .ensures) (records .write-transitions .ensures) (omega arith)
 
 same-length : tie.Need-same-length
 same-length c = search needs
 
 returns : tie.Need-returns
-returns c = file-written (c .before .before .before .before .before .before .before .before .before .before .before .before .before .before .pre) (c .before .before .before .before .before .before .before .before .before .before .block-count .ensures) (c .before .before .before .before .before .before .before .before .write-transitions .ensures) refl (omega arith) (c .before .before .write-parts .ensures)
+returns c =
+    let records = c .before .before .before .before .before .before .before .before in
+    let blocks = records .before .before in
+    let start = blocks .before .before .before .before in
+    file-written (start .pre) (blocks .block-count .ensures) (records .write-transitions .ensures) refl (omega arith) (c .before .before .write-parts .ensures)
 
 returns-2 : tie.Need-returns-2
-returns-2 c = file-short (c .before .before .before .before .before .before .before .before .before .pre) (c .before .before .before .before .before .block-count .ensures) (c .before .before .before .write-transitions .ensures) refl (omega arith)
+returns-2 c =
+    let records = c .before .before .before in
+    let blocks = records .before .before in
+    let start = blocks .before .before .before .before in
+    file-short (start .pre) (blocks .block-count .ensures) (records .write-transitions .ensures) refl (omega arith)
 
 pub write-file-spec : {M : Type 1} → statement M
 write-file-spec =

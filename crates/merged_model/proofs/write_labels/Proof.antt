@@ -43,7 +43,7 @@ loop-again c =
     (omega arith, omega (arith, b .place, l .inv .1), labels-append _ _ (l .b) (l .inv .2) b (c .before .before .before .label-of .ensures .0))
 
 same-length : tie.Need-same-length Inv-loop μ-loop
-same-length c = search needs
+same-length c = c .before .loop .inv .2 .size
 
 returns : tie.Need-returns Inv-loop μ-loop
 returns c =

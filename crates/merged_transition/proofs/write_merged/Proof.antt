@@ -1,5 +1,6 @@
 -- `write_merged` meets its contract: the fixed fields are those of the transition, and the entries those of the blocks with a weight.
 use native.Mathlib.Omega.{arith}
+use mathlib.Core.Path.{_∙_}
 use Rattle.transition.specs.KnownLaws.{few-states}
 use Rattle.merged_transition.specs.MergedTransitionLaws.{action-small, merging-adds, count-small, merging-writes, merged-done}
 use borrow.Author.Needs.{needs}
@@ -34,7 +35,8 @@ write-entries-requires c κs =
     merging-writes (at-add .before .before .before .before .before .before .before .pre) (at-add .add-weights .ensures) _ _ _ _ (at-fixed .fixed .ensures)
 
 same-length : tie.Need-same-length
-same-length c = search needs
+same-length c =
+    c .before .before .write-entries .ensures .appended .size ∙ c .before .before .before .before .before .before .before .fixed .ensures .size
 
 returns : tie.Need-returns
 returns c =

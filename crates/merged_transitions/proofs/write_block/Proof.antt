@@ -30,7 +30,9 @@ keep-of-block-requires c κs =
     (record { known = p .known; merging = p .merging; block = p .block; none = l .inv .2; large = omega (arith, p .large, l .inv .1); held = l .inv .3 }, c .before .before .loop-test .taken)
 
 add-r : tie.Need-add-r Inv-loop μ-loop
-add-r c = omega (arith, c .before .before .before .before .before .loop-test .taken, few-transitions (c .before .before .before .before .before .before .before .before .before .before .pre .known))
+add-r c =
+    let turn = c .before .before .before .before .before in
+    omega (arith, turn .loop-test .taken, few-transitions (turn .before .before .before .before .before .pre .known))
 
 loop-less : tie.Need-loop-less Inv-loop μ-loop
 loop-less c = omega arith
@@ -41,7 +43,7 @@ loop-again c =
     (omega (arith, c .before .before .before .before .before .loop-test .taken), k .size ∙ c .before .before .before .before .before .before .loop .inv .1, k .none, k .held)
 
 same-length : tie.Need-same-length Inv-loop μ-loop
-same-length c = search needs
+same-length c = c .before .loop .inv .1
 
 returns : tie.Need-returns Inv-loop μ-loop
 returns c =

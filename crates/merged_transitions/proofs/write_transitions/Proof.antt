@@ -31,14 +31,16 @@ write-block-requires c κs =
     record {
       known = p .0;
       merging = p .1;
-      block = c .before .before .loop-test .taken;
+      block = omega (arith, c .before .before .loop-test .taken);
       none = l .inv .2;
       large = omega (arith, p .2, l .inv .1);
       held = l .inv .3;
     }
 
 add-b : tie.Need-add-b Inv-loop μ-loop
-add-b c = omega (arith, c .before .before .before .before .before .loop-test .taken, c .before .before .before .before .before .before .before .before .before .before .before .pre .1 .few)
+add-b c =
+    let turn = c .before .before .before .before .before in
+    omega (arith, turn .loop-test .taken, turn .before .before .before .before .before .before .pre .1 .few)
 
 loop-less : tie.Need-loop-less Inv-loop μ-loop
 loop-less c = omega arith
@@ -49,7 +51,7 @@ loop-again c =
     (omega (arith, c .before .before .before .before .before .loop-test .taken), w .size ∙ c .before .before .before .before .before .before .loop .inv .1, w .none, w .held)
 
 same-length : tie.Need-same-length Inv-loop μ-loop
-same-length c = search needs
+same-length c = c .before .loop .inv .1
 
 returns : tie.Need-returns Inv-loop μ-loop
 returns c =

@@ -1,50 +1,45 @@
--- `labels_fault` meets its contract: each return follows the tests before it through `labelsFault`.
-use Rattle.rules.specs.definitions.Reading.{labelsFault}
-use Rattle.bisimulation.specs.argument.ChoiceLaws.{less, notLess, same, notSame}
-use mathlib.Core.Path.{refl}
-use Rattle.field.specs.Taken.{taken-at}
+-- `labels_fault` meets its contract: the record is opened, then its labels are judged.
 use native.Mathlib.Omega.{arith}
+use mathlib.Core.Path.{_∙_}
+use Rattle.rules.specs.definitions.Faults.{modelRecord}
+use Rattle.rules.specs.argument.FaultLaws.{first-stops, first-passes, model-refuses, opened}
+use Rattle.fault.specs.FaultsLaws.{none-is, placed-as}
+use Rattle.rules.specs.definitions.Reading.{labelsFault}
 use borrow.Author.Needs.{needs}
 use Rattle.model_records.proofs.labels_fault.Statement.{statement}
 use Rattle.model_records.proofs.labels_fault.Tie as tie
 
+add-open-model : tie.Need-add-open-model
+add-open-model c = search needs
+
+open-model-requires : tie.Need-open-model-requires
+open-model-requires c κs = search needs
+
+at-requires : tie.Need-at-requires
+at-requires c κs = search needs
+
 returns : tie.Need-returns
 unfolding labelsFault
-returns c = less _ (omega arith) refl
+returns c = placed-as (c .at .ensures) (first-stops _ _ (c .before .before .before .open-model .ensures) (c .before .if1 .taken))
 
-new-requires : tie.Need-new-requires
-new-requires c κs = search needs
+label-fault-requires : tie.Need-label-fault-requires
+label-fault-requires c κs = omega (arith, opened modelRecord 0x4C42 _ _ 6 model-refuses (none-is (c .before .before .open-model .result) (c .before .before .open-model .ensures) (c .if1 .left)) .whole)
 
-pair-requires : tie.Need-pair-requires
-pair-requires c κs = search needs
+at-requires-2 : tie.Need-at-requires-2
+at-requires-2 c κs = search needs
 
 returns-2 : tie.Need-returns-2
 unfolding labelsFault
-returns-2 c = notLess _ (omega arith) (notSame _ (omega (arith, taken-at (c .before .pair .ensures) _ (c .before .before .new .ensures))) refl)
-
-add-if3 : tie.Need-add-if3
-add-if3 c = search needs
-
-returns-3 : tie.Need-returns-3
-unfolding labelsFault
-returns-3 c = notLess _ (omega arith) (same _ (omega (arith, taken-at (c .before .before .pair .ensures) _ (c .before .before .before .new .ensures))) (less _ (omega arith) refl))
-
-label-fault-requires : tie.Need-label-fault-requires
-label-fault-requires c κs = search needs
-
-returns-4 : tie.Need-returns-4
-unfolding labelsFault
-returns-4 c = notLess _ (omega arith) (same _ (omega (arith, taken-at (c .before .before .before .pair .ensures) _ (c .before .before .before .before .new .ensures))) (notLess _ (omega arith) (c .label-fault .ensures)))
+returns-2 c = placed-as (c .at2 .ensures) (first-passes _ _ (c .before .before .before .before .open-model .ensures) (c .before .before .if1 .left) (c .before .label-fault .ensures))
 
 pub labels-fault-spec : {M : Type 1} → statement M
 labels-fault-spec =
     tie.close
     (tie.spec
+    add-open-model
+    open-model-requires
+    at-requires
     returns
-    new-requires
-    pair-requires
-    returns-2
-    add-if3
-    returns-3
     label-fault-requires
-    returns-4)
+    at-requires-2
+    returns-2)

@@ -1,6 +1,7 @@
 -- `next_related` meets its contract: the next bit of the row.
 use native.Mathlib.Omega.{arith}
 use Rattle.pairs.specs.Rows.{rowBit}
+use Rattle.pairs.specs.RowsLaws.{next-state}
 use borrow.Author.Needs.{needs}
 use Rattle.pairs.proofs.next_related.Statement.{statement}
 use Rattle.pairs.proofs.next_related.Tie as tie
@@ -20,7 +21,7 @@ next-bit-requires c κs = search needs
 
 returns-2 : tie.Need-returns-2
 unfolding rowBit
-returns-2 c = c .next-bit .ensures
+returns-2 c = next-state (c .next-bit .ensures)
 
 pub next-related-spec : {M : Type 1} → statement M
 next-related-spec =

@@ -1,8 +1,4 @@
--- `same_row` meets its contract: equal words have equal bits.
-use Prim.Native.Nat.{ℕ}
-use mathlib.Core.Path.{sym, _∙_, ap}
-use borrow.Author.Tests.{eqb-true}
-use Rattle.pairs.specs.Bits.{bitOf}
+-- `same_row` meets its contract: the rows have the same bits.
 use Rattle.pairs.specs.Rows.{rowBit}
 use borrow.Author.Needs.{needs}
 use Rattle.pairs.proofs.same_row.Statement.{statement}
@@ -26,7 +22,7 @@ same-requires c κs = search needs
 returns : tie.Need-returns
 unfolding rowBit
 returns c =
-    record { alike = λ e i. ap (λ (row : ℕ). bitOf row i) (eqb-true _ _ (sym (c .same .ensures .0) ∙ e)) }
+    record { alike = c .same .ensures .alike }
 
 pub same-row-spec : {M : Type 1} → statement M
 same-row-spec =

@@ -14,7 +14,7 @@ use Rattle.prices.proofs.prices_at.Tie as tie
 
 abbrev Inv-loop : tie.InvT-loop
 Inv-loop s at n out₀ i₀ place₀ out i place =
-    (i ≤ n) × (place .at ≡ at + 4 * i) × HoldsPrices i (λ k. signedAt s (at + 4 * k)) out
+    (place .at ≡ at + 4 * i) × (i ≤ n) × HoldsPrices i (λ k. signedAt s (at + 4 * k)) out
 
 abbrev μ-loop : tie.MeasureT-loop
 μ-loop s at n out₀ i₀ place₀ out i place = n - i
@@ -48,7 +48,7 @@ loop-again c =
       omega arith,
       omega arith,
       rw (toZ-ofZ {w = w64} {z = p .result .value} (record { sfits = omega arith }))
-          (one-more-held _ (l .out) (l .i) (p .result .value) (l .inv .2) (omega arith) (p .ensures .value ∙ ap (signedAt (now (a .s))) (l .inv .1)) (p .ensures .small)),
+          (one-more-held _ (l .out) (l .i) (p .result .value) (l .inv .2) (omega arith) (p .ensures .value ∙ ap (signedAt (now (a .s))) (l .inv .0)) (p .ensures .small)),
     )
 
 returns : tie.Need-returns Inv-loop μ-loop

@@ -7,37 +7,19 @@ use Rattle.programs.proofs.print_blocks.Statement.{statement}
 use Rattle.programs.proofs.print_blocks.Tie as tie
 
 abbrev Inv-loop : tie.InvT-loop
-Inv-loop blocks state₀ t3 t4 state = state ≤ length blocks
+Inv-loop blocks state₀ end state = (state ≤ end) × (end ≤ length blocks)
 
 abbrev μ-loop : tie.MeasureT-loop
-μ-loop blocks state₀ t3 t4 state = length blocks - state
+μ-loop blocks state₀ end state = end - state
 
 loop-holds : tie.Need-loop-holds Inv-loop μ-loop
-loop-holds c = omega arith
+loop-holds c = (omega arith, omega arith)
 
-print-number-requires : tie.Need-print-number-requires Inv-loop μ-loop
-print-number-requires c κs = search needs
+shared-slice-read-print-block : tie.Need-shared-slice-read-print-block Inv-loop μ-loop
+shared-slice-read-print-block c = omega arith
 
-slice-aggregate-print : tie.Need-slice-aggregate-print Inv-loop μ-loop
-slice-aggregate-print c = search needs
-
-print-requires : tie.Need-print-requires Inv-loop μ-loop
-print-requires c κs = search needs
-
-shared-slice-read-print-number : tie.Need-shared-slice-read-print-number Inv-loop μ-loop
-shared-slice-read-print-number c = omega arith
-
-cast-print-number : tie.Need-cast-print-number Inv-loop μ-loop
-cast-print-number c = omega (arith, c .shared-slice-known2 .given (c .before .before .before .before .before .loop .state))
-
-print-number-requires-2 : tie.Need-print-number-requires-2 Inv-loop μ-loop
-print-number-requires-2 c κs = search needs
-
-slice-aggregate-print-2 : tie.Need-slice-aggregate-print-2 Inv-loop μ-loop
-slice-aggregate-print-2 c = search needs
-
-print-requires-2 : tie.Need-print-requires-2 Inv-loop μ-loop
-print-requires-2 c κs = search needs
+print-block-requires : tie.Need-print-block-requires Inv-loop μ-loop
+print-block-requires c κs = search needs
 
 add-state : tie.Need-add-state Inv-loop μ-loop
 add-state c = omega arith
@@ -46,7 +28,7 @@ loop-less : tie.Need-loop-less Inv-loop μ-loop
 loop-less c = omega arith
 
 loop-again : tie.Need-loop-again Inv-loop μ-loop
-loop-again c = omega arith
+loop-again c = (omega arith, omega arith)
 
 returns : tie.Need-returns Inv-loop μ-loop
 returns c = search needs
@@ -58,14 +40,8 @@ print-blocks-spec =
     Inv-loop
     μ-loop
     loop-holds
-    print-number-requires
-    slice-aggregate-print
-    print-requires
-    shared-slice-read-print-number
-    cast-print-number
-    print-number-requires-2
-    slice-aggregate-print-2
-    print-requires-2
+    shared-slice-read-print-block
+    print-block-requires
     add-state
     loop-less
     loop-again

@@ -11,11 +11,11 @@ use Rattle.remainders.proofs.arrive.Statement.{statement}
 use Rattle.remainders.proofs.arrive.Tie as tie
 
 abbrev Inv-loop : tie.InvT-loop
-Inv-loop s places r factor first cells₀ nonzero left₀ next₀ now-nonzero₀ cells left next now-nonzero =
-    Arriving s (entriesOf s r) (toZ w64 factor) first cells₀ cells left (next .at) now-nonzero
+Inv-loop s places r factor first remainders₀ nonzero left₀ next₀ now-nonzero₀ remainders left next now-nonzero =
+    Arriving s (entriesOf s r) (toZ w64 factor) first remainders₀ remainders left (next .at) now-nonzero
 
 abbrev μ-loop : tie.MeasureT-loop
-μ-loop s places r factor first cells₀ nonzero left₀ next₀ now-nonzero₀ cells left next now-nonzero =
+μ-loop s places r factor first remainders₀ nonzero left₀ next₀ now-nonzero₀ remainders left next now-nonzero =
     left
 
 fields-of-requires : tie.Need-fields-of-requires Inv-loop μ-loop

@@ -1,5 +1,5 @@
 -- `give` meets its contract.
-use Rattle.remainders.specs.MovingLaws.{plus-back}
+use Rattle.signed.specs.TermsLaws.{plus-back}
 use borrow.Author.Needs.{needs}
 use Rattle.remainders.proofs.give.Statement.{statement}
 use Rattle.remainders.proofs.give.Tie as tie

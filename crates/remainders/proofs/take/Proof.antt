@@ -1,5 +1,5 @@
 -- `take` meets its contract.
-use Rattle.remainders.specs.MovingLaws.{minus-back}
+use Rattle.signed.specs.TermsLaws.{minus-back}
 use borrow.Author.Needs.{needs}
 use Rattle.remainders.proofs.take.Statement.{statement}
 use Rattle.remainders.proofs.take.Tie as tie

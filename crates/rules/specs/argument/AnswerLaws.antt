@@ -8,6 +8,7 @@ use native.Mathlib.Omega.{arith}
 use Rattle.bisimulation.specs.argument.ChoiceLaws.{via, less, notLess, eitherLess}
 use Rattle.rules.specs.definitions.Limits.{Limits}
 use Rattle.rules.specs.definitions.Model.{Model}
+use Rattle.rules.specs.definitions.Faults.{Fault}
 use Rattle.rules.specs.definitions.Reading.{model, Scan, sound, refused, scanWhole, statesOf, countOf, modelAt, readingOf, readWhole, placeOf, sourceAt, firstNotBelow, runFirst, runPast, runStart, runEnd}
 use Rattle.rules.specs.argument.ReadingLaws.{Sound, Tells, whole-tells}
 use Rattle.rules.specs.definitions.Answers.{Answer, refusalIn, answerWithoutPlace, runAnswer, fetchReading, fetchAnswer, FetchNumber}
@@ -18,9 +19,9 @@ unfolding modelAt
 labels-length s h = simp (length-take, length-drop) (omega arith)
 
 -- what a fetch answers, by what the scan of the file is
-pub fetch-refused : (L : Limits) (s : List ℕ) (state number place : ℕ) → refused number place ≡ scanWhole L s → refusalIn number 1 place (length s) ≡ fetchAnswer L s state
+pub fetch-refused : (L : Limits) (s : List ℕ) (state : ℕ) (f : Fault) (place : ℕ) → refused f place ≡ scanWhole L s → refusalIn f 1 place (length s) ≡ fetchAnswer L s state
 unfolding fetchAnswer fetchReading readWhole readingOf
-fetch-refused L s state number place q = ap (λ (scan : Scan). fetchReading s state (readingOf s scan)) q
+fetch-refused L s state f place q = ap (λ (scan : Scan). fetchReading s state (readingOf s scan)) q
 
 module _ (L : Limits) (s : List ℕ) (state n m count end : ℕ) (q : sound n m count end ≡ scanWhole L s) where
   told : Sound L s n m count end
@@ -74,7 +75,19 @@ fetch-number L s state = go (scanWhole L s) (whole-tells L s)
         eitherLess (λ (a : Answer). FetchNumber (a .number)) state (length (modelAt s .labels))
         (eitherLess (λ (a : Answer). FetchNumber (a .number)) (runStart s state) (runEnd s state) (inl (omega arith)) (inl (omega arith)))
         (inr refl)
-    go (refused number place) t = inl (t .known)
+    go (refused f place) t = inl (t .known)
+
+-- it names the model or no file
+pub fetch-file : (L : Limits) (s : List ℕ) (state : ℕ) → fetchAnswer L s state .file ≤ 1
+unfolding fetchAnswer fetchReading readWhole readingOf refusalIn runAnswer answerWithoutPlace
+fetch-file L s state = go (scanWhole L s)
+  where
+    go : (scan : Scan) → fetchReading s state (readingOf s scan) .file ≤ 1
+    go (sound n m count end) =
+        eitherLess (λ (a : Answer). a .file ≤ 1) state (length (modelAt s .labels))
+        (eitherLess (λ (a : Answer). a .file ≤ 1) (runStart s state) (runEnd s state) (omega arith) (omega arith))
+        (omega arith)
+    go (refused f place) = omega arith
 
 -- its stretch or run lies in the file
 pub fetch-inside : (L : Limits) (s : List ℕ) (state : ℕ) → fetchAnswer L s state .stretchStart + fetchAnswer L s state .stretchLength ≤ length s
@@ -92,15 +105,7 @@ fetch-inside L s state = go (scanWhole L s) (whole-tells L s)
         eitherLess Inside state (length (modelAt s .labels))
         (eitherLess Inside (placeOf s (runFirst s state)) (placeOf s (runPast s state)) (omega arith) (omega arith))
         (omega arith)
-    go (refused number place) t = omega (arith, t .inside)
-
--- a refusal in the model that a fetch answers: its number is small, and its place in the file
-pub fetch-refusal : (L : Limits) (s : List ℕ) (state number place : ℕ) → refusalIn number 1 place (length s) ≡ fetchAnswer L s state → (number ≤ 24) × (place ≤ length s)
-unfolding refusalIn FetchNumber
-fetch-refusal L s state number place q = (
-  ⊎-elim (λ h. omega (arith, ap (λ (a : Answer). a .number) q)) (λ h. omega (arith, ap (λ (a : Answer). a .number) q)) (fetch-number L s state),
-  omega (arith, ap (λ (a : Answer). a .stretchStart) q, ap (λ (a : Answer). a .stretchLength) q, fetch-inside L s state),
-)
+    go (refused f place) t = omega (arith, t .inside)
 
 -- what is read is the model in the bytes
 pub read-model : (L : Limits) (s : List ℕ) {N : Model} {end : ℕ} → readWhole L s ≡ model N end → N ≡ modelAt s
@@ -109,7 +114,7 @@ read-model L s {N} {end} e = go (scanWhole L s) e
   where
     go : (scan : Scan) → readingOf s scan ≡ model N end → N ≡ modelAt s
     go (sound n m count last) q = cc
-    go (refused number place) q = let z : _≡_ {A = ℕ} 0 1 = cc in absurd (omega arith)
+    go (refused f place) q = let z : _≡_ {A = ℕ} 0 1 = cc in absurd (omega arith)
 
 -- the states of what is read are those of the head
 pub read-states : (L : Limits) (s : List ℕ) {N : Model} {end : ℕ} → readWhole L s ≡ model N end → length (N .labels) ≡ statesOf s
@@ -120,4 +125,4 @@ read-states L s {N} {end} e = go (scanWhole L s) (whole-tells L s) e
     go (sound n m count last) t q =
         let same : modelAt s ≡ N = cc in
         ap (λ (x : Model). length (x .labels)) (sym same) ∙ labels-length s (omega (arith, t .states, t .labels))
-    go (refused number place) t q = let z : _≡_ {A = ℕ} 0 1 = cc in absurd (omega arith)
+    go (refused f place) t q = let z : _≡_ {A = ℕ} 0 1 = cc in absurd (omega arith)

@@ -16,10 +16,11 @@ use Rattle.bisimulation.specs.definitions.Automaton.{Automaton}
 use Rattle.bisimulation.specs.definitions.Pairs.{Pairs}
 use Rattle.rules.specs.definitions.Bytes.{byteAt, twoAt, twoBytes}
 use Rattle.rules.specs.argument.Standing.{Stands, IsBytes, stands-first, mark-stands, after-two, rest-of-two, two-is}
-use Rattle.rules.specs.definitions.Certificate.{fault, noFault, blocksAt, numberedFault, sameBlock, agree, pairsFault, blocksFault}
+use Rattle.rules.specs.definitions.Certificate.{blocksAt, numberedFault, sameBlock, agree, pairsFault, blocksFault}
+use Rattle.rules.specs.definitions.Faults.{fault, noFault, certificateRecord}
 use Rattle.rules.specs.definitions.Encoding.{blocksBytes}
 use Rattle.rules.specs.definitions.Accepted.{GoodBlocks}
-use Rattle.rules.specs.argument.RefutationRecords.{no-fault, none-first, first-none}
+use Rattle.rules.specs.argument.FaultLaws.{no-fault, none-first, first-none, certificate-refuses, opened, opens}
 
 -- b appears among the first k bytes from a place on
 pub record Appears (C : List ℕ) (start k b : ℕ) : Type 0 where
@@ -133,12 +134,11 @@ module _ (A : Automaton) (C : List ℕ) (R : Pairs) (at : ℕ) where
   passed : noFault ≡ blocksFault A C R at → Passed
   unfolding blocksFault pairsFault
   passed e =
-      let a = pastLess (fault 11) _ (length C) (at + 2) (no-fault 10) e in
-      let b = keptSame _ (fault 12) (twoAt C at) 0x424B (no-fault 11) (a .1) in
-      let c = pastLess (fault 11) _ (length C) (at + 2 + A .states) (no-fault 10) (b .1) in
-      let d = none-first _ _ (c .1) in
+      let a = none-first _ _ e in
+      let b = opened certificateRecord 0x424B (2 + A .states) C at certificate-refuses (a .0) in
+      let d = none-first _ _ (a .1) in
       let f = keptTrue _ (fault 18) _ (no-fault 17) (d .1) in
-      record { mark = b .0; whole = c .0; numbered = d .0; pairs = f .0 }
+      record { mark = b .marked; whole = omega (arith, b .whole); numbered = d .0; pairs = f .0 }
 
   pub blocks-good : noFault ≡ blocksFault A C R at → GoodBlocks A R (blocksAt A C at)
   unfolding sameBlock
@@ -191,15 +191,13 @@ module _ (A : Automaton) (C : List ℕ) (R : Pairs) (at : ℕ) where
     pub blocks-pass : noFault ≡ blocksFault A C R at
     unfolding blocksFault pairsFault sameBlock
     blocks-pass =
-        notLess _ (omega (arith, blocks-whole))
-        (same _ mark-read
-        (notLess _ blocks-whole
+        first-none _ _ (opens certificateRecord 0x424B (2 + A .states) C at (omega arith) mark-read (omega (arith, blocks-whole)))
         (first-none _ _
         (subst (λ (k : ℕ). noFault ≡ numberedFault C (A .states) k 0) (zero-more (at + 2))
         (appear-numbered C (at + 2) (A .states) 0 0 (λ u h. absurd (omega arith)) appear))
         (isTrue _
         (below-all (A .states) _ (λ v h. below-all (A .states) _ (λ u l. iff-agree _ _ (R v u) (shared v u h l))))
-        refl))))
+        refl))
       where
         zero-more : (k : ℕ) → k + 0 ≡ k
         zero-more k = omega arith

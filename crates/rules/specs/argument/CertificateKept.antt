@@ -7,16 +7,18 @@ use native.Mathlib.Omega.{arith}
 use Rattle.bisimulation.specs.argument.ChoiceLaws.{notLess, same, pastLess, keptSame}
 use Rattle.bisimulation.specs.definitions.Automaton.{Automaton}
 use Rattle.bisimulation.specs.definitions.Pairs.{Pairs, equalLabels, removed}
-use Rattle.rules.specs.definitions.AnyRule.{Decides, Narrow}
+use Rattle.rules.specs.argument.AnyRule.{Decides, Narrow}
 use Rattle.rules.specs.definitions.Limits.{Limits}
 use Rattle.rules.specs.definitions.Bytes.{twoAt, twoBytes}
 use Rattle.rules.specs.argument.Standing.{Stands, IsBytes, stands-nothing, stands-all, stands-is, stands-both, stands-first, stands-second, stands-at, mark-stands, after-two, rest-of-two, two-is, length-two}
-use Rattle.rules.specs.definitions.Certificate.{Fault, fault, noFault, FileRule, refutationCount, certificateHeadFault, afterRefutation, pairsAfter, blocksAt, afterFlow}
+use Rattle.rules.specs.definitions.Certificate.{FileRule, refutationCount, certificateHeadFault, afterRefutation, pairsAfter, blocksAt, afterFlow}
+use Rattle.rules.specs.definitions.Faults.{Fault, fault, noFault, certificateRecord}
 use Rattle.rules.specs.definitions.Judging.{Judgement, accepted, rejected, rejectAt, Question, questions, judgeFlows, judgeBlocks, judgeRefutations, judgeCertificate}
 use Rattle.rules.specs.definitions.Encoding.{Refutation, FlowRecord, Certificate, listBytes, refutationBytes, blocksBytes, flowBytes, certificateBytes}
 use Rattle.rules.specs.definitions.Accepted.{RuleSays, Kept, GoodRefutations, done, refute, GoodBlocks, GoodFlows, KeepsRules}
 use Rattle.rules.specs.argument.QuestionsLaws.{questions-asked, questions-only}
-use Rattle.rules.specs.argument.RefutationRecords.{no-fault, refutationAt, refutation-good, refutation-stands, refutation-after, challenger-read, defender-read, after-read, refutation-passes}
+use Rattle.rules.specs.argument.RefutationRecords.{refutationAt, refutation-good, refutation-stands, refutation-after, challenger-read, defender-read, after-read, refutation-passes}
+use Rattle.rules.specs.argument.FaultLaws.{no-fault, none-first, first-none, certificate-refuses, opened, opens}
 use Rattle.rules.specs.argument.BlocksRecord.{blocks-good, blocks-stand, blocks-read, blocks-pass}
 use Rattle.rules.specs.argument.FlowRecords.{flowRecordAt, flow-good, flow-stands, flow-after, flow-end, flow-passes}
 
@@ -180,11 +182,10 @@ module _ (L : Limits) (file : FileRule) (says : RuleSays) (decides : Decides fil
   head-passed : noFault ≡ certificateHeadFault L file C → HeadPassed
   unfolding certificateHeadFault
   head-passed e =
-      let a = pastLess (fault 11) _ (length C) 2 (no-fault 10) e in
-      let b = keptSame _ (fault 12) (twoAt C 0) (file .mark) (no-fault 11) (a .1) in
-      let c = pastLess (fault 11) _ (length C) 4 (no-fault 10) (b .1) in
-      let d = pastLess (fault 13) _ (L .refutations) (refutationCount C) (no-fault 12) (c .1) in
-      record { mark = b .0; whole = c .0; few = d .0 }
+      let a = none-first _ _ e in
+      let b = opened certificateRecord (file .mark) 4 C 0 certificate-refuses (a .0) in
+      let d = pastLess (fault 13) _ (L .refutations) (refutationCount C) (no-fault 12) (a .1) in
+      record { mark = b .marked; whole = b .whole; few = d .0 }
 
   -- accepted, so kept
   pub accepted-kept : IsBytes C → (blocks : List ℕ) → accepted blocks ≡ judgeCertificate L file A C → Kept L says (file .mark) A C blocks
@@ -237,7 +238,7 @@ module _ (L : Limits) (file : FileRule) (says : RuleSays) (decides : Decides fil
       let mark : twoAt C 0 ≡ file .mark = two-is C 0 (file .mark) small (stands-first C 0 (twoBytes (file .mark)) _ whole) in
       let count : twoAt C 2 ≡ length (K .refutations) = two-is C 2 (length (K .refutations)) (omega (arith, keeps .few)) (stands-first C 2 (twoBytes (length (K .refutations))) _ second) in
       go-on (K .blocks) _ 0 _
-      (notLess _ (omega (arith, body .inside)) (same _ mark (notLess _ (omega (arith, body .inside)) (notLess _ (omega (arith, keeps .few)) refl))))
+      (first-none _ _ (opens certificateRecord (file .mark) 4 C 0 (omega arith) mark (omega (arith, body .inside))) (notLess _ (omega (arith, keeps .few)) refl))
       (subst (λ (n : ℕ). accepted (K .blocks) ≡ judgeRefutations L file A C n (equalLabels A) 4) (sym count)
       (refutations-accepted (K .blocks) (equalLabels A) (keeps .left) (K .refutations) 4 (keeps .refutations)
       (stands-first C 4 (listBytes refutationBytes (K .refutations)) _ body)

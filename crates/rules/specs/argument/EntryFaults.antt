@@ -7,8 +7,9 @@ use Rattle.bisimulation.specs.argument.ChoiceLaws.{pastLess, keptLess, keptTrue
 use Rattle.bisimulation.specs.definitions.Automaton.{Automaton}
 use Rattle.bisimulation.specs.definitions.Pairs.{Pairs}
 use Rattle.rules.specs.definitions.Bytes.{byteAt, twoAt, threeAt, fourAt}
-use Rattle.rules.specs.definitions.Certificate.{fault, noFault, FileRule, kFault, wFault}
-use Rattle.rules.specs.argument.RefutationRecords.{no-fault}
+use Rattle.rules.specs.definitions.Certificate.{FileRule, kFault, wFault}
+use Rattle.rules.specs.definitions.Faults.{fault, noFault}
+use Rattle.rules.specs.argument.FaultLaws.{no-fault}
 
 -- of a k entry
 pub record PassedK (rule : FileRule) (A : Automaton) (C : List ℕ) (q t left at lowest : ℕ) : Type 0 where

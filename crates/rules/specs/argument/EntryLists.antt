@@ -6,7 +6,7 @@ use mathlib.Core.List.{List, [], _∷_}
 use lib.ListN.{length, length-append}
 use native.Mathlib.Omega.{arith}
 use Rattle.rules.specs.argument.Standing.{Stands, stands-nothing, stands-both, stands-first, stands-second, stands-at}
-use Rattle.rules.specs.definitions.Certificate.{Fault, noFault}
+use Rattle.rules.specs.definitions.Faults.{Fault, noFault}
 use Rattle.rules.specs.definitions.Encoding.{listBytes}
 use Rattle.rules.specs.definitions.Accepted.{Ascends, end, next}
 use Rattle.rules.specs.definitions.SoundModel.{Each}

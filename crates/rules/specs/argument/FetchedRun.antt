@@ -12,18 +12,13 @@ use Rattle.rules.specs.definitions.Limits.{Limits}
 use Rattle.rules.specs.definitions.Model.{Transition, transitionBytes, transitionsBytes, headBytes, labelsBytes, modelBytes, noTransition, Model}
 use Rattle.rules.specs.definitions.SoundModel.{Along, Bytes, SoundModel}
 use Rattle.rules.specs.argument.ReadBack.{transitionBytes-length}
-use Rattle.rules.specs.definitions.Reading.{statesOf, countOf, sourceAt, entryCountAt, afterTransition, entriesAt, transitionAt, transitionsAt, modelAt, placeOf, firstNotBelow, runFirst, runPast, runStart, runEnd, Scan, sound, refused, scanWhole, Reading, model, noModel, readingOf, readWhole}
+use Rattle.rules.specs.definitions.Reading.{leavingState, statesOf, countOf, sourceAt, entryCountAt, afterTransition, entriesAt, transitionAt, transitionsAt, modelAt, placeOf, firstNotBelow, runFirst, runPast, runStart, runEnd, Scan, sound, refused, scanWhole, Reading, model, noModel, readingOf, readWhole}
 use Rattle.rules.specs.argument.ReadingLaws.{Tells, whole-tells}
 use Rattle.rules.specs.argument.ReadSound.{read-whole-sound}
 use Rattle.rules.specs.definitions.Answers.{answerWithoutPlace, stretchIn, runAnswer, fetchReading, fetchAnswer}
 use Rattle.rules.specs.definitions.Bytes.{twoBytes}
 use Rattle.rules.specs.argument.AnswerLaws.{labels-length, firstNotBelow-most}
 use Rattle.rules.specs.argument.ModelAutomaton.{transition-is, length-transitionsAt}
-
--- 'the transitions that leave a state'
-unfoldable pub leavingState : ℕ → List Transition → List Transition
-leavingState state [] = []
-leavingState state (t ∷ ts) = ifSame (t .source) state (t ∷ []) [] ++ leavingState state ts
 
 -- a file whose records follow each other, with sources that never descend
 pub record Follows (s : List ℕ) (count : ℕ) : Type 0 where

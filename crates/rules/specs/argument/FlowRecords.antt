@@ -10,16 +10,17 @@ use Rattle.bisimulation.specs.definitions.Choice.{ifTrue, both}
 use Rattle.bisimulation.specs.argument.ChoiceLaws.{less, notLess, same, notSame, isTrue, pastLess, pastSame, keptSame}
 use Rattle.bisimulation.specs.definitions.Automaton.{Automaton}
 use Rattle.bisimulation.specs.definitions.Pairs.{Pairs}
-use Rattle.rules.specs.definitions.AnyRule.{Decides, Narrow}
+use Rattle.rules.specs.argument.AnyRule.{Decides, Narrow}
 use Rattle.rules.specs.definitions.Bytes.{byteAt, twoAt, threeAt, fourAt, twoBytes}
 use Rattle.rules.specs.argument.Standing.{Stands, IsBytes, stands-both, stands-first, stands-second, stands-cons, stands-byte, stands-rest, stands-at, mark-stands, after-two, after-four, rest-of-two, rest-of-four, two-is, two-stands, two-small, length-two, length-four, four-is, four-stands, four-small}
-use Rattle.rules.specs.definitions.Certificate.{fault, noFault, FileRule, kCountAt, afterK, wCountAt, afterFlow, kOf, wOf, flowAt, kFault, wFault, flowFault}
+use Rattle.rules.specs.definitions.Certificate.{FileRule, kCountAt, afterK, wCountAt, afterFlow, kOf, wOf, flowAt, kFault, wFault, flowFault}
+use Rattle.rules.specs.definitions.Faults.{fault, noFault, certificateRecord}
 use Rattle.rules.specs.definitions.Judging.{Question}
 use Rattle.rules.specs.definitions.Encoding.{KEntry, WEntry, FlowRecord, fourBytes, listBytes, kBytes, wBytes, flowBytes, kIn, wIn, flowOf}
 use Rattle.rules.specs.definitions.Accepted.{RuleSays, GoodK, GoodW, GoodFlow, kKey, wKey}
 use Rattle.rules.specs.argument.EntryFaults.{passed-k, passed-w}
 use Rattle.rules.specs.argument.EntryLists.{entriesFrom, length-entriesFrom, length-listBytes, entries-stand, entries-read, entries-good, entries-pass}
-use Rattle.rules.specs.argument.RefutationRecords.{no-fault, none-first, first-none}
+use Rattle.rules.specs.argument.FaultLaws.{no-fault, none-first, first-none, certificate-refuses, opened, opens}
 
 -- the entries and the record that stand at a place
 unfoldable pub kAt : List ℕ → ℕ → KEntry
@@ -190,16 +191,15 @@ module _ (file : FileRule) (A : Automaton) (C : List ℕ) (R : Pairs) (q t at : 
   pub passed : noFault ≡ flowFault file A C R q t at → Passed
   unfolding flowFault
   passed e =
-      let a = pastLess (fault 11) _ (length C) (at + 2) (no-fault 10) e in
-      let b = keptSame _ (fault 12) (twoAt C at) 0x464C (no-fault 11) (a .1) in
-      let c = pastLess (fault 11) _ (length C) (at + 8) (no-fault 10) (b .1) in
-      let d = pastSame (fault 19) _ (fourAt C (at + 2)) _ (no-fault 18) (c .1) in
+      let a = none-first _ _ e in
+      let b = opened certificateRecord 0x464C 8 C at certificate-refuses (a .0) in
+      let d = pastSame (fault 19) _ (fourAt C (at + 2)) _ (no-fault 18) (a .1) in
       let f = pastLess (fault 11) _ (length C) (afterK C at) (no-fault 10) (d .1) in
       let g = none-first _ _ (f .1) in
       let h = pastLess (fault 11) _ (length C) (afterK C at + 2) (no-fault 10) (g .1) in
       let i = pastLess (fault 11) _ (length C) (afterFlow C at) (no-fault 10) (h .1) in
       let j = none-first _ _ (i .1) in
-      record { mark = b .0; some = omega (arith, d .0); ks = g .0; whole = i .0; ws = j .0; equations = j .1 }
+      record { mark = b .marked; some = omega (arith, d .0); ks = g .0; whole = i .0; ws = j .0; equations = j .1 }
 
 module _ (file : FileRule) (says : RuleSays) (decides : Decides file says) (A : Automaton) (narrow : Narrow A) (C : List ℕ) (R : Pairs) (x : Question) (at : ℕ) where
   pub flow-good : noFault ≡ flowFault file A C R (x .challenger) (x .defender) at → IsBytes C → GoodFlow says A R x (flowRecordAt C at)
@@ -328,9 +328,7 @@ module _ (file : FileRule) (says : RuleSays) (decides : Decides file says) (A : 
         let i = stands .inside in
         let l = flow-end in
         let k = after-ks .inside in
-        notLess _ (omega (arith, length-flow f))
-        (same _ mark-read
-        (notLess _ (omega (arith, length-flow f))
+        first-none _ _ (opens certificateRecord 0x464C 8 C at (omega arith) mark-read (omega (arith, length-flow f)))
         (notSame _ (omega (arith, D-read, good .some))
         (notLess _ (omega arith)
         (first-none _ _
@@ -342,7 +340,7 @@ module _ (file : FileRule) (says : RuleSays) (decides : Decides file says) (A : 
         (subst (λ (n : ℕ). noFault ≡ wFault A C R n (afterK C at + 2) 0) (sym w-count)
         (entries-pass WEntry 6 wBytes length-w C (wAt C) (GoodW A R) (w-reads file says decides A narrow C R (x .challenger) (x .defender)) wKey (wFault A C R) (λ at lowest. no-ws at lowest) (w-pass file says decides A narrow C R (x .challenger) (x .defender)) (f .ws) (afterK C at + 2) 0 (good .ws) (good .wOrder) ws-there))
         (decides .equations A (x .challenger) (x .defender) (flowAt C at) .1
-        (subst (says .equations A (x .challenger) (x .defender)) (ap flowOf (sym flow-read) ∙ sym (flow-is C at)) (good .equations)))))))))))
+        (subst (says .equations A (x .challenger) (x .defender)) (ap flowOf (sym flow-read) ∙ sym (flow-is C at)) (good .equations)))))))))
       where
         no-ks : (place lowest : ℕ) → noFault ≡ kFault file A C (x .challenger) (x .defender) 0 place lowest
         no-ks place lowest = unfold kFault in refl

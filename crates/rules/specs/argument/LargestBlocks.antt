@@ -20,7 +20,7 @@ use Rattle.bisimulation.specs.definitions.PairsLeft.{PairsLeft, start, refuted}
 use Rattle.bisimulation.specs.definitions.Blocks.{SharedExactlyWhenLeft}
 use Rattle.bisimulation.specs.argument.BlocksLargest.{blocksLargest}
 use Rattle.bisimulation.specs.argument.Plain.{plain}
-use Rattle.rules.specs.definitions.AnyRule.{Covers}
+use Rattle.rules.specs.argument.AnyRule.{Covers}
 use Rattle.rules.specs.definitions.Limits.{Limits}
 use Rattle.rules.specs.definitions.Judging.{Question}
 use Rattle.rules.specs.definitions.Encoding.{Refutation, KEntry, WEntry, FlowRecord, Certificate, pricesOf, kIn, wIn, flowOf}

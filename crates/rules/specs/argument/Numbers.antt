@@ -1,4 +1,4 @@
--- Judging answers a number that document 01 has for it, whatever bytes arrive.
+-- Judging answers a number that it has, whatever bytes arrive.
 use Prim.Native.Nat.{ℕ, zero, suc, _+_, _≤_}
 use mathlib.Core.Path.{_≡_, refl}
 use mathlib.Core.Logic.{_⊎_, inl, inr, ⊎-elim}
@@ -6,191 +6,187 @@ use mathlib.Core.Bool.{Bool, true, false, cond}
 use mathlib.Core.List.{List, [], _∷_}
 use lib.Dec.{eqb}
 use lib.ListN.{length}
-use lib.IntN.{ℤ}
 use borrow.Author.Tests.{eqb-false}
 use native.Mathlib.Omega.{arith}
 use Rattle.bisimulation.specs.definitions.Choice.{ifLess, ifSame, ifTrue}
-use Rattle.bisimulation.specs.argument.ChoiceLaws.{eitherLess, eitherSame}
+use Rattle.bisimulation.specs.argument.ChoiceLaws.{eitherLess, eitherSame, eitherTrue}
 use Rattle.bisimulation.specs.definitions.Automaton.{Automaton}
-use Rattle.bisimulation.specs.definitions.StepRule.{Flow}
 use Rattle.bisimulation.specs.definitions.Pairs.{Pairs}
-use Rattle.rules.specs.definitions.Limits.{Limits, limits}
+use Rattle.rules.specs.definitions.Limits.{Limits}
 use Rattle.rules.specs.definitions.Bytes.{byteAt, twoAt, threeAt}
-use Rattle.rules.specs.definitions.Reading.{Scan, sound, refused, scanWhole, readingOf, readWhole}
-use Rattle.rules.specs.argument.ReadingLaws.{Tells, whole-tells}
-use Rattle.rules.specs.definitions.Certificate.{Fault, fault, noFault, firstOf, FileRule, certificateHeadFault, pairFault, refutationFault, numberedFault, pairsFault, blocksFault, kFault, wFault, flowFault}
-use Rattle.rules.specs.definitions.PlainRule.{byKind, internalPricesFault, externalPricesFault, plainPricesFault, internalEquationsFault, externalEquationsFault, plainEquationsFault, plainRule}
+use Rattle.rules.specs.definitions.Model.{automatonOf}
+use Rattle.rules.specs.definitions.Reading.{Reading, model, noModel}
+use Rattle.rules.specs.definitions.Faults.{Fault, fault, noFault, firstOf, certificateRecord, openFault}
+use Rattle.rules.specs.argument.FaultLaws.{either-first, either-open}
+use Rattle.rules.specs.definitions.Certificate.{FileRule, certificateHeadFault, pairFault, refutationFault, numberedFault, pairsFault, blocksFault, kFault, wFault, flowFault}
 use Rattle.rules.specs.definitions.Judging.{Judgement, accepted, rejected, rejectAt, Question, judgeFlows, judgeBlocks, judgeRefutations, judgeCertificate, judgeReading, judge}
+use Rattle.rules.specs.argument.AnyRule.{AnswersOnly, PairRules, AnyCertificateNumber, RefusalOf}
 
--- a certificate record has no fault, or one of 11 to 22
-pub record Listed (f : Fault) : Type 0 where
-  pub number : (f .number ≡ 0) ⊎ ((11 ≤ f .number) × (f .number ≤ 22))
+-- no fault, or one of the numbers
+pub record NoneOr (numbers : ℕ → Type 0) (f : Fault) : Type 0 where
+  pub number : (f .number ≡ 0) ⊎ numbers (f .number)
 
--- a refusal of judging: 1 to 9 of the model, 11 to 22 of the certificate
-pub record RefusalNumber (k : ℕ) : Type 0 where
-  pub number : ((1 ≤ k) × (k ≤ 9)) ⊎ ((11 ≤ k) × (k ≤ 22))
+module _ (numbers : ℕ → Type 0) where
+  -- the refusals of a certificate record: those that every rule has, and the rule's own
+  abbrev Listed : Fault → Type 0
+  Listed f = NoneOr (λ k. AnyCertificateNumber k ⊎ numbers k) f
 
-listed : (k : ℕ) → 11 ≤ k → k ≤ 22 → Listed (fault k)
-listed k l h = record { number = inr (l, h) }
+  listed : (k : ℕ) → AnyCertificateNumber k → Listed (fault k)
+  listed k h = record { number = inr (inl h) }
 
-none-listed : Listed noFault
-none-listed = record { number = inl refl }
+  none-listed : Listed noFault
+  none-listed = record { number = inl refl }
 
-orLess : (a b : ℕ) {x y : Fault} → Listed x → Listed y → Listed (ifLess a b x y)
-orLess a b p q = eitherLess Listed a b p q
+  own-listed : (f : Fault) → (f .number ≡ 0) ⊎ numbers (f .number) → Listed f
+  own-listed f h = record { number = ⊎-elim (λ z. inl z) (λ z. inr (inr z)) h }
 
-orSame : (a b : ℕ) {x y : Fault} → Listed x → Listed y → Listed (ifSame a b x y)
-orSame a b p q = eitherSame Listed a b p q
+  orLess : (a b : ℕ) {x y : Fault} → Listed x → Listed y → Listed (ifLess a b x y)
+  orLess a b p q = eitherLess Listed a b p q
 
-orTrue : (b : Bool) {x y : Fault} → Listed x → Listed y → Listed (ifTrue b x y)
-unfolding ifTrue
-orTrue true p q = p
-orTrue false p q = q
+  orSame : (a b : ℕ) {x y : Fault} → Listed x → Listed y → Listed (ifSame a b x y)
+  orSame a b p q = eitherSame Listed a b p q
 
-orFirst : (f next : Fault) → Listed f → Listed next → Listed (firstOf f next)
-unfolding firstOf
-orFirst f next p q = orSame (f .number) 0 q p
+  orTrue : (b : Bool) {x y : Fault} → Listed x → Listed y → Listed (ifTrue b x y)
+  orTrue b p q = eitherTrue Listed b p q
 
--- a rule's own faults are listed
-pub record ListedRule (file : FileRule) : Type 0 where
-  pub prices : (A : Automaton) (R : Pairs) (q t : ℕ) (p : ℕ → ℤ) → Listed (file .pricesFault A R q t p)
-  pub equations : (A : Automaton) (q t : ℕ) (f : Flow) → Listed (file .equationsFault A q t f)
+  orFirst : (f next : Fault) → Listed f → Listed next → Listed (firstOf f next)
+  orFirst f next p q = either-first Listed f next p q
 
-short : Listed (fault 11)
-short = listed 11 (omega arith) (omega arith)
+  short : Listed (fault 11)
+  unfolding AnyCertificateNumber
+  short = listed 11 (inl (omega arith, omega arith))
 
-mark : Listed (fault 12)
-mark = listed 12 (omega arith) (omega arith)
+  mark : Listed (fault 12)
+  unfolding AnyCertificateNumber
+  mark = listed 12 (inl (omega arith, omega arith))
 
-entry : Listed (fault 19)
-entry = listed 19 (omega arith) (omega arith)
+  many : Listed (fault 13)
+  unfolding AnyCertificateNumber
+  many = listed 13 (inl (omega arith, omega arith))
 
-pair : Listed (fault 14)
-pair = listed 14 (omega arith) (omega arith)
+  pair : Listed (fault 14)
+  unfolding AnyCertificateNumber
+  pair = listed 14 (inl (omega arith, omega arith))
 
-module _ (L : Limits) (file : FileRule) (rule : ListedRule file) (A : Automaton) (C : List ℕ) where
-  head-listed : Listed (certificateHeadFault L file C)
-  unfolding certificateHeadFault
-  head-listed = orLess _ _ short (orSame _ _ (orLess _ _ short (orLess _ _ (listed 13 (omega arith) (omega arith)) none-listed)) mark)
+  order : Listed (fault 17)
+  unfolding AnyCertificateNumber
+  order = listed 17 (inr (inl (omega arith, omega arith)))
 
-  refutation-listed : (R : Pairs) (at : ℕ) → Listed (refutationFault file A C R at)
-  unfolding refutationFault pairFault
-  refutation-listed R at =
-      orLess _ _ short
-      (orSame _ _
-      (orLess _ _ short
-      (orFirst _ _
-      (orLess _ _ (orLess _ _ (orSame _ _ pair (orTrue _ none-listed pair)) pair) pair)
-      (orLess _ _ short (rule .prices A R _ _ _))))
-      mark)
+  differs : Listed (fault 18)
+  unfolding AnyCertificateNumber
+  differs = listed 18 (inr (inl (omega arith, omega arith)))
 
-  numbered-listed : (left at seen : ℕ) → Listed (numberedFault C left at seen)
-  unfolding numberedFault
-  numbered-listed zero at seen = none-listed
-  numbered-listed (suc left) at seen =
-      orLess _ _ (listed 17 (omega arith) (omega arith)) (numbered-listed left (at + 1) (ifSame (byteAt C at) seen (seen + 1) seen))
+  entry : Listed (fault 19)
+  unfolding AnyCertificateNumber
+  entry = listed 19 (inr (inl (omega arith, omega arith)))
 
-  blocks-listed : (R : Pairs) (at : ℕ) → Listed (blocksFault A C R at)
-  unfolding blocksFault pairsFault
-  blocks-listed R at =
-      orLess _ _ short
-      (orSame _ _
-      (orLess _ _ short
-      (orFirst _ _ (numbered-listed (A .states) (at + 2) 0) (orTrue _ none-listed (listed 18 (omega arith) (omega arith)))))
-      mark)
+  left : Listed (fault 22)
+  unfolding AnyCertificateNumber
+  left = listed 22 (inr (inr refl))
 
-  k-listed : (q t left at lowest : ℕ) → Listed (kFault file A C q t left at lowest)
-  unfolding kFault
-  k-listed q t zero at lowest = none-listed
-  k-listed q t (suc left) at lowest =
-      orLess _ _ entry
-      (orLess _ _ (orTrue _ (orLess _ _ (k-listed q t left (at + 7) (threeAt C at + 1)) entry) entry) entry)
+  opening : (m size : ℕ) (s : List ℕ) (at : ℕ) → Listed (openFault certificateRecord m size s at)
+  opening m size s at = either-open certificateRecord m size s at Listed short mark none-listed
 
-  w-listed : (R : Pairs) (left at lowest : ℕ) → Listed (wFault A C R left at lowest)
-  unfolding wFault
-  w-listed R zero at lowest = none-listed
-  w-listed R (suc left) at lowest =
-      orLess _ _ entry
-      (orLess _ _
-      (orLess _ _ (orTrue _ (orLess _ _ (w-listed R left (at + 6) (twoAt C at + 1)) entry) entry) entry)
-      entry)
+  module _ (L : Limits) (file : FileRule) (rule : AnswersOnly numbers file) (A : Automaton) (C : List ℕ) where
+    head-listed : Listed (certificateHeadFault L file C)
+    unfolding certificateHeadFault
+    head-listed = orFirst _ _ (opening (file .mark) 4 C 0) (orLess _ _ many none-listed)
 
-  flow-listed : (R : Pairs) (q t at : ℕ) → Listed (flowFault file A C R q t at)
-  unfolding flowFault
-  flow-listed R q t at =
-      orLess _ _ short
-      (orSame _ _
-      (orLess _ _ short
-      (orSame _ _ entry
-      (orLess _ _ short
-      (orFirst _ _ (k-listed q t _ (at + 8) 0)
-      (orLess _ _ short
-      (orLess _ _ short
-      (orFirst _ _ (w-listed R _ _ 0) (rule .equations A q t _))))))))
-      mark)
+    refutation-listed : (R : Pairs) (at : ℕ) → Listed (refutationFault file A C R at)
+    unfolding refutationFault pairFault
+    refutation-listed R at =
+        orFirst _ _ (opening 0x5058 5 C at)
+        (orFirst _ _
+        (orLess _ _ (orLess _ _ (orSame _ _ pair (orTrue _ none-listed pair)) pair) pair)
+        (orLess _ _ short (own-listed _ (rule .prices A R _ _ _))))
 
--- the number of a judgement: acceptance, or a refusal of the list
-abbrev pub JudgementNumber : Judgement → Type 0
-JudgementNumber (accepted blocks) = Unit {0}
-JudgementNumber (rejected f file place) = RefusalNumber (f .number)
+    numbered-listed : (left at seen : ℕ) → Listed (numberedFault C left at seen)
+    unfolding numberedFault
+    numbered-listed zero at seen = none-listed
+    numbered-listed (suc left) at seen =
+        orLess _ _ order (numbered-listed left (at + 1) (ifSame (byteAt C at) seen (seen + 1) seen))
 
-numbered : (f : Fault) (place : ℕ) (next : Judgement) → Listed f → JudgementNumber next → JudgementNumber (rejectAt f place next)
-unfolding rejectAt ifSame
-numbered f place next l h = go (eqb (f .number) 0) refl
-  where
-    go : (t : Bool) → eqb (f .number) 0 ≡ t → JudgementNumber (cond t next (rejected f 2 place))
-    go true q = h
-    go false q = record { number = ⊎-elim (λ z. absurd (eqb-false (f .number) 0 q z)) (λ z. inr z) (l .number) }
+    blocks-listed : (R : Pairs) (at : ℕ) → Listed (blocksFault A C R at)
+    unfolding blocksFault pairsFault
+    blocks-listed R at =
+        orFirst _ _ (opening 0x424B (2 + A .states) C at)
+        (orFirst _ _ (numbered-listed (A .states) (at + 2) 0) (orTrue _ none-listed differs))
 
-module _ (L : Limits) (file : FileRule) (rule : ListedRule file) where
+    k-listed : (q t left at lowest : ℕ) → Listed (kFault file A C q t left at lowest)
+    unfolding kFault
+    k-listed q t zero at lowest = none-listed
+    k-listed q t (suc left) at lowest =
+        orLess _ _ entry
+        (orLess _ _ (orTrue _ (orLess _ _ (k-listed q t left (at + 7) (threeAt C at + 1)) entry) entry) entry)
+
+    w-listed : (R : Pairs) (left at lowest : ℕ) → Listed (wFault A C R left at lowest)
+    unfolding wFault
+    w-listed R zero at lowest = none-listed
+    w-listed R (suc left) at lowest =
+        orLess _ _ entry
+        (orLess _ _
+        (orLess _ _ (orTrue _ (orLess _ _ (w-listed R left (at + 6) (twoAt C at + 1)) entry) entry) entry)
+        entry)
+
+    flow-listed : (R : Pairs) (q t at : ℕ) → Listed (flowFault file A C R q t at)
+    unfolding flowFault
+    flow-listed R q t at =
+        orFirst _ _ (opening 0x464C 8 C at)
+        (orSame _ _ entry
+        (orLess _ _ short
+        (orFirst _ _ (k-listed q t _ (at + 8) 0)
+        (orLess _ _ short
+        (orLess _ _ short
+        (orFirst _ _ (w-listed R _ _ 0) (own-listed _ (rule .equations A q t _))))))))
+
+-- a refusal of judging: its number is not 0, and one that judging has
+pub record RefusedWith (by : PairRules) (f : Fault) : Type 0 where
+  pub some : f .number ≡ 0 → ⊥
+  pub number : RefusalOf by (f .number)
+
+-- the number of a judgement: acceptance, or a refusal that judging has
+abbrev pub JudgementNumber : PairRules → Judgement → Type 0
+JudgementNumber by (accepted blocks) = Unit {0}
+JudgementNumber by (rejected f file place) = RefusedWith by f
+
+module _ (by : PairRules) where
+  refused-with : (f : Fault) → (f .number ≡ 0 → ⊥) → Listed (by .rule .numbers) f → RefusedWith by f
+  unfolding RefusalOf
+  refused-with f n l = record { some = n; number = ⊎-elim (λ z. absurd (n z)) (λ z. inr z) (l .number) }
+
+  numbered : (f : Fault) (place : ℕ) (next : Judgement) → Listed (by .rule .numbers) f → JudgementNumber by next → JudgementNumber by (rejectAt f place next)
+  unfolding rejectAt ifSame
+  numbered f place next l h = go (eqb (f .number) 0) refl
+    where
+      go : (t : Bool) → eqb (f .number) 0 ≡ t → JudgementNumber by (cond t next (rejected f 2 place))
+      go true q = h
+      go false q = refused-with f (eqb-false (f .number) 0 q) l
+
   module _ (A : Automaton) (C : List ℕ) where
-    flows-numbered : (R : Pairs) (blocks : List ℕ) (xs : List Question) (at : ℕ) → JudgementNumber (judgeFlows L file A C R blocks xs at)
+    flows-numbered : (R : Pairs) (blocks : List ℕ) (xs : List Question) (at : ℕ) → JudgementNumber by (judgeFlows (by .limits) (by .rule .file) A C R blocks xs at)
     unfolding judgeFlows
-    flows-numbered R blocks [] at = eitherLess JudgementNumber at (length C) (record { number = inr (omega arith, omega arith) }) tt
-    flows-numbered R blocks (x ∷ xs) at = numbered _ at _ (flow-listed L file rule A C R _ _ at) (flows-numbered R blocks xs _)
+    flows-numbered R blocks [] at = eitherLess (JudgementNumber by) at (length C) (refused-with (fault 22) (omega arith) (left (by .rule .numbers))) tt
+    flows-numbered R blocks (x ∷ xs) at = numbered _ at _ (flow-listed (by .rule .numbers) (by .limits) (by .rule .file) (by .rule .answers) A C R _ _ at) (flows-numbered R blocks xs _)
 
-    refutations-numbered : (left : ℕ) (R : Pairs) (at : ℕ) → JudgementNumber (judgeRefutations L file A C left R at)
+    refutations-numbered : (left : ℕ) (R : Pairs) (at : ℕ) → JudgementNumber by (judgeRefutations (by .limits) (by .rule .file) A C left R at)
     unfolding judgeRefutations judgeBlocks
-    refutations-numbered zero R at = numbered _ at _ (blocks-listed L file rule A C R at) (flows-numbered R _ _ _)
-    refutations-numbered (suc left) R at = numbered _ at _ (refutation-listed L file rule A C R at) (refutations-numbered left _ _)
+    refutations-numbered zero R at = numbered _ at _ (blocks-listed (by .rule .numbers) (by .limits) (by .rule .file) (by .rule .answers) A C R at) (flows-numbered R _ _ _)
+    refutations-numbered (suc left) R at = numbered _ at _ (refutation-listed (by .rule .numbers) (by .limits) (by .rule .file) (by .rule .answers) A C R at) (refutations-numbered left _ _)
 
-    certificate-numbered : JudgementNumber (judgeCertificate L file A C)
+    pub certificate-numbered : JudgementNumber by (judgeCertificate (by .limits) (by .rule .file) A C)
     unfolding judgeCertificate
-    certificate-numbered = numbered _ 0 _ (head-listed L file rule A C) (refutations-numbered _ _ 4)
+    certificate-numbered = numbered _ 0 _ (head-listed (by .rule .numbers) (by .limits) (by .rule .file) (by .rule .answers) A C) (refutations-numbered _ _ 4)
+
+  -- a model that is not read
+  pub unread-number : (M : List ℕ) (f : Fault) (place : ℕ) → by .models .read M ≡ noModel f place → RefusedWith by f
+  unfolding RefusalOf
+  unread-number M f place e = let h = by .models .answers M f place e in record { some = h .0; number = inl (h .1) }
 
   -- one of the numbers, on every pair of byte strings
-  pub judge-number : (M C : List ℕ) → JudgementNumber (judge L file M C)
-  unfolding judge readWhole readingOf judgeReading
-  judge-number M C = go (scanWhole L M) (whole-tells L M)
+  pub judge-number : (M C : List ℕ) → JudgementNumber by (judge (by .limits) (by .models .read) (by .rule .file) M C)
+  unfolding judge judgeReading
+  judge-number M C = go (by .models .read M) refl
     where
-      go : (scan : Scan) → Tells L M scan → JudgementNumber (judgeReading L file (readingOf M scan) C)
-      go (sound n m count end) t = certificate-numbered _ C
-      go (refused number place) t = record { number = inl (t .some, t .known) }
-
--- document 01's rule
-pub plain-listed : ListedRule plainRule
-unfolding plainPricesFault plainEquationsFault byKind internalPricesFault externalPricesFault internalEquationsFault externalEquationsFault
-plain-listed =
-    record {
-      prices = λ A R q t p.
-          orSame _ _ (orTrue _ (orTrue _ (orTrue _ none-listed last) price) price)
-          (orTrue _ (orTrue _ (orTrue _ (orTrue _ (orTrue _ none-listed last) price) price) price) price);
-      equations = λ A q t f.
-          orSame _ _ (orTrue _ (orTrue _ none-listed target) move) (orTrue _ (orTrue _ (orTrue _ none-listed target) move) move);
-    }
-  where
-    price : Listed (fault 15)
-    price = listed 15 (omega arith) (omega arith)
-
-    last : Listed (fault 16)
-    last = listed 16 (omega arith) (omega arith)
-
-    move : Listed (fault 20)
-    move = listed 20 (omega arith) (omega arith)
-
-    target : Listed (fault 21)
-    target = listed 21 (omega arith) (omega arith)
-
--- document 01's judging answers a number that it has
-pub plain-number : (M C : List ℕ) → JudgementNumber (judge limits plainRule M C)
-plain-number = judge-number limits plainRule plain-listed
+      go : (r : Reading) → by .models .read M ≡ r → JudgementNumber by (judgeReading (by .limits) (by .rule .file) r C)
+      go (model N end) e = certificate-numbered (automatonOf N) C
+      go (noModel f place) e = unread-number M f place e

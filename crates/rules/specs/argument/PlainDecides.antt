@@ -17,10 +17,10 @@ use Rattle.bisimulation.specs.definitions.StepRule.{Flow, Sides, Holds, beforeM
 use Rattle.bisimulation.specs.definitions.Pairs.{Pairs}
 use Rattle.bisimulation.specs.definitions.Prices.{priceAt, priceOfTargets}
 use Rattle.bisimulation.specs.definitions.Refutation.{PriceCondition, RelatedCondition, LastCondition, RefutesInternal, RefutesExternal, PlainRefutes}
-use Rattle.rules.specs.definitions.AnyRule.{Decides}
-use Rattle.rules.specs.definitions.Certificate.{fault, noFault}
+use Rattle.rules.specs.argument.AnyRule.{Decides}
+use Rattle.rules.specs.definitions.Faults.{fault, noFault}
 use Rattle.rules.specs.definitions.PlainRule.{byKind, plainPriceCount, priceCondition, allWithAction, allRelated, below, internalPricesFault, externalPricesFault, plainPricesFault, plainInQuestion, allHold, internalEquationsFault, externalEquationsFault, plainEquationsFault, plainRule}
-use Rattle.rules.specs.argument.RefutationRecords.{no-fault}
+use Rattle.rules.specs.argument.FaultLaws.{no-fault}
 use Rattle.rules.specs.definitions.PlainSays.{InPlainQuestion, InternalEquations, ExternalEquations, PlainEquations, plainSays}
 
 -- a test and what it says

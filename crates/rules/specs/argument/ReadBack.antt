@@ -11,7 +11,9 @@ use Rattle.rules.specs.definitions.Bytes.{byteAt, twoAt, twoBytes}
 use Rattle.rules.specs.argument.BytesLaws.{past, past-all, stands-inside, first-byte, first-two}
 use Rattle.rules.specs.definitions.Model.{Entry, Transition, Model, entriesBytes, transitionBytes, transitionsBytes, headBytes, labelsBytes, modelBytes}
 use Rattle.rules.specs.definitions.Reading.{statesOf, actionsOf, countOf, rangeFault, headFault, labelFault, labelsFault, sourceAt, actionAt, denominatorAt, entryCountAt, afterTransition, fixedFault, fixedFaultAt, entriesFault, transitionFault, Scan, sound, refused, scanTransitions, scanModel, refuseBytesLeft, scanWhole, entriesAt, transitionAt, transitionsAt, modelAt, model, readingOf, readModel, readWhole}
-use Rattle.rules.specs.argument.ReadingLaws.{first-passes, refuse-passes}
+use Rattle.rules.specs.argument.ReadingLaws.{refuse-passes}
+use Rattle.rules.specs.definitions.Faults.{fault, noFault, modelRecord}
+use Rattle.rules.specs.argument.FaultLaws.{first-none, opens}
 use Rattle.rules.specs.definitions.SoundModel.{Each, sumOver, TransitionRules, SoundModel, FitsWidths}
 use Rattle.rules.specs.argument.SoundModelLaws.{From, StatesFrom, SourcesFrom, from-lower, from-along}
 
@@ -26,7 +28,7 @@ unfolding transitionBytes twoBytes
 transitionBytes-length t = omega (arith, entriesBytes-length (t .entries))
 
 -- the labels that stand at a place
-labels-back : (L : Limits) (s labels : List ℕ) (at : ℕ) (rest : List ℕ) → drop at s ≡ labels ++ rest → Each (λ (b : ℕ). b ≤ L .label) labels → 0 ≡ labelFault L s (length labels) at
+labels-back : (L : Limits) (s labels : List ℕ) (at : ℕ) (rest : List ℕ) → drop at s ≡ labels ++ rest → Each (λ (b : ℕ). b ≤ L .label) labels → noFault ≡ labelFault L s (length labels) at
 unfolding labelFault Each
 labels-back L s [] at rest stands known = refl
 labels-back L s (b ∷ labels) at rest stands known =
@@ -34,9 +36,9 @@ labels-back L s (b ∷ labels) at rest stands known =
     notLess _ (omega arith) (labels-back L s labels (at + 1) rest (past s at 1 stands) (known .1))
 
 -- the entries that stand at a place: no fault, and they are read as they are
-entries-back : (s : List ℕ) (n d : ℕ) → d ≤ 65535 → (es : List Entry) (at lowest total : ℕ) (rest : List ℕ) → drop at s ≡ entriesBytes es ++ rest → StatesFrom lowest es → Each (λ (e : Entry). e .state < n) es → Each (λ (e : Entry). 1 ≤ e .weight) es → total + sumOver (λ (e : Entry). e .weight) es ≡ d → (0 ≡ entriesFault s n d (length es) at lowest total) × (entriesAt s (length es) at ≡ es)
+entries-back : (s : List ℕ) (n d : ℕ) → d ≤ 65535 → (es : List Entry) (at lowest total : ℕ) (rest : List ℕ) → drop at s ≡ entriesBytes es ++ rest → StatesFrom lowest es → Each (λ (e : Entry). e .state < n) es → Each (λ (e : Entry). 1 ≤ e .weight) es → total + sumOver (λ (e : Entry). e .weight) es ≡ d → (noFault ≡ entriesFault s n d (length es) at lowest total) × (entriesAt s (length es) at ≡ es)
 unfolding entriesFault entriesAt entriesBytes twoBytes From Each sumOver
-entries-back s n d fits [] at lowest total rest stands from known some whole = (same 7 (omega arith) refl, refl)
+entries-back s n d fits [] at lowest total rest stands from known some whole = (same (fault 7) (omega arith) refl, refl)
 entries-back s n d fits (e ∷ es) at lowest total rest stands from known some whole =
     let state : byteAt s at ≡ e .state = first-byte s at stands in
     let weight : twoAt s (at + 1) ≡ e .weight = first-two s (at + 1) (e .weight) _ (past s at 1 stands) (omega arith) in
@@ -49,7 +51,7 @@ entries-back s n d fits (e ∷ es) at lowest total rest stands from known some w
 
 -- the transition that stands at a place
 record TransitionBack (L : Limits) (s : List ℕ) (n m last entries at : ℕ) (t : Transition) : Type 0 where
-  fault : 0 ≡ transitionFault L s n m last entries at
+  fault : noFault ≡ transitionFault L s n m last entries at
   value : transitionAt s at ≡ t
   source : sourceAt s at ≡ t .source
   count : entryCountAt s at ≡ length (t .entries)
@@ -67,7 +69,7 @@ transition-back L s n m last entries at t rest stands rules follows few =
     let shares =
     entries-back s n (t .denominator) (rules .fits) (t .entries) (at + 7) 0 0 rest (past s at 7 stands)
     (from-along _ _ (t .entries) (rules .ascend)) (rules .states) (rules .weights) (omega (arith, rules .whole)) in
-    let fixed : 0 ≡ fixedFaultAt L s n m last entries at =
+    let fixed : noFault ≡ fixedFaultAt L s n m last entries at =
     notLess _ (omega arith)
     (less _ (omega arith)
     (less _ (omega arith)
@@ -76,15 +78,13 @@ transition-back L s n m last entries at t rest stands rules follows few =
     (notLess _ (omega arith)
     (notLess _ (omega arith)
     refl)))))) in
-    let shared : 0 ≡ entriesFault s n (denominatorAt s at) (entryCountAt s at) (at + 7) 0 0 =
+    let shared : noFault ≡ entriesFault s n (denominatorAt s at) (entryCountAt s at) (at + 7) 0 0 =
     shares .0 ∙ (λ i. entriesFault s n (sym denominator i) (sym count i) (at + 7) 0 0) in
     record {
       fault =
-          notLess _ (omega arith)
-          (same 2 (first-two s at 0x5452 _ stands (omega arith))
-          (notLess _ (omega arith)
-          (first-passes fixed refl
-          (notLess _ (omega arith) shared))));
+          first-none _ _ (opens modelRecord 0x5452 7 s at (omega arith) (first-two s at 0x5452 _ stands (omega arith)) (omega arith))
+          (first-none _ _ fixed
+          (notLess _ (omega arith) shared));
       value = λ i.
           record {
             source = source i;
@@ -134,20 +134,16 @@ model-back L M fits ok s rest stands =
     record {
       scan =
           refuse-passes 0
-          (notLess _ (omega arith)
-          (same 2 (first-two s 0 0x5041 _ stands (omega arith))
-          (notLess _ (omega arith)
+          (first-none _ _ (opens modelRecord 0x5041 6 s 0 (omega arith) (first-two s 0 0x5041 _ stands (omega arith)) (omega arith))
           (less _ (omega arith)
           (notLess _ (omega arith)
           (less _ (omega arith)
           (notLess _ (omega arith)
           (notLess _ (omega arith)
-          refl)))))))) refl
+          refl)))))) refl
           (refuse-passes 6
-          (notLess _ (omega arith)
-          (same 2 (first-two s 6 0x4C42 _ (past s 0 6 stands) (omega arith))
-          (notLess _ (omega arith)
-          (rw isN (labels-back L s (M .labels) 8 _ labels (ok .labels)))))) refl
+          (first-none _ _ (opens modelRecord 0x4C42 (2 + statesOf s) s 6 (omega arith) (first-two s 6 0x4C42 _ (past s 0 6 stands) (omega arith)) (omega arith))
+          (rw isN (labels-back L s (M .labels) 8 _ labels (ok .labels)))) refl
           (rw (isN, isM, isCount) (back .0)));
       value = λ i.
           record {
@@ -171,4 +167,4 @@ unfolding readWhole scanWhole refuseBytesLeft readingOf
 read-back-whole L M fits ok =
     let s = modelBytes M in
     let back = model-back L M fits ok s [] (sym (append-nil s)) in
-    ap (λ (k : Scan). readingOf s (refuseBytesLeft s k)) (sym (back .scan)) ∙ ap (readingOf s) (sym (notLess (refused 9 (length s)) (omega arith) refl)) ∙ ap (λ (m : Model). model m (length s)) (back .value)
+    ap (λ (k : Scan). readingOf s (refuseBytesLeft s k)) (sym (back .scan)) ∙ ap (readingOf s) (sym (notLess (refused (fault 9) (length s)) (omega arith) refl)) ∙ ap (λ (m : Model). model m (length s)) (back .value)

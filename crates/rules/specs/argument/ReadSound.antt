@@ -9,20 +9,22 @@ use native.Mathlib.Omega.{arith}
 use Rattle.bisimulation.specs.argument.ChoiceLaws.{pastLess, keptLess, keptSame}
 use Rattle.rules.specs.definitions.Limits.{Limits}
 use Rattle.rules.specs.definitions.Bytes.{byteAt, twoAt, twoBytes}
+use Rattle.rules.specs.definitions.Faults.{Fault, fault, noFault}
+use Rattle.rules.specs.argument.FaultLaws.{no-fault}
 use Rattle.rules.specs.argument.BytesLaws.{byte-then, two-small, two-then}
 use Rattle.rules.specs.definitions.Model.{Entry, Transition, Model, entriesBytes, transitionBytes, transitionsBytes, headBytes, labelsBytes, modelBytes}
 use Rattle.rules.specs.definitions.Reading.{statesOf, actionsOf, countOf, labelFault, sourceAt, actionAt, denominatorAt, entryCountAt, afterTransition, entriesFault, transitionFault, Scan, sound, refused, refuseAt, scanTransitions, scanModel, refuseBytesLeft, scanWhole, entriesAt, transitionAt, transitionsAt, modelAt, model, readingOf, readModel, readWhole}
-use Rattle.rules.specs.argument.ReadingLaws.{zero-not, transition-passed, head-passed, labels-passed}
+use Rattle.rules.specs.argument.ReadingLaws.{Tells, scan-tells, transition-passed, head-passed, labels-passed}
 use Rattle.rules.specs.definitions.SoundModel.{Each, sumOver, Bytes, TransitionRules, SoundModel, FitsWidths}
 use Rattle.rules.specs.argument.SoundModelLaws.{From, StatesFrom, SourcesFrom, from-lower, along-from}
 use Rattle.rules.specs.argument.ReadBack.{read-back, read-back-whole}
 
 -- the labels at a place
-labels-sound : (L : Limits) (s : List ℕ) (n at : ℕ) → at + n ≤ length s → 0 ≡ labelFault L s n at → Each (λ (b : ℕ). b ≤ L .label) (take n (drop at s))
+labels-sound : (L : Limits) (s : List ℕ) (n at : ℕ) → at + n ≤ length s → noFault ≡ labelFault L s n at → Each (λ (b : ℕ). b ≤ L .label) (take n (drop at s))
 unfolding labelFault Each
 labels-sound L s zero at inside e = tt
 labels-sound L s (suc n) at inside e =
-    let a = pastLess 4 _ (L .label) (byteAt s at) (zero-not 3) e in
+    let a = pastLess (fault 4) _ (L .label) (byteAt s at) (no-fault 3) e in
     rw (byte-then s at (at + 1) refl (omega arith) refl) (a .0, labels-sound L s n (at + 1) (omega arith) (a .1))
 
 -- the entries at a place, up to the place `end`
@@ -34,16 +36,16 @@ record EntriesSound (s : List ℕ) (n d left at lowest total end : ℕ) : Type 0
   whole : total + sumOver (λ (e : Entry). e .weight) (entriesAt s left at) ≡ d
   bytes : drop at s ≡ entriesBytes (entriesAt s left at) ++ drop end s
 
-entries-sound : (s : List ℕ) → Bytes s → (n d left at lowest total end : ℕ) → end ≡ at + 3 * left → end ≤ length s → 0 ≡ entriesFault s n d left at lowest total → EntriesSound s n d left at lowest total end
+entries-sound : (s : List ℕ) → Bytes s → (n d left at lowest total end : ℕ) → end ≡ at + 3 * left → end ≤ length s → noFault ≡ entriesFault s n d left at lowest total → EntriesSound s n d left at lowest total end
 unfolding entriesFault entriesAt entriesBytes twoBytes Each sumOver From
 entries-sound s bytes n d zero at lowest total end isEnd inside e =
     let place : at ≡ end = omega arith in
-    let a = keptSame _ 7 total d (zero-not 6) e in
+    let a = keptSame _ (fault 7) total d (no-fault 6) e in
     record { count = refl; ascend = tt; states = tt; weights = tt; whole = omega arith; bytes = ap (λ (k : ℕ). drop k s) place }
 entries-sound s bytes n d (suc left) at lowest total end isEnd inside e =
-    let a = pastLess 6 _ (byteAt s at) lowest (zero-not 5) e in
-    let b = keptLess _ 6 (byteAt s at) n (zero-not 5) (a .1) in
-    let c = keptLess _ 6 0 (twoAt s (at + 1)) (zero-not 5) (b .1) in
+    let a = pastLess (fault 6) _ (byteAt s at) lowest (no-fault 5) e in
+    let b = keptLess _ (fault 6) (byteAt s at) n (no-fault 5) (a .1) in
+    let c = keptLess _ (fault 6) 0 (twoAt s (at + 1)) (no-fault 5) (b .1) in
     let later = entries-sound s bytes n d left (at + 3) (byteAt s at + 1) (total + twoAt s (at + 1)) end (omega arith) inside (c .1) in
     record {
       count = ap suc (later .count);
@@ -62,7 +64,7 @@ record TransitionSound (s : List ℕ) (n m at : ℕ) : Type 0 where
   count : length (transitionAt s at .entries) ≡ entryCountAt s at
   bytes : drop at s ≡ transitionBytes (transitionAt s at) ++ drop (afterTransition s at) s
 
-transition-sound : (L : Limits) (s : List ℕ) → Bytes s → (n m last entries at : ℕ) → 0 ≡ transitionFault L s n m last entries at → TransitionSound s n m at
+transition-sound : (L : Limits) (s : List ℕ) → Bytes s → (n m last entries at : ℕ) → noFault ≡ transitionFault L s n m last entries at → TransitionSound s n m at
 unfolding transitionAt transitionBytes sourceAt actionAt denominatorAt entryCountAt afterTransition twoBytes
 transition-sound L s bytes n m last entries at e =
     let p = transition-passed L s n m last entries at e in
@@ -96,14 +98,14 @@ transition-sound L s bytes n m last entries at e =
     }
 
 -- a sound scan is past every record's fault
-sound-not : (n m count end number place : ℕ) → sound n m count end ≡ refused number place → ⊥
-sound-not n m count end number place e = let z : _≡_ {A = ℕ} 0 1 = cc in omega arith
+sound-not : (n m count end : ℕ) (f : Fault) (place : ℕ) → sound n m count end ≡ refused f place → ⊥
+sound-not n m count end f place e = let z : _≡_ {A = ℕ} 0 1 = cc in omega arith
 
-refuse-past : (n m count end f place : ℕ) (next : Scan) → sound n m count end ≡ refuseAt f place next → (0 ≡ f) × (sound n m count end ≡ next)
+refuse-past : (n m count end : ℕ) (f : Fault) (place : ℕ) (next : Scan) → sound n m count end ≡ refuseAt f place next → (noFault ≡ f) × (sound n m count end ≡ next)
 unfolding refuseAt
 refuse-past n m count end f place next e =
-    let a = keptSame next (refused f place) f 0 (sound-not n m count end f place) e in
-    (sym (a .0), a .1)
+    let a = keptSame next (refused f place) (f .number) 0 (sound-not n m count end f place) e in
+    (ap fault (sym (a .0)), a .1)
 
 -- the transitions at a place, up to the place `end`
 record TransitionsSound (L : Limits) (s : List ℕ) (n m left last entries at end : ℕ) : Type 0 where
@@ -195,7 +197,7 @@ unfolding readingOf
 read-scan s (sound n m count last) M end e =
     let place : end ≡ last = cc in
     record { n = n; m = m; count = count; scanned = ap (sound n m count) place; value = cc }
-read-scan s (refused number place) M end e = let z : _≡_ {A = ℕ} 0 1 = cc in absurd (omega arith)
+read-scan s (refused f place) M end e = let z : _≡_ {A = ℕ} 0 1 = cc in absurd (omega arith)
 
 -- what reading the records of a model tells of the model and of the bytes
 pub record SoundRead (L : Limits) (s : List ℕ) (M : Model) (end : ℕ) : Type 0 where
@@ -223,10 +225,10 @@ read-sound L s M end bytes e = scan-sound L s M end bytes (read-scan s (scanMode
 none-left : (s : List ℕ) (scan : Scan) (n m count end : ℕ) → sound n m count end ≡ refuseBytesLeft s scan → (sound n m count end ≡ scan) × (length s ≤ end)
 unfolding refuseBytesLeft
 none-left s (sound n₁ m₁ count₁ last) n m count end e =
-    let a = pastLess (refused 9 last) (sound n₁ m₁ count₁ last) last (length s) (sound-not n m count end 9 last) e in
+    let a = pastLess (refused (fault 9) last) (sound n₁ m₁ count₁ last) last (length s) (sound-not n m count end (fault 9) last) e in
     let place : last ≡ end = cc in
     (a .1, omega arith)
-none-left s (refused number place) n m count end e = absurd (sound-not n m count end number place e)
+none-left s (refused f place) n m count end e = absurd (sound-not n m count end f place e)
 
 pub read-whole-sound : (L : Limits) (s : List ℕ) (M : Model) (end : ℕ) → Bytes s → readWhole L s ≡ model M end → SoundModel L M × (s ≡ modelBytes M)
 unfolding readWhole scanWhole
@@ -235,6 +237,15 @@ read-whole-sound L s M end bytes e =
     let a = none-left s (scanModel L s) (r .n) (r .m) (r .count) end (r .scanned) in
     let ok = scan-sound L s M end bytes (record { n = r .n; m = r .m; count = r .count; scanned = a .0; value = r .value }) in
     (ok .rules, sym (take-all end s (a .1)) ∙ ok .bytes)
+
+-- and its records end where the file does
+pub read-whole-ends : (L : Limits) (s : List ℕ) (M : Model) (end : ℕ) → readWhole L s ≡ model M end → end ≡ length s
+unfolding readWhole scanWhole
+read-whole-ends L s M end e =
+    let r = read-scan s (scanWhole L s) M end e in
+    let a = none-left s (scanModel L s) (r .n) (r .m) (r .count) end (r .scanned) in
+    let t = subst (Tells L s) (sym (a .0)) (scan-tells L s) in
+    omega (arith, a .1, t .inside)
 
 -- a file begins with the records of M, up to the place `end`, exactly when it is read so
 pub read-exactly : (L : Limits) (s : List ℕ) (M : Model) (end : ℕ) → FitsWidths L → Bytes s → (readModel L s ≡ model M end) ↔ SoundRead L s M end

@@ -13,18 +13,20 @@ use Rattle.bisimulation.specs.definitions.Choice.{ifLess, ifSame, unlessLess, u
 use Rattle.bisimulation.specs.argument.ChoiceLaws.{via, less, notLess, same, notSame, pastLess, keptLess, keptSame, eitherLess, eitherSame}
 use Rattle.rules.specs.definitions.Limits.{Limits}
 use Rattle.rules.specs.definitions.Bytes.{byteAt, twoAt}
-use Rattle.rules.specs.definitions.Reading.{firstFault, statesOf, actionsOf, countOf, rangeFault, headFault, labelFault, labelsFault, sourceAt, actionAt, denominatorAt, entryCountAt, afterTransition, fixedFault, fixedFaultAt, entriesFault, transitionFault, Scan, sound, refused, refuseAt, scanTransitions, scanModel, refuseBytesLeft, scanWhole, placeOf, firstNotBelow}
+use Rattle.rules.specs.definitions.Faults.{Fault, fault, noFault, modelRecord, openFault}
+use Rattle.rules.specs.argument.FaultLaws.{no-fault, none-first, either-first, model-refuses, opened, either-open}
+use Rattle.rules.specs.definitions.Reading.{statesOf, actionsOf, countOf, rangeFault, headFault, labelFault, labelsFault, sourceAt, actionAt, denominatorAt, entryCountAt, afterTransition, fixedFault, fixedFaultAt, entriesFault, transitionFault, Scan, sound, refused, refuseAt, scanTransitions, scanModel, refuseBytesLeft, scanWhole, placeOf, firstNotBelow}
 
 one-less : (left : ℕ) → left ≡ suc left - 1
 one-less left = omega arith
 
 -- each recursion where nothing is left, and one turn of it where something is
-pub labelFault-end : (L : Limits) (s : List ℕ) (left at : ℕ) → left ≤ 0 → labelFault L s left at ≡ 0
+pub labelFault-end : (L : Limits) (s : List ℕ) (left at : ℕ) → left ≤ 0 → labelFault L s left at ≡ noFault
 unfolding labelFault
 labelFault-end L s zero at h = refl
 labelFault-end L s (suc left) at h = absurd (omega arith)
 
-pub entriesFault-end : (s : List ℕ) (n d left at lowest total : ℕ) → left ≤ 0 → entriesFault s n d left at lowest total ≡ unlessSame total d 7 0
+pub entriesFault-end : (s : List ℕ) (n d left at lowest total : ℕ) → left ≤ 0 → entriesFault s n d left at lowest total ≡ unlessSame total d (fault 7) noFault
 unfolding entriesFault
 entriesFault-end s n d zero at lowest total h = refl
 entriesFault-end s n d (suc left) at lowest total h = absurd (omega arith)
@@ -39,20 +41,20 @@ unfolding firstNotBelow
 firstNotBelow-end s state zero r h = refl
 firstNotBelow-end s state (suc left) r h = absurd (omega arith)
 
-pub labelFault-turn : (L : Limits) (s : List ℕ) (left at : ℕ) → 0 < left → labelFault L s left at ≡ ifLess (L .label) (byteAt s at) 4 (labelFault L s (left - 1) (at + 1))
+pub labelFault-turn : (L : Limits) (s : List ℕ) (left at : ℕ) → 0 < left → labelFault L s left at ≡ ifLess (L .label) (byteAt s at) (fault 4) (labelFault L s (left - 1) (at + 1))
 unfolding labelFault
 labelFault-turn L s zero at h = absurd (omega arith)
-labelFault-turn L s (suc left) at h = ap (λ (k : ℕ). ifLess (L .label) (byteAt s at) 4 (labelFault L s k (at + 1))) (one-less left)
+labelFault-turn L s (suc left) at h = ap (λ (k : ℕ). ifLess (L .label) (byteAt s at) (fault 4) (labelFault L s k (at + 1))) (one-less left)
 
-pub entriesFault-turn : (s : List ℕ) (n d left at lowest total : ℕ) → 0 < left → entriesFault s n d left at lowest total ≡ ifLess (byteAt s at) lowest 6 (unlessLess (byteAt s at) n 6 (unlessLess 0 (twoAt s (at + 1)) 6 (entriesFault s n d (left - 1) (at + 3) (byteAt s at + 1) (total + twoAt s (at + 1)))))
+pub entriesFault-turn : (s : List ℕ) (n d left at lowest total : ℕ) → 0 < left → entriesFault s n d left at lowest total ≡ ifLess (byteAt s at) lowest (fault 6) (unlessLess (byteAt s at) n (fault 6) (unlessLess 0 (twoAt s (at + 1)) (fault 6) (entriesFault s n d (left - 1) (at + 3) (byteAt s at + 1) (total + twoAt s (at + 1)))))
 unfolding entriesFault
 entriesFault-turn s n d zero at lowest total h = absurd (omega arith)
 entriesFault-turn s n d (suc left) at lowest total h =
     ap
     (λ (k : ℕ).
-    ifLess (byteAt s at) lowest 6
-    (unlessLess (byteAt s at) n 6
-    (unlessLess 0 (twoAt s (at + 1)) 6
+    ifLess (byteAt s at) lowest (fault 6)
+    (unlessLess (byteAt s at) n (fault 6)
+    (unlessLess 0 (twoAt s (at + 1)) (fault 6)
     (entriesFault s n d k (at + 3) (byteAt s at + 1) (total + twoAt s (at + 1))))))
     (one-less left)
 
@@ -88,61 +90,39 @@ pub record PassedTransition (L : Limits) (s : List ℕ) (n m last entries at : �
   pub most : entryCountAt s at ≤ n
   pub few : entries + entryCountAt s at ≤ L .entries
   pub whole : afterTransition s at ≤ length s
-  pub shares : entriesFault s n (denominatorAt s at) (entryCountAt s at) (at + 7) 0 0 ≡ 0
-
--- the first of two faults, where x is the first: it is one, or it is none
-pub first-stops : {x : ℕ} (f next : ℕ) → x ≡ f → (x ≡ 0 → ⊥) → x ≡ firstFault f next
-unfolding firstFault
-first-stops f next e h = notSame next (λ q. h (e ∙ q)) e
-
-pub first-passes : {x f z next : ℕ} → x ≡ f → x ≡ 0 → z ≡ next → z ≡ firstFault f next
-unfolding firstFault
-first-passes {f = f} e h q = same f (sym e ∙ h) q
+  pub shares : entriesFault s n (denominatorAt s at) (entryCountAt s at) (at + 7) 0 0 ≡ noFault
 
 -- a record's fault x refuses at its place, or the next record follows
-pub refuse-stops : {x : ℕ} (f place : ℕ) (next : Scan) → x ≡ f → (x ≡ 0 → ⊥) → refused x place ≡ refuseAt f place next
+pub refuse-stops : {x : Fault} (f : Fault) (place : ℕ) (next : Scan) → x ≡ f → (x .number ≡ 0 → ⊥) → refused x place ≡ refuseAt f place next
 unfolding refuseAt
-refuse-stops f place next e h = notSame next (λ q. h (e ∙ q)) (ap (λ (k : ℕ). refused k place) e)
+refuse-stops f place next e h = notSame next (λ q. h (ap (λ (g : Fault). g .number) e ∙ q)) (ap (λ (g : Fault). refused g place) e)
 
-pub refuse-passes : {x f : ℕ} (place : ℕ) {z next : Scan} → x ≡ f → x ≡ 0 → z ≡ next → z ≡ refuseAt f place next
+pub refuse-passes : {x f : Fault} (place : ℕ) {z next : Scan} → x ≡ f → x .number ≡ 0 → z ≡ next → z ≡ refuseAt f place next
 unfolding refuseAt
-refuse-passes {f = f} place e h q = same (refused f place) (sym e ∙ h) q
+refuse-passes {f = f} place e h q = same (refused f place) (ap (λ (g : Fault). g .number) (sym e) ∙ h) q
 
 -- a fault of the head is the file's
-pub head-stops : (L : Limits) (s : List ℕ) {x : ℕ} → x ≡ headFault L s → (x ≡ 0 → ⊥) → refused x 0 ≡ scanWhole L s
+pub head-stops : (L : Limits) (s : List ℕ) {x : Fault} → x ≡ headFault L s → (x .number ≡ 0 → ⊥) → refused x 0 ≡ scanWhole L s
 unfolding scanWhole scanModel refuseBytesLeft
 head-stops L s {x} e h = subst (λ (scan : Scan). refused x 0 ≡ refuseBytesLeft s scan) (refuse-stops _ 0 _ e h) refl
 
--- no first fault: neither of the two is one
-pub firstFault-none : (f next : ℕ) → 0 ≡ firstFault f next → (0 ≡ f) × (0 ≡ next)
-unfolding firstFault ifSame
-firstFault-none f next = go (eqb f 0) refl
-  where
-    go : (t : Bool) → eqb f 0 ≡ t → 0 ≡ cond t next f → (0 ≡ f) × (0 ≡ next)
-    go true q e = (sym (eqb-true f 0 q), e)
-    go false q e = absurd (eqb-false f 0 q (sym e))
-
-pub zero-not : (k : ℕ) → 0 ≡ suc k → ⊥
-zero-not k e = omega arith
-
-pub transition-passed : (L : Limits) (s : List ℕ) (n m last entries at : ℕ) → 0 ≡ transitionFault L s n m last entries at → PassedTransition L s n m last entries at
+pub transition-passed : (L : Limits) (s : List ℕ) (n m last entries at : ℕ) → noFault ≡ transitionFault L s n m last entries at → PassedTransition L s n m last entries at
 unfolding transitionFault fixedFaultAt fixedFault
 transition-passed L s n m last entries at e =
-    let a = pastLess 1 _ (length s) (at + 2) (zero-not 0) e in
-    let b = keptSame _ 2 (twoAt s at) 0x5452 (zero-not 1) (a .1) in
-    let c = pastLess 1 _ (length s) (at + 7) (zero-not 0) (b .1) in
-    let d = firstFault-none _ _ (c .1) in
-    let f = pastLess 5 _ (sourceAt s at) last (zero-not 4) (d .0) in
-    let g = keptLess _ 5 (sourceAt s at) n (zero-not 4) (f .1) in
-    let h = keptLess _ 5 (actionAt s at) m (zero-not 4) (g .1) in
-    let i = keptLess _ 5 0 (denominatorAt s at) (zero-not 4) (h .1) in
-    let j = keptLess _ 5 0 (entryCountAt s at) (zero-not 4) (i .1) in
-    let k = pastLess 5 _ n (entryCountAt s at) (zero-not 4) (j .1) in
-    let l = pastLess 8 _ (L .entries) (entries + entryCountAt s at) (zero-not 7) (k .1) in
-    let o = pastLess 1 _ (length s) (afterTransition s at) (zero-not 0) (d .1) in
+    let a = none-first _ _ e in
+    let b = opened modelRecord 0x5452 7 s at model-refuses (a .0) in
+    let d = none-first _ _ (a .1) in
+    let f = pastLess (fault 5) _ (sourceAt s at) last (no-fault 4) (d .0) in
+    let g = keptLess _ (fault 5) (sourceAt s at) n (no-fault 4) (f .1) in
+    let h = keptLess _ (fault 5) (actionAt s at) m (no-fault 4) (g .1) in
+    let i = keptLess _ (fault 5) 0 (denominatorAt s at) (no-fault 4) (h .1) in
+    let j = keptLess _ (fault 5) 0 (entryCountAt s at) (no-fault 4) (i .1) in
+    let k = pastLess (fault 5) _ n (entryCountAt s at) (no-fault 4) (j .1) in
+    let l = pastLess (fault 8) _ (L .entries) (entries + entryCountAt s at) (no-fault 7) (k .1) in
+    let o = pastLess (fault 1) _ (length s) (afterTransition s at) (no-fault 0) (d .1) in
     record {
-      mark = b .0;
-      fixed = c .0;
+      mark = b .marked;
+      fixed = b .whole;
       ascends = f .0;
       source = g .0;
       action = h .0;
@@ -164,67 +144,62 @@ pub record PassedHead (L : Limits) (s : List ℕ) : Type 0 where
   pub actions : actionsOf s ≤ L .actions
   pub transitions : countOf s ≤ L .transitions
 
-pub head-passed : (L : Limits) (s : List ℕ) → 0 ≡ headFault L s → PassedHead L s
+pub head-passed : (L : Limits) (s : List ℕ) → noFault ≡ headFault L s → PassedHead L s
 unfolding headFault rangeFault
 head-passed L s e =
-    let a = pastLess 1 _ (length s) 2 (zero-not 0) e in
-    let b = keptSame _ 2 (twoAt s 0) 0x5041 (zero-not 1) (a .1) in
-    let c = pastLess 1 _ (length s) 6 (zero-not 0) (b .1) in
-    let d = keptLess _ 3 0 (statesOf s) (zero-not 2) (c .1) in
-    let f = pastLess 3 _ (L .states) (statesOf s) (zero-not 2) (d .1) in
-    let g = keptLess _ 3 0 (actionsOf s) (zero-not 2) (f .1) in
-    let h = pastLess 3 _ (L .actions) (actionsOf s) (zero-not 2) (g .1) in
-    let i = pastLess 3 _ (L .transitions) (countOf s) (zero-not 2) (h .1) in
-    record { mark = b .0; whole = c .0; some = d .0; states = f .0; someAction = g .0; actions = h .0; transitions = i .0 }
+    let a = none-first _ _ e in
+    let b = opened modelRecord 0x5041 6 s 0 model-refuses (a .0) in
+    let d = keptLess _ (fault 3) 0 (statesOf s) (no-fault 2) (a .1) in
+    let f = pastLess (fault 3) _ (L .states) (statesOf s) (no-fault 2) (d .1) in
+    let g = keptLess _ (fault 3) 0 (actionsOf s) (no-fault 2) (f .1) in
+    let h = pastLess (fault 3) _ (L .actions) (actionsOf s) (no-fault 2) (g .1) in
+    let i = pastLess (fault 3) _ (L .transitions) (countOf s) (no-fault 2) (h .1) in
+    record { mark = b .marked; whole = b .whole; some = d .0; states = f .0; someAction = g .0; actions = h .0; transitions = i .0 }
 
 -- what labels without fault tell
 pub record PassedLabels (L : Limits) (s : List ℕ) (n : ℕ) : Type 0 where
   pub mark : twoAt s 6 ≡ 0x4C42
   pub whole : 8 + n ≤ length s
-  pub small : 0 ≡ labelFault L s n 8
+  pub small : noFault ≡ labelFault L s n 8
 
-pub labels-passed : (L : Limits) (s : List ℕ) (n : ℕ) → 0 ≡ labelsFault L s n → PassedLabels L s n
+pub labels-passed : (L : Limits) (s : List ℕ) (n : ℕ) → noFault ≡ labelsFault L s n → PassedLabels L s n
 unfolding labelsFault
 labels-passed L s n e =
-    let a = pastLess 1 _ (length s) 8 (zero-not 0) e in
-    let b = keptSame _ 2 (twoAt s 6) 0x4C42 (zero-not 1) (a .1) in
-    let c = pastLess 1 _ (length s) (8 + n) (zero-not 0) (b .1) in
-    record { mark = b .0; whole = c .0; small = c .1 }
+    let a = none-first _ _ e in
+    let b = opened modelRecord 0x4C42 (2 + n) s 6 model-refuses (a .0) in
+    record { mark = b .marked; whole = omega (arith, b .whole); small = a .1 }
 
 -- every fault of a model record is a number of document 01's model table
-small-first : (f next : ℕ) → f ≤ 8 → next ≤ 8 → firstFault f next ≤ 8
-unfolding firstFault
-small-first f next p q = eitherSame (λ (k : ℕ). k ≤ 8) f 0 q p
+abbrev Small : Fault → Type 0
+Small f = f .number ≤ 8
 
-orLess : (a b : ℕ) {x y : ℕ} → x ≤ 8 → y ≤ 8 → ifLess a b x y ≤ 8
-orLess a b p q = eitherLess (λ (k : ℕ). k ≤ 8) a b p q
+orLess : (a b : ℕ) {x y : Fault} → Small x → Small y → Small (ifLess a b x y)
+orLess a b p q = eitherLess Small a b p q
 
-orSame : (a b : ℕ) {x y : ℕ} → x ≤ 8 → y ≤ 8 → ifSame a b x y ≤ 8
-orSame a b p q = eitherSame (λ (k : ℕ). k ≤ 8) a b p q
+orSame : (a b : ℕ) {x y : Fault} → Small x → Small y → Small (ifSame a b x y)
+orSame a b p q = eitherSame Small a b p q
 
-headFault-small : (L : Limits) (s : List ℕ) → headFault L s ≤ 8
+open-small : (mark size : ℕ) (s : List ℕ) (at : ℕ) → Small (openFault modelRecord mark size s at)
+open-small mark size s at = either-open modelRecord mark size s at Small (omega arith) (omega arith) (omega arith)
+
+headFault-small : (L : Limits) (s : List ℕ) → Small (headFault L s)
 unfolding headFault rangeFault
 headFault-small L s =
-    orLess _ _ (omega arith)
-    (orSame _ _
-    (orLess _ _ (omega arith)
+    either-first Small _ _ (open-small 0x5041 6 s 0)
     (orLess _ _
     (orLess _ _ (omega arith) (orLess _ _ (orLess _ _ (omega arith) (orLess _ _ (omega arith) (omega arith))) (omega arith)))
-    (omega arith)))
     (omega arith))
 
-labelFault-small : (L : Limits) (s : List ℕ) (left at : ℕ) → labelFault L s left at ≤ 8
+labelFault-small : (L : Limits) (s : List ℕ) (left at : ℕ) → Small (labelFault L s left at)
 unfolding labelFault
 labelFault-small L s zero at = omega arith
 labelFault-small L s (suc left) at = orLess _ _ (omega arith) (labelFault-small L s left (at + 1))
 
-labelsFault-small : (L : Limits) (s : List ℕ) (n : ℕ) → labelsFault L s n ≤ 8
+labelsFault-small : (L : Limits) (s : List ℕ) (n : ℕ) → Small (labelsFault L s n)
 unfolding labelsFault
-labelsFault-small L s n =
-    orLess _ _ (omega arith)
-    (orSame _ _ (orLess _ _ (omega arith) (labelFault-small L s n 8)) (omega arith))
+labelsFault-small L s n = either-first Small _ _ (open-small 0x4C42 (2 + n) s 6) (labelFault-small L s n 8)
 
-entriesFault-small : (s : List ℕ) (n d left at lowest total : ℕ) → entriesFault s n d left at lowest total ≤ 8
+entriesFault-small : (s : List ℕ) (n d left at lowest total : ℕ) → Small (entriesFault s n d left at lowest total)
 unfolding entriesFault
 entriesFault-small s n d zero at lowest total = orSame _ _ (omega arith) (omega arith)
 entriesFault-small s n d (suc left) at lowest total =
@@ -235,7 +210,7 @@ entriesFault-small s n d (suc left) at lowest total =
     (omega arith))
     (omega arith))
 
-fixedFault-small : (L : Limits) (n m last entries source action d c : ℕ) → fixedFault L n m last entries source action d c ≤ 8
+fixedFault-small : (L : Limits) (n m last entries source action d c : ℕ) → Small (fixedFault L n m last entries source action d c)
 unfolding fixedFault
 fixedFault-small L n m last entries source action d c =
     orLess _ _ (omega arith)
@@ -249,24 +224,21 @@ fixedFault-small L n m last entries source action d c =
     (omega arith))
     (omega arith))
 
-pub transitionFault-small : (L : Limits) (s : List ℕ) (n m last entries at : ℕ) → transitionFault L s n m last entries at ≤ 8
+pub transitionFault-small : (L : Limits) (s : List ℕ) (n m last entries at : ℕ) → Small (transitionFault L s n m last entries at)
 unfolding transitionFault fixedFaultAt
 transitionFault-small L s n m last entries at =
-    orLess _ _ (omega arith)
-    (orSame _ _
-    (orLess _ _ (omega arith)
-    (small-first _ _ (fixedFault-small L n m last entries _ _ _ _)
-    (orLess _ _ (omega arith) (entriesFault-small s n _ _ (at + 7) 0 0))))
-    (omega arith))
+    either-first Small _ _ (open-small 0x5452 7 s at)
+    (either-first Small _ _ (fixedFault-small L n m last entries _ _ _ _)
+    (orLess _ _ (omega arith) (entriesFault-small s n _ _ (at + 7) 0 0)))
 
 -- a record's fault refuses at its place, or there is none and the next record decides
-pub refuse-cases {κ} : (P : Scan → Type κ) (f place : ℕ) (next : Scan) → ((f ≡ 0 → ⊥) → P (refused f place)) → (0 ≡ f → P next) → P (refuseAt f place next)
+pub refuse-cases {κ} : (P : Scan → Type κ) (f : Fault) (place : ℕ) (next : Scan) → ((f .number ≡ 0 → ⊥) → P (refused f place)) → (noFault ≡ f → P next) → P (refuseAt f place next)
 unfolding refuseAt ifSame
-refuse-cases P f place next p q = go (eqb f 0) refl
+refuse-cases P f place next p q = go (eqb (f .number) 0) refl
   where
-    go : (t : Bool) → eqb f 0 ≡ t → P (cond t next (refused f place))
-    go true e = q (sym (eqb-true f 0 e))
-    go false e = p (eqb-false f 0 e)
+    go : (t : Bool) → eqb (f .number) 0 ≡ t → P (cond t next (refused f place))
+    go true e = q (ap fault (sym (eqb-true (f .number) 0 e)))
+    go false e = p (eqb-false (f .number) 0 e)
 
 -- what a scan tells of its places: a sound model ends in the file, and a refusal of document 01 is at a place of it
 pub record Sound (L : Limits) (s : List ℕ) (n m count end : ℕ) : Type 0 where
@@ -286,7 +258,7 @@ pub record Placed (s : List ℕ) (number place : ℕ) : Type 0 where
 
 abbrev pub Tells : Limits → List ℕ → Scan → Type 0
 Tells L s (sound n m count end) = Sound L s n m count end
-Tells L s (refused number place) = Placed s number place
+Tells L s (refused f place) = Placed s (f .number) place
 
 -- the records up to r lie in the file
 Inside : List ℕ → ℕ → Type 0
@@ -342,37 +314,37 @@ whole-tells L s = go (scanModel L s) (scan-tells L s)
     go : (scan : Scan) → Tells L s scan → Tells L s (refuseBytesLeft s scan)
     go (sound n m count end) t =
         eitherLess (Tells L s) end (length s) (record { some = omega arith; known = omega arith; inside = t .inside }) t
-    go (refused number place) t = t
+    go (refused f place) t = t
 
 -- The range of an entry's state may be tested after the last entry: states ascend, so once one is not below n neither is the lowest that
 -- may follow, and the refusal is 6 in either order. `whole` is what all entries come to
-pub record EntriesSoFar (s : List ℕ) (n d left at lowest total whole : ℕ) : Type 0 where
+pub record EntriesSoFar (s : List ℕ) (n d left at lowest total : ℕ) (whole : Fault) : Type 0 where
   pub inRange : lowest ≤ n → entriesFault s n d left at lowest total ≡ whole
-  pub outOfRange : n < lowest → 6 ≡ whole
+  pub outOfRange : n < lowest → fault 6 ≡ whole
 
-module _ (s : List ℕ) (n d left at lowest total whole : ℕ) (h : EntriesSoFar s n d left at lowest total whole) (some : 0 < left) where
+module _ (s : List ℕ) (n d left at lowest total : ℕ) (whole : Fault) (h : EntriesSoFar s n d left at lowest total whole) (some : 0 < left) where
   -- where the lowest state is in range, a fault of the next entry is the fault of all
-  in-range : (6 ≡ entriesFault s n d left at lowest total) → lowest ≤ n → 6 ≡ whole
+  in-range : (fault 6 ≡ entriesFault s n d left at lowest total) → lowest ≤ n → fault 6 ≡ whole
   in-range e small = e ∙ h .inRange small
 
-  or-out : (lowest ≤ n → 6 ≡ entriesFault s n d left at lowest total) → 6 ≡ whole
+  or-out : (lowest ≤ n → fault 6 ≡ entriesFault s n d left at lowest total) → fault 6 ≡ whole
   or-out f = go (decLe lowest n)
     where
-      go : Dec (lowest ≤ n) → 6 ≡ whole
+      go : Dec (lowest ≤ n) → fault 6 ≡ whole
       go (yes small) = in-range (f small) small
       go (no large) = h .outOfRange (omega arith)
 
   -- an entry out of order, and one with weight 0
-  pub entry-descends : byteAt s at < lowest → 6 ≡ whole
+  pub entry-descends : byteAt s at < lowest → fault 6 ≡ whole
   entry-descends e = or-out (λ small. via (entriesFault-turn s n d left at lowest total some) (less _ e refl))
 
-  entry-beyond : lowest ≤ byteAt s at → n ≤ byteAt s at → 6 ≡ whole
+  entry-beyond : lowest ≤ byteAt s at → n ≤ byteAt s at → fault 6 ≡ whole
   entry-beyond e f = or-out (λ small. via (entriesFault-turn s n d left at lowest total some) (notLess _ e (notLess _ f refl)))
 
-  pub entry-empty : lowest ≤ byteAt s at → twoAt s (at + 1) ≡ 0 → 6 ≡ whole
+  pub entry-empty : lowest ≤ byteAt s at → twoAt s (at + 1) ≡ 0 → fault 6 ≡ whole
   entry-empty e z = go (decLe n (byteAt s at))
     where
-      go : Dec (n ≤ byteAt s at) → 6 ≡ whole
+      go : Dec (n ≤ byteAt s at) → fault 6 ≡ whole
       go (yes large) = entry-beyond e large
       go (no small) =
           or-out
@@ -395,5 +367,5 @@ pub entries-start : (s : List ℕ) (n d count at place : ℕ) → place ≡ at �
 entries-start s n d count at place e =
     record { inRange = λ q. ap (λ (k : ℕ). entriesFault s n d count k 0 0) e; outOfRange = λ q. absurd (omega arith) }
 
-pub entries-end : (s : List ℕ) (n d left at lowest total whole : ℕ) → EntriesSoFar s n d left at lowest total whole → left ≤ 0 → lowest ≤ n → unlessSame total d 7 0 ≡ whole
+pub entries-end : (s : List ℕ) (n d left at lowest total : ℕ) (whole : Fault) → EntriesSoFar s n d left at lowest total whole → left ≤ 0 → lowest ≤ n → unlessSame total d (fault 7) noFault ≡ whole
 entries-end s n d left at lowest total whole h e q = sym (entriesFault-end s n d left at lowest total e) ∙ h .inRange q

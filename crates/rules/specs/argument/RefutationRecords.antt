@@ -14,30 +14,16 @@ use Rattle.bisimulation.specs.definitions.Choice.{ifSame}
 use Rattle.bisimulation.specs.argument.ChoiceLaws.{less, notLess, same, notSame, isTrue, pastLess, keptLess, keptSame, pastSame, keptTrue}
 use Rattle.bisimulation.specs.definitions.Automaton.{Automaton}
 use Rattle.bisimulation.specs.definitions.Pairs.{Pairs}
-use Rattle.rules.specs.definitions.AnyRule.{Decides, Narrow}
+use Rattle.rules.specs.argument.AnyRule.{Decides, Narrow}
 use Rattle.rules.specs.definitions.Bytes.{twoAt, signedAt, twoBytes}
 use Rattle.rules.specs.argument.Standing.{Stands, IsBytes, stands-first, stands-cons, stands-byte, stands-rest, stands-at, mark-stands, after-two, rest-of-two, two-is, two-stands, length-two, length-four, signed-is, signed-stands, signed-small}
-use Rattle.rules.specs.definitions.Certificate.{Fault, fault, noFault, firstOf, FileRule, challengerAt, defenderAt, pricesAt, afterRefutation, pairFault, refutationFault}
+use Rattle.rules.specs.definitions.Certificate.{FileRule, challengerAt, defenderAt, pricesAt, afterRefutation, pairFault, refutationFault}
+use Rattle.rules.specs.definitions.Faults.{fault, noFault, certificateRecord}
+use Rattle.rules.specs.argument.FaultLaws.{no-fault, none-first, first-none, certificate-refuses, opened, opens}
 use Rattle.rules.specs.definitions.Encoding.{Refutation, complement, priceBytes, pricesBytes, refutationBytes, pricesOf}
 use Rattle.rules.specs.definitions.Accepted.{RuleSays, GoodRefutation}
 use Rattle.rules.specs.argument.EntryLists.{entriesFrom, length-entriesFrom, length-listBytes, entries-stand, entries-read}
 use Rattle.rules.specs.definitions.SoundModel.{Each}
-
--- a refusal is a fault
-pub no-fault : (k : ℕ) → noFault ≡ fault (suc k) → ⊥
-no-fault k e = let q = ap (λ (f : Fault). f .number) e in omega arith
-
-pub none-first : (f next : Fault) → noFault ≡ firstOf f next → (noFault ≡ f) × (noFault ≡ next)
-unfolding firstOf ifSame
-none-first f next = go (eqb (f .number) 0) refl
-  where
-    go : (t : Bool) → eqb (f .number) 0 ≡ t → noFault ≡ cond t next f → (noFault ≡ f) × (noFault ≡ next)
-    go true q e = (ap fault (sym (eqb-true (f .number) 0 q)), e)
-    go false q e = absurd (eqb-false (f .number) 0 q (sym (ap (λ (g : Fault). g .number) e)))
-
-pub first-none : (f next : Fault) → noFault ≡ f → noFault ≡ next → noFault ≡ firstOf f next
-unfolding firstOf
-first-none f next e h = same f (sym (ap (λ (g : Fault). g .number) e)) h
 
 -- the prices that stand from a place on
 abbrev pub pricesFrom : List ℕ → ℕ → ℕ → List ℤ
@@ -106,17 +92,16 @@ module _ (file : FileRule) (A : Automaton) (C : List ℕ) (R : Pairs) (at : ℕ)
   pub passed : noFault ≡ refutationFault file A C R at → Passed
   unfolding refutationFault pairFault
   passed e =
-      let a = pastLess (fault 11) _ (length C) (at + 2) (no-fault 10) e in
-      let b = keptSame _ (fault 12) (twoAt C at) 0x5058 (no-fault 11) (a .1) in
-      let c = pastLess (fault 11) _ (length C) (at + 5) (no-fault 10) (b .1) in
-      let d = none-first _ _ (c .1) in
+      let a = none-first _ _ e in
+      let b = opened certificateRecord 0x5058 5 C at certificate-refuses (a .0) in
+      let d = none-first _ _ (a .1) in
       let f = keptLess _ (fault 14) (challengerAt C at) (A .transitions) (no-fault 13) (d .0) in
       let g = keptLess _ (fault 14) (defenderAt C at) (A .states) (no-fault 13) (f .1) in
       let h = pastSame (fault 14) _ (defenderAt C at) (A .source (challengerAt C at)) (no-fault 13) (g .1) in
       let i = keptTrue _ (fault 14) (R (A .source (challengerAt C at)) (defenderAt C at)) (no-fault 13) (h .1) in
       let j = pastLess (fault 11) _ (length C) (afterRefutation file A C at) (no-fault 10) (d .1) in
       record {
-        mark = b .0;
+        mark = b .marked;
         transition = f .0;
         state = g .0;
         different = h .0;
@@ -206,12 +191,10 @@ module _ (file : FileRule) (says : RuleSays) (decides : Decides file says) (A : 
     refutation-passes =
         let l = length-refutation x in
         let i = stands .inside in
-        notLess _ (omega arith)
-        (same _ mark-read
-        (notLess _ (omega arith)
+        first-none _ _ (opens certificateRecord 0x5058 5 C at (omega arith) mark-read (omega arith))
         (first-none _ _
         (less _ (omega (arith, challenger-read, good .transition))
         (less _ (omega (arith, defender-read, good .state))
         (notSame _ (λ e. good .different (sym defender-read ∙ e ∙ ap (A .source) challenger-read))
         (isTrue _ (ap₂ (λ (q u : ℕ). R (A .source q) u) challenger-read defender-read ∙ good .related) refl))))
-        (notLess _ (omega (arith, after-read)) prices-good))))
+        (notLess _ (omega (arith, after-read)) prices-good))

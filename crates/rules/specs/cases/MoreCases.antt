@@ -12,14 +12,15 @@ use Rattle.bisimulation.specs.definitions.Prices.{priceAt, priceOfTargets}
 use Rattle.rules.specs.definitions.Limits.{limits}
 use Rattle.rules.specs.definitions.Bytes.{byteAt, twoAt, threeAt, fourAt, signedAt}
 use Rattle.rules.specs.definitions.Model.{weightOf, automatonOf}
-use Rattle.rules.specs.definitions.Reading.{firstFault, statesOf, actionsOf, countOf, rangeFault, headFault, labelFault, labelsFault, sourceAt, actionAt, denominatorAt, entryCountAt, afterTransition, fixedFault, fixedFaultAt, entriesFault, transitionFault, refuseAt, scanTransitions, scanModel, refuseBytesLeft, scanWhole, entriesAt, transitionAt, transitionsAt, modelAt, readingOf, readWhole, placeOf, firstNotBelow, runFirst, runPast, runStart, runEnd}
+use Rattle.rules.specs.definitions.Reading.{statesOf, actionsOf, countOf, rangeFault, headFault, labelFault, labelsFault, sourceAt, actionAt, denominatorAt, entryCountAt, afterTransition, fixedFault, fixedFaultAt, entriesFault, transitionFault, refuseAt, scanTransitions, scanModel, refuseBytesLeft, scanWhole, entriesAt, transitionAt, transitionsAt, modelAt, readingOf, readWhole, placeOf, firstNotBelow, runFirst, runPast, runStart, runEnd}
 use Rattle.bisimulation.specs.definitions.Pairs.{equalLabels, isPair, removed}
-use Rattle.rules.specs.definitions.Certificate.{fault, firstOf, refutationCount, certificateHeadFault, challengerAt, defenderAt, pricesAt, afterRefutation, pairFault, refutationFault, pairsAfter, blocksAt, numberedFault, sameBlock, agree, pairsFault, blocksFault, kCountAt, afterK, wCountAt, afterFlow, kOf, wOf, flowAt, kFault, wFault, flowFault}
+use Rattle.rules.specs.definitions.Certificate.{refutationCount, certificateHeadFault, challengerAt, defenderAt, pricesAt, afterRefutation, pairFault, refutationFault, pairsAfter, blocksAt, numberedFault, sameBlock, agree, pairsFault, blocksFault, kCountAt, afterK, wCountAt, afterFlow, kOf, wOf, flowAt, kFault, wFault, flowFault}
+use Rattle.rules.specs.definitions.Faults.{fault, firstOf, openFault}
 use Rattle.rules.specs.definitions.PlainRule.{byKind, plainPriceCount, priceCondition, allWithAction, allRelated, below, internalPricesFault, externalPricesFault, plainPricesFault, plainInQuestion, allHold, internalEquationsFault, externalEquationsFault, plainEquationsFault, plainRule}
 use Rattle.rules.specs.definitions.Judging.{Judgement, accepted, rejected, rejectAt, questionsOfPair, questionsOfState, questionsFrom, questions, judgeFlows, judgeBlocks, judgeRefutations, judgeCertificate, judgeReading, judge}
 use Rattle.rules.specs.cases.Cases.{modelS, certificateS, Case, between, cases, judged}
 use Rattle.rules.specs.definitions.SoundModel.{Each, sumOver, TransitionRules}
-use Rattle.rules.specs.definitions.Answers.{Answer, Outcome, refusalIn, answerWithoutPlace, runAnswer, fetchReading, fetchAnswer, unwritten, filled, rejection, blocksOutcome, judgeReadingOutcome, judgeOutcome}
+use Rattle.rules.specs.definitions.Answers.{Answer, Outcome, refusalIn, answerWithoutPlace, runAnswer, fetchReading, fetchAnswer, fileOf, judgementAnswer, unwritten, filled, judgedOutcome, readOutcome, pairOutcome, writesBlocks}
 
 -- a model file, a certificate file, and the judgement of them
 pub record FilesCase : Type 0 where
@@ -127,8 +128,8 @@ outcomeCases =
     ∷ []
 
 -- the tables, computed case by case, with C1 to C10 once more: a refusal shows the case that fails
-pub more-cases : Each (λ (c : Case). judged c ≡ c .expected) cases × Each (λ (c : FilesCase). judge limits plainRule (c .model) (c .certificate) ≡ c .expected) moreCases × Each (λ (c : FetchCase). fetchAnswer limits (c .model) (c .state) ≡ c .expected) fetchCases × Each (λ (c : OutcomeCase). judgeOutcome limits plainRule modelS (c .certificate) (c .before) ≡ c .expected) outcomeCases
-unfolding ifLess ifSame ifTrue allBelow sum sumℤ arriving leaving overTargets overSources beforeMove afterMove internalMove atTarget priceAt priceOfTargets byteAt twoAt threeAt fourAt signedAt weightOf automatonOf firstFault statesOf actionsOf countOf rangeFault headFault labelFault labelsFault sourceAt actionAt denominatorAt entryCountAt afterTransition fixedFault fixedFaultAt entriesFault transitionFault refuseAt scanTransitions scanModel refuseBytesLeft scanWhole entriesAt transitionAt transitionsAt modelAt readingOf readWhole firstOf both equalLabels isPair removed refutationCount certificateHeadFault challengerAt defenderAt pricesAt afterRefutation pairFault refutationFault pairsAfter blocksAt numberedFault sameBlock agree pairsFault blocksFault kCountAt afterK wCountAt afterFlow kOf wOf flowAt kFault wFault flowFault byKind plainPriceCount priceCondition allWithAction allRelated below internalPricesFault externalPricesFault plainPricesFault plainInQuestion allHold internalEquationsFault externalEquationsFault plainEquationsFault rejectAt questionsOfPair questionsOfState questionsFrom questions judgeFlows judgeBlocks judgeRefutations judgeCertificate judgeReading judge modelS certificateS between cases judged oneStep roundTrip blocksOnly stayFlow placeOf firstNotBelow runFirst runPast runStart runEnd refusalIn answerWithoutPlace runAnswer fetchReading fetchAnswer unwritten filled rejection blocksOutcome judgeReadingOutcome judgeOutcome Each moreCases fetchCases outcomeCases
+pub more-cases : Each (λ (c : Case). judged c ≡ c .expected) cases × Each (λ (c : FilesCase). judge limits (readWhole limits) plainRule (c .model) (c .certificate) ≡ c .expected) moreCases × Each (λ (c : FetchCase). fetchAnswer limits (c .model) (c .state) ≡ c .expected) fetchCases × Each (λ (c : OutcomeCase). pairOutcome limits (readWhole limits) plainRule writesBlocks modelS (c .certificate) (c .before) ≡ c .expected) outcomeCases
+unfolding ifLess ifSame ifTrue allBelow sum sumℤ arriving leaving overTargets overSources beforeMove afterMove internalMove atTarget priceAt priceOfTargets byteAt twoAt threeAt fourAt signedAt weightOf automatonOf openFault statesOf actionsOf countOf rangeFault headFault labelFault labelsFault sourceAt actionAt denominatorAt entryCountAt afterTransition fixedFault fixedFaultAt entriesFault transitionFault refuseAt scanTransitions scanModel refuseBytesLeft scanWhole entriesAt transitionAt transitionsAt modelAt readingOf readWhole firstOf both equalLabels isPair removed refutationCount certificateHeadFault challengerAt defenderAt pricesAt afterRefutation pairFault refutationFault pairsAfter blocksAt numberedFault sameBlock agree pairsFault blocksFault kCountAt afterK wCountAt afterFlow kOf wOf flowAt kFault wFault flowFault byKind plainPriceCount priceCondition allWithAction allRelated below internalPricesFault externalPricesFault plainPricesFault plainInQuestion allHold internalEquationsFault externalEquationsFault plainEquationsFault rejectAt questionsOfPair questionsOfState questionsFrom questions judgeFlows judgeBlocks judgeRefutations judgeCertificate judgeReading judge modelS certificateS between cases judged oneStep roundTrip blocksOnly stayFlow placeOf firstNotBelow runFirst runPast runStart runEnd refusalIn answerWithoutPlace runAnswer fetchReading fetchAnswer fileOf judgementAnswer unwritten filled judgedOutcome readOutcome pairOutcome Each moreCases fetchCases outcomeCases
 more-cases = (
   (refl, (refl, (refl, (refl, (refl, (refl, (refl, (refl, (refl, (refl, tt)))))))))),
   (refl, (refl, (refl, (refl, (refl, (refl, (refl, (refl, (refl, (refl, (refl, tt))))))))))),

@@ -135,10 +135,18 @@ pub record Kept (L : Limits) (says : RuleSays) (mark : ℕ) (A : Automaton) (C b
   pub keeps : KeepsRules L says A certificate
   pub named : certificate .blocks ≡ blocks
 
--- the product's second demand: a certificate is accepted if, and only if, it keeps every rule of document 01 on a sound model. The model
--- bytes are those of a sound model, and the certificate bytes those of a certificate that keeps every rule for its automaton
-pub record Accepted (L : Limits) (says : RuleSays) (mark : ℕ) (bytes C blocks : List ℕ) : Type 0 where
-  pub M : Model
+-- which bytes are the file of a model; document 01's are `FileOf`
+abbrev pub IsFile : Type 1
+IsFile = List ℕ → Model → Type 0
+
+-- the bytes are those of a sound model
+pub record FileOf (L : Limits) (bytes : List ℕ) (M : Model) : Type 0 where
   pub sound : SoundModel L M
   pub encoded : bytes ≡ modelBytes M
+
+-- the product's second demand: a certificate is accepted if, and only if, it keeps every rule of document 01 on a sound model. The model
+-- bytes are the file of a model, and the certificate bytes those of a certificate that keeps every rule for its automaton
+pub record Accepted (L : Limits) (isFile : IsFile) (says : RuleSays) (mark : ℕ) (bytes C blocks : List ℕ) : Type 0 where
+  pub M : Model
+  pub file : isFile bytes M
   pub kept : Kept L says mark (automatonOf M) C blocks

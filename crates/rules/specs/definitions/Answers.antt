@@ -2,14 +2,15 @@
 use Prim.Native.Nat.{ℕ, _-_, _≤_}
 use mathlib.Core.Path.{_≡_}
 use mathlib.Core.Logic.{_⊎_}
-use mathlib.Core.List.{List, _++_}
-use lib.ListN.{length, take, drop}
-use Rattle.bisimulation.specs.definitions.Choice.{ifLess, ifSame, unlessLess}
+use mathlib.Core.List.{List, [], _∷_, _++_}
+use lib.ListN.{length, take, drop, getD}
+use Rattle.bisimulation.specs.definitions.Choice.{ifLess, unlessLess}
 use Rattle.rules.specs.definitions.Limits.{Limits}
 use Rattle.rules.specs.definitions.Model.{Model}
-use Rattle.rules.specs.definitions.Reading.{Reading, model, noModel, modelAt, readWhole, runStart, runEnd}
-use Rattle.rules.specs.definitions.Certificate.{Fault, FileRule}
-use Rattle.rules.specs.definitions.Judging.{Judgement, accepted, rejected, judge}
+use Rattle.rules.specs.definitions.Faults.{Fault}
+use Rattle.rules.specs.definitions.Reading.{Scan, sound, refused, Reading, model, noModel, readWhole, runStart, runEnd}
+use Rattle.rules.specs.definitions.Certificate.{FileRule}
+use Rattle.rules.specs.definitions.Judging.{Judgement, accepted, rejected, Reader, judge}
 use Rattle.rules.specs.definitions.Quotient.{mergedFile}
 
 -- 'its number, the file (1 model, 2 certificate) and the byte place'; the stretch, or the run of a fetch, by where it starts and how
@@ -22,23 +23,37 @@ pub record Answer : Type 0 where
   pub stretchLength : ℕ
   pub written : ℕ
 
--- 'The stretch .. runs from that place to the file's end': a refusal in a file of so many bytes
-unfoldable pub refusalIn : (number file place size : ℕ) → Answer
-refusalIn number file place size =
-    record { number = number; file = file; place = place; stretchStart = place; stretchLength = size - place; written = 0 }
+-- 'The stretch .. runs from that place to the file's end': a fault in a file of so many bytes
+unfoldable pub refusalIn : Fault → (file place size : ℕ) → Answer
+refusalIn f file place size =
+    record { number = f .number; file = file; place = place; stretchStart = place; stretchLength = size - place; written = 0 }
 
 -- 'For 10, 23, 24, acceptance .. file and place are 0 and the stretch is empty': an empty stretch without a file starts at 0
 unfoldable pub answerWithoutPlace : (number written : ℕ) → Answer
 answerWithoutPlace number written =
     record { number = number; file = 0; place = 0; stretchStart = 0; stretchLength = 0; written = written }
 
+-- what the scan of a model file of so many bytes answers by itself
+unfoldable pub scanAnswer : ℕ → Scan → Answer
+scanAnswer size (sound n m count end) = answerWithoutPlace 0 0
+scanAnswer size (refused f place) = refusalIn f 1 place size
+
+-- a file by its number, 'the file (1 model, 2 certificate)', of the files that a call was given; the first where an answer names none
+unfoldable pub fileOf : List (List ℕ) → ℕ → List ℕ
+fileOf files k = getD files (k - 1) []
+
+-- what the judgement of these files answers by itself
+unfoldable pub judgementAnswer : List (List ℕ) → Judgement → Answer
+judgementAnswer files (accepted blocks) = answerWithoutPlace 0 0
+judgementAnswer files (rejected f file place) = refusalIn f file place (length (fileOf files file))
+
 -- the bytes of a stretch or run in its file
 unfoldable pub stretchIn : List ℕ → Answer → List ℕ
 stretchIn s a = take (a .stretchLength) (drop (a .stretchStart) s)
 
 -- 'The stretch handed back lies in the model or in the certificate'
-unfoldable pub stretchOf : (M C : List ℕ) → Answer → List ℕ
-stretchOf M C a = ifSame (a .file) 2 (stretchIn C a) (stretchIn M a)
+unfoldable pub stretchOf : List (List ℕ) → Answer → List ℕ
+stretchOf files a = stretchIn (fileOf files (a .file)) a
 
 -- 'the answer is that run of the model's own bytes, empty where none leave. It comes in place of the stretch, with number, file and place 0'
 unfoldable pub runAnswer : (start end : ℕ) → Answer
@@ -51,7 +66,7 @@ runAnswer start end =
 unfoldable pub fetchReading : List ℕ → ℕ → Reading → Answer
 fetchReading s state (model M end) =
     unlessLess state (length (M .labels)) (answerWithoutPlace 24 0) (runAnswer (runStart s state) (runEnd s state))
-fetchReading s state (noModel number place) = refusalIn number 1 place (length s)
+fetchReading s state (noModel f place) = refusalIn f 1 place (length s)
 
 -- the call that fetches: 'the transitions that leave a state'
 unfoldable pub fetchAnswer : Limits → List ℕ → ℕ → Answer
@@ -70,37 +85,41 @@ unwritten a buffer = record { answer = a; buffer = buffer }
 unfoldable pub filled : (bytes buffer : List ℕ) → Outcome
 filled bytes buffer = record { answer = answerWithoutPlace 0 (length bytes); buffer = bytes ++ drop (length bytes) buffer }
 
--- a refusal of judging as an answer
-unfoldable pub rejection : (M C : List ℕ) → Fault → (file place : ℕ) → Answer
-rejection M C f file place = refusalIn (f .number) file place (ifSame file 2 (length C) (length M))
+-- what a call that judges does with an accepted certificate
+pub record Follows : Type 0 where
+  -- how long a lent block buffer must be for a model; 0 where the call lends none
+  pub blockRoom : Model → ℕ
+  -- what the model and its accepted blocks come to, with what the lent buffer held
+  pub outcome : Model → (blocks buffer : List ℕ) → Outcome
+  -- the number that refuses after acceptance, 0 where none does
+  pub late : ℕ
 
--- a judgement as an answer, with the blocks written into the buffer
-unfoldable pub blocksOutcome : (M C buffer : List ℕ) → Judgement → Outcome
-blocksOutcome M C buffer (accepted blocks) = filled blocks buffer
-blocksOutcome M C buffer (rejected f file place) = unwritten (rejection M C f file place) buffer
+-- a judgement for the model N as an answer: what follows acceptance, or the refusal
+unfoldable pub judgedOutcome : Follows → (M C buffer : List ℕ) → Model → Judgement → Outcome
+judgedOutcome follows M C buffer N (accepted blocks) = follows .outcome N blocks buffer
+judgedOutcome follows M C buffer N (rejected f file place) = unwritten (judgementAnswer (M ∷ C ∷ []) (rejected f file place)) buffer
 
 -- 'block buffer, after the model': 10, 'shorter than n', for what reading the model gave; then the judgement
-unfoldable pub judgeReadingOutcome : (M C buffer : List ℕ) → Reading → Judgement → Outcome
-judgeReadingOutcome M C buffer (model N end) judged =
-    ifLess (length buffer) (length (N .labels)) (unwritten (answerWithoutPlace 10 0) buffer) (blocksOutcome M C buffer judged)
-judgeReadingOutcome M C buffer (noModel number place) judged = blocksOutcome M C buffer judged
+unfoldable pub readOutcome : Follows → (M C buffer : List ℕ) → Reading → Judgement → Outcome
+readOutcome follows M C buffer (model N end) judged =
+    ifLess (length buffer) (follows .blockRoom N) (unwritten (answerWithoutPlace 10 0) buffer) (judgedOutcome follows M C buffer N judged)
+readOutcome follows M C buffer (noModel f place) judged = unwritten (refusalIn f 1 place (length M)) buffer
+
+-- a call that judges: the model is read, the certificate judged, and acceptance followed
+unfoldable pub pairOutcome : Limits → Reader → FileRule → Follows → (M C buffer : List ℕ) → Outcome
+pairOutcome L read rule follows M C buffer = readOutcome follows M C buffer (read M) (judge L read rule M C)
 
 -- the call that judges, with a lent block buffer
-unfoldable pub judgeOutcome : Limits → FileRule → (M C buffer : List ℕ) → Outcome
-judgeOutcome L rule M C buffer = judgeReadingOutcome M C buffer (readWhole L M) (judge L rule M C)
+abbrev pub writesBlocks : Follows
+writesBlocks = record { blockRoom = λ N. length (N .labels); outcome = λ N blocks buffer. filled blocks buffer; late = 0 }
 
 -- 'merged model': 23, 'buffer shorter than the file'; else the file is written
 unfoldable pub mergedOutcome : (file buffer : List ℕ) → Outcome
 mergedOutcome file buffer = ifLess (length buffer) (length file) (unwritten (answerWithoutPlace 23 0) buffer) (filled file buffer)
 
--- a judgement as an answer, with the merged model of the model N written into the buffer
-unfoldable pub quotientOutcome : (M C buffer : List ℕ) → Model → Judgement → Outcome
-quotientOutcome M C buffer N (accepted blocks) = mergedOutcome (mergedFile N blocks) buffer
-quotientOutcome M C buffer N (rejected f file place) = unwritten (rejection M C f file place) buffer
-
--- 'The call that writes it lends this buffer and no block buffer': judging, then the merged model of the model in the bytes
-unfoldable pub reduceOutcome : Limits → FileRule → (M C buffer : List ℕ) → Outcome
-reduceOutcome L rule M C buffer = quotientOutcome M C buffer (modelAt M) (judge L rule M C)
+-- 'The call that writes it lends this buffer and no block buffer'
+abbrev pub writesMerged : Follows
+writesMerged = record { blockRoom = λ N. 0; outcome = λ N blocks buffer. mergedOutcome (mergedFile N blocks) buffer; late = 23 }
 
 -- the numbers that document 01 gives for a fetch
 unfoldable pub FetchNumber : ℕ → Type 0

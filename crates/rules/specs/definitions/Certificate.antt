@@ -12,22 +12,7 @@ use Rattle.bisimulation.specs.definitions.Automaton.{Automaton}
 use Rattle.bisimulation.specs.definitions.StepRule.{Flow}
 use Rattle.rules.specs.definitions.Limits.{Limits}
 use Rattle.rules.specs.definitions.Bytes.{byteAt, twoAt, threeAt, fourAt, signedAt}
-
--- what is wrong with a record: the number of the refusal, 0 for nothing
-pub record Fault : Type 0 where
-  pub number : ℕ
-
--- the fault of a number
-abbrev pub fault : ℕ → Fault
-fault n = record { number = n }
-
--- nothing wrong
-abbrev pub noFault : Fault
-noFault = fault 0
-
--- the first of two faults in reading order
-unfoldable pub firstOf : Fault → Fault → Fault
-firstOf f next = ifSame (f .number) 0 next f
+use Rattle.rules.specs.definitions.Faults.{Fault, fault, noFault, firstOf, certificateRecord, openFault}
 
 -- what a step rule decides of a certificate file
 pub record FileRule : Type 0 where
@@ -49,11 +34,9 @@ refutationCount C = twoAt C 2
 -- 'certificate head': 11, 12, and 13, 'count above 2,016'
 unfoldable pub certificateHeadFault : Limits → FileRule → List ℕ → Fault
 certificateHeadFault L rule C =
-    ifLess (length C) 2 (fault 11)
-    (unlessSame (twoAt C 0) (rule .mark) (fault 12)
-    (ifLess (length C) 4 (fault 11)
+    firstOf (openFault certificateRecord (rule .mark) 4 C 0)
     (ifLess (L .refutations) (refutationCount C) (fault 13)
-    noFault)))
+    noFault)
 
 -- 'refutation': its challenger transition
 unfoldable pub challengerAt : List ℕ → ℕ → ℕ
@@ -83,12 +66,10 @@ pairFault A R q t =
 -- 'refutation': 11, 12, 14, 15, 16, judged against the pairs left when it is read
 unfoldable pub refutationFault : FileRule → Automaton → List ℕ → Pairs → ℕ → Fault
 refutationFault rule A C R at =
-    ifLess (length C) (at + 2) (fault 11)
-    (unlessSame (twoAt C at) 0x5058 (fault 12)
-    (ifLess (length C) (at + 5) (fault 11)
+    firstOf (openFault certificateRecord 0x5058 5 C at)
     (firstOf (pairFault A R (challengerAt C at) (defenderAt C at))
     (ifLess (length C) (afterRefutation rule A C at) (fault 11)
-    (rule .pricesFault A R (challengerAt C at) (defenderAt C at) (pricesAt C at))))))
+    (rule .pricesFault A R (challengerAt C at) (defenderAt C at) (pricesAt C at))))
 
 -- the pairs left after a refutation
 unfoldable pub pairsAfter : Automaton → List ℕ → Pairs → ℕ → Pairs
@@ -121,11 +102,9 @@ pairsFault A R blocks =
 -- 'blocks': 11, 12, 17, 18
 unfoldable pub blocksFault : Automaton → List ℕ → Pairs → ℕ → Fault
 blocksFault A C R at =
-    ifLess (length C) (at + 2) (fault 11)
-    (unlessSame (twoAt C at) 0x424B (fault 12)
-    (ifLess (length C) (at + 2 + A .states) (fault 11)
+    firstOf (openFault certificateRecord 0x424B (2 + A .states) C at)
     (firstOf (numberedFault C (A .states) (at + 2) 0)
-    (pairsFault A R (blocksAt A C at)))))
+    (pairsFault A R (blocksAt A C at)))
 
 -- 'flow': 'D 4; k count 2; entries of layer 1, transition 2, k 4; w count 2; entries of v 1, u 1, w 4'. The k count
 unfoldable pub kCountAt : List ℕ → ℕ → ℕ
@@ -191,13 +170,11 @@ wFault A C R (suc left) at lowest =
 -- before the next is looked for'
 unfoldable pub flowFault : FileRule → Automaton → List ℕ → Pairs → (q t : ℕ) → ℕ → Fault
 flowFault rule A C R q t at =
-    ifLess (length C) (at + 2) (fault 11)
-    (unlessSame (twoAt C at) 0x464C (fault 12)
-    (ifLess (length C) (at + 8) (fault 11)
+    firstOf (openFault certificateRecord 0x464C 8 C at)
     (ifSame (fourAt C (at + 2)) 0 (fault 19)
     (ifLess (length C) (afterK C at) (fault 11)
     (firstOf (kFault rule A C q t (kCountAt C at) (at + 8) 0)
     (ifLess (length C) (afterK C at + 2) (fault 11)
     (ifLess (length C) (afterFlow C at) (fault 11)
     (firstOf (wFault A C R (wCountAt C at) (afterK C at + 2) 0)
-    (rule .equationsFault A q t (flowAt C at))))))))))
+    (rule .equationsFault A q t (flowAt C at))))))))

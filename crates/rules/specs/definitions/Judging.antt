@@ -7,9 +7,10 @@ use Rattle.bisimulation.specs.definitions.Choice.{ifLess, ifSame, ifTrue}
 use Rattle.bisimulation.specs.definitions.Automaton.{Automaton}
 use Rattle.rules.specs.definitions.Limits.{Limits}
 use Rattle.rules.specs.definitions.Model.{automatonOf}
-use Rattle.rules.specs.definitions.Reading.{Reading, model, noModel, readWhole}
+use Rattle.rules.specs.definitions.Reading.{Reading, model, noModel}
 use Rattle.bisimulation.specs.definitions.Pairs.{Pairs, equalLabels}
-use Rattle.rules.specs.definitions.Certificate.{Fault, fault, FileRule, refutationCount, certificateHeadFault, refutationFault, pairsAfter, afterRefutation, sameBlock, blocksAt, blocksFault, flowFault, afterFlow}
+use Rattle.rules.specs.definitions.Certificate.{FileRule, refutationCount, certificateHeadFault, refutationFault, pairsAfter, afterRefutation, sameBlock, blocksAt, blocksFault, flowFault, afterFlow}
+use Rattle.rules.specs.definitions.Faults.{Fault, fault}
 
 -- acceptance with its blocks, or a refusal with its fault, file (1 model, 2 certificate) and place
 pub data Judgement : Type 0 where
@@ -76,15 +77,19 @@ module _ (L : Limits) (rule : FileRule) (A : Automaton) (C : List ℕ) where
 -- a certificate judged for what reading the model gave
 unfoldable pub judgeReading : Limits → FileRule → Reading → List ℕ → Judgement
 judgeReading L rule (model M end) C = judgeCertificate L rule (automatonOf M) C
-judgeReading L rule (noModel number place) C = rejected (fault number) 1 place
+judgeReading L rule (noModel f place) C = rejected f 1 place
+
+-- how the bytes of a model file are read; document 01's reader is `readWhole`
+abbrev pub Reader : Type 0
+Reader = List ℕ → Reading
 
 -- judging: model bytes and certificate bytes
-unfoldable pub judge : Limits → FileRule → (M C : List ℕ) → Judgement
-judge L rule M C = judgeReading L rule (readWhole L M) C
+unfoldable pub judge : Limits → Reader → FileRule → (M C : List ℕ) → Judgement
+judge L read rule M C = judgeReading L rule (read M) C
 
 -- 'accepted for a model', with 'its accepted blocks': 'those of its blocks record'
-pub record AcceptedFor (L : Limits) (rule : FileRule) (M C blocks : List ℕ) : Type 0 where
-  pub answers : judge L rule M C ≡ accepted blocks
+pub record AcceptedFor (L : Limits) (read : Reader) (rule : FileRule) (M C blocks : List ℕ) : Type 0 where
+  pub answers : judge L read rule M C ≡ accepted blocks
 
 -- 'Two accepted certificates name the same blocks when the n bytes of their blocks records are the same'
 unfoldable pub NameSameBlocks : List ℕ → List ℕ → Type 0

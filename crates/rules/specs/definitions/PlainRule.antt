@@ -9,7 +9,8 @@ use Rattle.bisimulation.specs.definitions.Automaton.{Automaton}
 use Rattle.bisimulation.specs.definitions.StepRule.{Flow, Sides, beforeMove, afterMove, internalMove, atTarget}
 use Rattle.bisimulation.specs.definitions.Prices.{priceAt, priceOfTargets}
 use Rattle.bisimulation.specs.definitions.Pairs.{Pairs}
-use Rattle.rules.specs.definitions.Certificate.{Fault, fault, noFault, FileRule}
+use Rattle.rules.specs.definitions.Certificate.{FileRule}
+use Rattle.rules.specs.definitions.Faults.{Fault, fault, noFault}
 
 module _ (A : Automaton) where
   -- x for an internal challenger, y for an external one

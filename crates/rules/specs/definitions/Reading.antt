@@ -1,16 +1,12 @@
 -- Document 01, 'Refused, and where': the model file. 'Checks run in table order within a record and record by record.'
--- A fault is the number of the refusal, 0 for none.
 use Prim.Native.Nat.{ℕ, zero, suc, _+_, _*_, _-_}
-use mathlib.Core.List.{List, [], _∷_}
+use mathlib.Core.List.{List, [], _∷_, _++_}
 use lib.ListN.{length, take, drop}
 use Rattle.bisimulation.specs.definitions.Choice.{ifLess, ifSame, unlessLess, unlessSame}
 use Rattle.rules.specs.definitions.Limits.{Limits}
 use Rattle.rules.specs.definitions.Bytes.{byteAt, twoAt}
 use Rattle.rules.specs.definitions.Model.{Entry, Transition, Model}
-
--- the first of two faults in reading order
-unfoldable pub firstFault : ℕ → ℕ → ℕ
-firstFault f next = ifSame f 0 next f
+use Rattle.rules.specs.definitions.Faults.{Fault, fault, noFault, firstOf, modelRecord, openFault}
 
 -- 'model head': n
 unfoldable pub statesOf : List ℕ → ℕ
@@ -25,35 +21,27 @@ unfoldable pub countOf : List ℕ → ℕ
 countOf s = twoAt s 4
 
 -- 3: 'n, m or count outside its range'
-unfoldable pub rangeFault : Limits → ℕ → ℕ → ℕ → ℕ
+unfoldable pub rangeFault : Limits → (n m count : ℕ) → Fault
 rangeFault L n m count =
-    unlessLess 0 n 3
-    (ifLess (L .states) n 3
-    (unlessLess 0 m 3
-    (ifLess (L .actions) m 3
-    (ifLess (L .transitions) count 3
-    0))))
+    unlessLess 0 n (fault 3)
+    (ifLess (L .states) n (fault 3)
+    (unlessLess 0 m (fault 3)
+    (ifLess (L .actions) m (fault 3)
+    (ifLess (L .transitions) count (fault 3)
+    noFault))))
 
 -- 'model head': 1, 2, 3
-unfoldable pub headFault : Limits → List ℕ → ℕ
-headFault L s =
-    ifLess (length s) 2 1
-    (unlessSame (twoAt s 0) 0x5041 2
-    (ifLess (length s) 6 1
-    (rangeFault L (statesOf s) (actionsOf s) (countOf s))))
+unfoldable pub headFault : Limits → List ℕ → Fault
+headFault L s = firstOf (openFault modelRecord 0x5041 6 s 0) (rangeFault L (statesOf s) (actionsOf s) (countOf s))
 
 -- 'labels': 4, 'label above 63', for the labels that are left
-unfoldable pub labelFault : Limits → List ℕ → ℕ → ℕ → ℕ
-labelFault L s zero at = 0
-labelFault L s (suc left) at = ifLess (L .label) (byteAt s at) 4 (labelFault L s left (at + 1))
+unfoldable pub labelFault : Limits → List ℕ → (left at : ℕ) → Fault
+labelFault L s zero at = noFault
+labelFault L s (suc left) at = ifLess (L .label) (byteAt s at) (fault 4) (labelFault L s left (at + 1))
 
 -- 'labels': 1, 2, 4
-unfoldable pub labelsFault : Limits → List ℕ → ℕ → ℕ
-labelsFault L s n =
-    ifLess (length s) 8 1
-    (unlessSame (twoAt s 6) 0x4C42 2
-    (ifLess (length s) (8 + n) 1
-    (labelFault L s n 8)))
+unfoldable pub labelsFault : Limits → List ℕ → (n : ℕ) → Fault
+labelsFault L s n = firstOf (openFault modelRecord 0x4C42 (2 + n) s 6) (labelFault L s n 8)
 
 -- 'transition': the source field of the record at a place
 unfoldable pub sourceAt : List ℕ → ℕ → ℕ
@@ -77,51 +65,49 @@ afterTransition s at = at + 7 + 3 * entryCountAt s at
 
 -- 'transition, fixed fields': 5, 'source descends or absent, action absent, d 0, c outside 1 to n'; 8, 'entries so far pass 1,024'.
 -- n, m, the last source and the entries before this record; then the record's fields
-unfoldable pub fixedFault : Limits → (n m last entries : ℕ) → (source action d c : ℕ) → ℕ
+unfoldable pub fixedFault : Limits → (n m last entries : ℕ) → (source action d c : ℕ) → Fault
 fixedFault L n m last entries source action d c =
-    ifLess source last 5
-    (unlessLess source n 5
-    (unlessLess action m 5
-    (unlessLess 0 d 5
-    (unlessLess 0 c 5
-    (ifLess n c 5
-    (ifLess (L .entries) (entries + c) 8
-    0))))))
+    ifLess source last (fault 5)
+    (unlessLess source n (fault 5)
+    (unlessLess action m (fault 5)
+    (unlessLess 0 d (fault 5)
+    (unlessLess 0 c (fault 5)
+    (ifLess n c (fault 5)
+    (ifLess (L .entries) (entries + c) (fault 8)
+    noFault))))))
 
 -- the same of the record at a place
-unfoldable pub fixedFaultAt : Limits → List ℕ → (n m last entries at : ℕ) → ℕ
+unfoldable pub fixedFaultAt : Limits → List ℕ → (n m last entries at : ℕ) → Fault
 fixedFaultAt L s n m last entries at =
     fixedFault L n m last entries (sourceAt s at) (actionAt s at) (denominatorAt s at) (entryCountAt s at)
 
 -- 'transition, entries': 6, 'state absent or not ascending, weight 0'; after the last entry 7, 'sum not d'.
 -- For the entries left at a place: the lowest state that may follow, and the sum so far
-unfoldable pub entriesFault : List ℕ → (n d : ℕ) → (left at lowest total : ℕ) → ℕ
-entriesFault s n d zero at lowest total = unlessSame total d 7 0
+unfoldable pub entriesFault : List ℕ → (n d : ℕ) → (left at lowest total : ℕ) → Fault
+entriesFault s n d zero at lowest total = unlessSame total d (fault 7) noFault
 entriesFault s n d (suc left) at lowest total =
-    ifLess (byteAt s at) lowest 6
-    (unlessLess (byteAt s at) n 6
-    (unlessLess 0 (twoAt s (at + 1)) 6
+    ifLess (byteAt s at) lowest (fault 6)
+    (unlessLess (byteAt s at) n (fault 6)
+    (unlessLess 0 (twoAt s (at + 1)) (fault 6)
     (entriesFault s n d left (at + 3) (byteAt s at + 1) (total + twoAt s (at + 1)))))
 
 -- 'transition': 1, 2, 5, 8, 6, 7, after the last source and so many entries
-unfoldable pub transitionFault : Limits → List ℕ → (n m last entries at : ℕ) → ℕ
+unfoldable pub transitionFault : Limits → List ℕ → (n m last entries at : ℕ) → Fault
 transitionFault L s n m last entries at =
-    ifLess (length s) (at + 2) 1
-    (unlessSame (twoAt s at) 0x5452 2
-    (ifLess (length s) (at + 7) 1
-    (firstFault (fixedFaultAt L s n m last entries at)
-    (ifLess (length s) (afterTransition s at) 1
-    (entriesFault s n (denominatorAt s at) (entryCountAt s at) (at + 7) 0 0)))))
+    firstOf (openFault modelRecord 0x5452 7 s at)
+    (firstOf (fixedFaultAt L s n m last entries at)
+    (ifLess (length s) (afterTransition s at) (fault 1)
+    (entriesFault s n (denominatorAt s at) (entryCountAt s at) (at + 7) 0 0)))
 
 -- what the records of a model file are: sound, with n, m, the transition count and the place where the records end;
--- or a refusal, with its number and 'the byte place where the record at fault begins'
+-- or a refusal, with its fault and 'the byte place where the record at fault begins'
 pub data Scan : Type 0 where
   sound : (n m count end : ℕ) → Scan
-  refused : (number place : ℕ) → Scan
+  refused : Fault → (place : ℕ) → Scan
 
 -- a record's fault refuses at its place; without one the next record is looked at
-unfoldable pub refuseAt : ℕ → ℕ → Scan → Scan
-refuseAt fault place next = ifSame fault 0 next (refused fault place)
+unfoldable pub refuseAt : Fault → (place : ℕ) → Scan → Scan
+refuseAt f place next = ifSame (f .number) 0 next (refused f place)
 
 -- the transition records left, from a place on, after the last source and so many entries
 unfoldable pub scanTransitions : Limits → List ℕ → (n m count : ℕ) → (left last entries at : ℕ) → Scan
@@ -139,8 +125,8 @@ scanModel L s =
 
 -- 'after the model': 9, 'bytes left', at 'the first byte left'
 unfoldable pub refuseBytesLeft : List ℕ → Scan → Scan
-refuseBytesLeft s (sound n m count end) = ifLess end (length s) (refused 9 end) (sound n m count end)
-refuseBytesLeft s (refused number place) = refused number place
+refuseBytesLeft s (sound n m count end) = ifLess end (length s) (refused (fault 9) end) (sound n m count end)
+refuseBytesLeft s (refused f place) = refused f place
 
 -- a file that holds a model and nothing else: refusals 1 to 9
 unfoldable pub scanWhole : Limits → List ℕ → Scan
@@ -178,12 +164,12 @@ modelAt s =
 -- reading: the bytes give a model and where its records end, or a refusal with its place
 pub data Reading : Type 0 where
   model : Model → (end : ℕ) → Reading
-  noModel : (number place : ℕ) → Reading
+  noModel : Fault → (place : ℕ) → Reading
 
 -- the reading that a scan of the bytes allows
 unfoldable pub readingOf : List ℕ → Scan → Reading
 readingOf s (sound n m count end) = model (modelAt s) end
-readingOf s (refused number place) = noModel number place
+readingOf s (refused f place) = noModel f place
 
 -- reading the records of a model: refusals 1 to 8
 unfoldable pub readModel : Limits → List ℕ → Reading
@@ -192,6 +178,11 @@ readModel L s = readingOf s (scanModel L s)
 -- reading a file that holds a model and nothing else: refusals 1 to 9
 unfoldable pub readWhole : Limits → List ℕ → Reading
 readWhole L s = readingOf s (scanWhole L s)
+
+-- 'the transitions that leave a state'
+unfoldable pub leavingState : ℕ → List Transition → List Transition
+leavingState state [] = []
+leavingState state (t ∷ ts) = ifSame (t .source) state (t ∷ []) [] ++ leavingState state ts
 
 -- the place of the transition r, 'counted from 0 in file order'; for r the transition count, the place where the records end
 unfoldable pub placeOf : List ℕ → ℕ → ℕ

@@ -30,8 +30,8 @@ returns c =
     let b = c .before .before in
     walk-found (b .before .loop .inv) (b .loop-test .taken) (sym (c .before .same-bytes .ensures) ∙ c .if1 .taken)
 
-after-record-requires : tie.Need-after-record-requires Inv-loop μ-loop
-after-record-requires c κs =
+after-transition-requires : tie.Need-after-transition-requires Inv-loop μ-loop
+after-transition-requires c κs =
     let b = c .before .before in
     let h = b .before .before .before .pre in
     omega (arith, walk-inside (b .before .loop .inv) (b .loop-test .taken) h, h .stands .second, h .stands .inside)
@@ -43,7 +43,7 @@ loop-less c = omega arith
 loop-again : tie.Need-loop-again Inv-loop μ-loop
 loop-again c =
     let b = c .before .before .before in
-    subst⁻¹ (Walked _ _ _ _) (c .after-record .ensures)
+    subst⁻¹ (Walked _ _ _ _) (c .after-transition .ensures)
     (walk-turn (b .before .loop .inv) (b .loop-test .taken) (sym (c .before .before .same-bytes .ensures) ∙ c .before .if1 .left))
 
 returns-2 : tie.Need-returns-2 Inv-loop μ-loop
@@ -59,7 +59,7 @@ is-repeated-spec =
     sub-same-bytes
     same-bytes-requires
     returns
-    after-record-requires
+    after-transition-requires
     loop-less
     loop-again
     returns-2)

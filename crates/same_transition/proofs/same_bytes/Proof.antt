@@ -32,13 +32,13 @@ shared-slice-read-if1-2 : tie.Need-shared-slice-read-if1-2 Inv-loop μ-loop
 shared-slice-read-if1-2 c = omega arith
 
 returns : tie.Need-returns Inv-loop μ-loop
-returns c = same-not _ _ _ _ (c .before .before .before .before .loop .left - 1) (omega arith) (c .if1 .taken)
+returns c = same-not _ _ _ _ (c .before .before .before .before .loop .left - 1) (omega arith) (λ e. absurd (omega arith))
 
 loop-less : tie.Need-loop-less Inv-loop μ-loop
 loop-less c = omega arith
 
 loop-again : tie.Need-loop-again Inv-loop μ-loop
-loop-again c = (omega arith, from-more _ _ _ (omega arith) (c .before .before .before .before .loop .inv .1) (c .if1 .left))
+loop-again c = (omega arith, from-more _ _ _ (omega arith) (c .before .before .before .before .loop .inv .1) (omega arith))
 
 returns-2 : tie.Need-returns-2 Inv-loop μ-loop
 returns-2 c = same-all _ _ _ _ (λ i less. c .before .loop .inv .1 i (omega arith) less)

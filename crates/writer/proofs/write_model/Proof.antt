@@ -21,7 +21,11 @@ same-length : tie.Need-same-length
 same-length c = search needs
 
 returns : tie.Need-returns
-returns c = append-model refl (c .before .before .before .before .before .before .before .before .before .before .head .ensures) (c .before .before .before .before .before .before .part .ensures) (c .before .before .part2 .ensures)
+returns c =
+    let records = c .before .before in
+    let labels = records .before .before .before .before in
+    let start = labels .before .before .before .before in
+    append-model refl (start .head .ensures) (labels .part .ensures) (records .part2 .ensures)
 
 pub write-model-spec : {M : Type 1} → statement M
 write-model-spec =

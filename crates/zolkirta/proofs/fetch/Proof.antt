@@ -1,5 +1,5 @@
 -- `fetch` meets its contract: the answer's stretch or run lies in the model, and is the part handed back.
-use Rattle.zolkirta.specs.OutcomeLaws.{fetch-stretch, fetch-handed}
+use Rattle.zolkirta.specs.HandedLaws.{fetch-stretch, fetch-handed}
 use borrow.Author.Needs.{needs}
 use Rattle.zolkirta.proofs.fetch.Statement.{statement}
 use Rattle.zolkirta.proofs.fetch.Tie as tie

@@ -13,10 +13,7 @@ fetch-answer-requires c κs = search needs
 returns : tie.Need-returns
 returns c =
     let e = c .fetch-answer .ensures in
-    record {
-      answer = e;
-      number = subst⁻¹ FetchNumber (ap (λ (a : Answer). a .number) e) (fetch-number limits _ _);
-    }
+    record { answer = e; number = subst⁻¹ FetchNumber (ap (λ (a : Answer). a .number) e) (fetch-number limits _ _) }
 
 pub zolkirta-fetch-spec : {M : Type 1} → statement M
 zolkirta-fetch-spec = tie.close (tie.spec fetch-answer-requires returns)

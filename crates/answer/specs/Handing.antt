@@ -1,0 +1,24 @@
+-- An answer handed back.
+use Prim.Native.Nat.{ℕ, _+_, _-_}
+use mathlib.Core.Path.{_≡_}
+use mathlib.Core.List.{List}
+use lib.ListN.{getD}
+use Rattle.rules.specs.definitions.Answers.{stretchOf}
+use Rattle.answer.specs.declared.Answer.{Answer}
+use Rattle.answer.specs.Answered.{answered}
+
+-- where a part of a slice lies that begins so many bytes after the slice does: a block of memory and an offset in it
+abbrev pub partFrom : ℕ × ℕ → ℕ → ℕ × ℕ
+partFrom slice start = (slice .0, start + slice .1)
+
+-- the slice of the file at fault, of those of the call's files; the first where an answer names none
+abbrev pub sliceOf : List (ℕ × ℕ) → ℕ → ℕ × ℕ
+sliceOf slices file = getD slices (file - 1) (0, 0)
+
+-- its numbers, and its stretch as a part of its file
+pub record HandsBack (files : List (List ℕ)) (slices : List (ℕ × ℕ)) (r : Answer) (number file place : ℕ) (part : List ℕ) (lying : ℕ × ℕ) : Type 0 where
+  pub numbered : number ≡ r .number
+  pub filed : file ≡ r .file
+  pub placed : place ≡ r .place
+  pub handed : part ≡ stretchOf files (answered r)
+  pub lies : lying ≡ partFrom (sliceOf slices (r .file)) (r .«stretch_start»)

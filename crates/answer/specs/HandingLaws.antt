@@ -1,0 +1,83 @@
+-- The stretch of an answer as a part of its file.
+use Prim.Native.Nat.{ℕ, _+_, _-_, _≤_}
+use mathlib.Core.Path.{_≡_, refl, sym, _∙_, ap}
+use mathlib.Core.List.{List, [], _∷_}
+use lib.ListN.{length, take, drop, getD}
+use native.Mathlib.Nat.{add-sub-cancel-left}
+use native.Mathlib.Decide.{decLe}
+use native.Mathlib.Omega.{arith}
+use Rattle.rules.specs.definitions.Answers.{fileOf, stretchIn, stretchOf}
+use Rattle.answer.specs.declared.Answer.{Answer}
+use Rattle.answer.specs.Answered.{answered, StretchInside}
+use Rattle.answer.specs.Handing.{partFrom, sliceOf, HandsBack}
+
+-- the file of an answer, of three, and of their slices
+module _ {X : Type 0} (a b c d : X) (k : ℕ) where
+  second-of : k ≡ 2 → getD (a ∷ b ∷ c ∷ []) (k - 1) d ≡ b
+  second-of e = ap (λ (i : ℕ). getD (a ∷ b ∷ c ∷ []) (i - 1) d) e
+
+  third-of : k ≡ 3 → getD (a ∷ b ∷ c ∷ []) (k - 1) d ≡ c
+  third-of e = ap (λ (i : ℕ). getD (a ∷ b ∷ c ∷ []) (i - 1) d) e
+
+  pub first-of : k ≤ 1 → getD (a ∷ b ∷ c ∷ []) (k - 1) d ≡ a
+  first-of h = let z : k - 1 ≡ 0 = omega arith in ap (λ (i : ℕ). getD (a ∷ b ∷ c ∷ []) i d) z
+
+  -- the first two of three
+  pub two-of : k ≤ 2 → getD (a ∷ b ∷ c ∷ []) (k - 1) d ≡ getD (a ∷ b ∷ []) (k - 1) d
+  two-of h = go (decLe k 1)
+    where
+      go : Dec (k ≤ 1) → getD (a ∷ b ∷ c ∷ []) (k - 1) d ≡ getD (a ∷ b ∷ []) (k - 1) d
+      go (yes l) = let z : k - 1 ≡ 0 = omega arith in ap (λ (i : ℕ). getD (a ∷ b ∷ c ∷ []) i d) z ∙ ap (λ (i : ℕ). getD (a ∷ b ∷ []) i d) (sym z)
+      go (no l) = let z : k - 1 ≡ 1 = omega arith in ap (λ (i : ℕ). getD (a ∷ b ∷ c ∷ []) i d) z ∙ ap (λ (i : ℕ). getD (a ∷ b ∷ []) i d) (sym z)
+
+abbrev endOf : Answer → ℕ
+endOf r = r .«stretch_start» + r .«stretch_length»
+
+-- the stretch lies in its file
+module _ {a b c : List ℕ} {r : Answer} (i : StretchInside (a ∷ b ∷ c ∷ []) r) where
+  pub in-second : r .file ≡ 2 → endOf r ≤ length b
+  unfolding fileOf
+  in-second e = omega (arith, i .fits, ap length (second-of a b c [] (r .file) e))
+
+  pub in-third : r .file ≡ 3 → endOf r ≤ length c
+  unfolding fileOf
+  in-third e = omega (arith, i .fits, ap length (third-of a b c [] (r .file) e))
+
+  pub names-first : (r .file ≡ 2 → ⊥) → (r .file ≡ 3 → ⊥) → r .file ≤ 1
+  names-first n m = omega (arith, n, m, i .named)
+
+  pub in-first : r .file ≤ 1 → endOf r ≤ length a
+  unfolding fileOf
+  in-first h = omega (arith, i .fits, ap length (first-of a b c [] (r .file) h))
+
+part-of : (r : Answer) (s : List ℕ) → take (endOf r - r .«stretch_start») (drop (r .«stretch_start») s) ≡ stretchIn s (answered r)
+unfolding stretchIn
+part-of r s = ap (λ (k : ℕ). take k (drop (r .«stretch_start») s)) (add-sub-cancel-left (r .«stretch_start») (r .«stretch_length»))
+
+-- a part of the file that it names is what is handed back
+from-file : (files : List (List ℕ)) (slices : List (ℕ × ℕ)) (r : Answer) (s : List ℕ) (slice : ℕ × ℕ) → fileOf files (r .file) ≡ s → sliceOf slices (r .file) ≡ slice → HandsBack files slices r (r .number) (r .file) (r .place) (take (endOf r - r .«stretch_start») (drop (r .«stretch_start») s)) (partFrom slice (r .«stretch_start»))
+unfolding stretchOf
+from-file files slices r s slice e f =
+    record {
+      numbered = refl;
+      filed = refl;
+      placed = refl;
+      handed = part-of r s ∙ ap (λ (l : List ℕ). stretchIn l (answered r)) (sym e);
+      lies = ap (λ (p : ℕ × ℕ). partFrom p (r .«stretch_start»)) (sym f);
+    }
+
+module _ (a b c : List ℕ) (x y z : ℕ × ℕ) (r : Answer) where
+  abbrev HandsPart : List ℕ → ℕ × ℕ → Type 0
+  HandsPart s slice = HandsBack (a ∷ b ∷ c ∷ []) (x ∷ y ∷ z ∷ []) r (r .number) (r .file) (r .place) (take (endOf r - r .«stretch_start») (drop (r .«stretch_start») s)) (partFrom slice (r .«stretch_start»))
+
+  pub from-second : r .file ≡ 2 → HandsPart b y
+  unfolding fileOf
+  from-second e = from-file _ _ r b y (second-of a b c [] (r .file) e) (second-of x y z (0, 0) (r .file) e)
+
+  pub from-third : r .file ≡ 3 → HandsPart c z
+  unfolding fileOf
+  from-third e = from-file _ _ r c z (third-of a b c [] (r .file) e) (third-of x y z (0, 0) (r .file) e)
+
+  pub from-first : r .file ≤ 1 → HandsPart a x
+  unfolding fileOf
+  from-first h = from-file _ _ r a x (first-of a b c [] (r .file) h) (first-of x y z (0, 0) (r .file) h)

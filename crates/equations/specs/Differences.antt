@@ -1,0 +1,90 @@
+-- The two sides of a flow's equations as sums over its entries, in their order: what the remainders hold is left less right.
+use Prim.Native.Nat.{ℕ, zero, suc, _+_, _*_, _<_}
+use mathlib.Core.Path.{_≡_}
+use mathlib.Core.Logic.{_⊎_}
+use mathlib.Core.List.{List}
+use Rattle.bisimulation.specs.definitions.Choice.{ifSame, unlessSame}
+use Rattle.bisimulation.specs.definitions.Automaton.{Automaton}
+use Rattle.bisimulation.specs.definitions.Pairs.{Pairs}
+use Rattle.rules.specs.definitions.Bytes.{byteAt, twoAt, fourAt}
+use Rattle.rules.specs.definitions.Certificate.{FileRule, kCountAt, afterK, wCountAt, flowAt, kFault, wFault}
+use Rattle.rules.specs.definitions.Faults.{Fault, fault, noFault}
+
+-- a sum over the k entries left at a place, of a term for the layer, the transition and k
+unfoldable pub kSum : List ℕ → (ℕ → ℕ → ℕ → ℕ) → (left at : ℕ) → ℕ
+kSum C f zero at = 0
+kSum C f (suc left) at = f (byteAt C at) (twoAt C (at + 1)) (fourAt C (at + 3)) + kSum C f left (at + 7)
+
+-- a sum over the w entries left at a place, of a term for v, u and w
+unfoldable pub wSum : List ℕ → (ℕ → ℕ → ℕ → ℕ) → (left at : ℕ) → ℕ
+wSum C f zero at = 0
+wSum C f (suc left) at = f (byteAt C at) (byteAt C (at + 1)) (fourAt C (at + 2)) + wSum C f left (at + 6)
+
+module _ (A : Automaton) where
+  -- what one k entry adds to the left and the right side at v, before the move and after it: layer 0 arrives and leaves before,
+  -- layer 1 leaves before and arrives after, layer 2 leaves and arrives after
+  unfoldable pub beforeLeft : ℕ → (layer r k : ℕ) → ℕ
+  beforeLeft v layer r k = ifSame layer 0 (k * A .weight r v) 0
+
+  unfoldable pub beforeRight : ℕ → (layer r k : ℕ) → ℕ
+  beforeRight v layer r k = ifSame layer 2 0 (ifSame (A .source r) v (k * A .denominator r) 0)
+
+  unfoldable pub afterLeft : ℕ → (layer r k : ℕ) → ℕ
+  afterLeft v layer r k = ifSame layer 0 0 (k * A .weight r v)
+
+  unfoldable pub afterRight : ℕ → (layer r k : ℕ) → ℕ
+  afterRight v layer r k = ifSame layer 2 (ifSame (A .source r) v (k * A .denominator r) 0) 0
+
+-- what one w entry adds at v, and at u, with the challenger's denominator d
+unfoldable pub takenAt : ℕ → (v u w : ℕ) → ℕ
+takenAt x v u w = ifSame v x w 0
+
+unfoldable pub givenAt : ℕ → ℕ → (v u w : ℕ) → ℕ
+givenAt d x v u w = ifSame u x (d * w) 0
+
+-- the sides of all equations of the flow at a place, for the challenger q against t
+module _ (A : Automaton) (C : List ℕ) (q t at : ℕ) where
+  abbrev pub kTotal : (ℕ → ℕ → ℕ → ℕ) → ℕ
+  kTotal f = kSum C f (kCountAt C at) (at + 8)
+
+  abbrev pub wTotal : (ℕ → ℕ → ℕ → ℕ) → ℕ
+  wTotal f = wSum C f (wCountAt C at) (afterK C at + 2)
+
+  -- before the move, or of an internal challenger, from whom w leaves here
+  unfoldable pub firstLeft : ℕ → ℕ
+  firstLeft v = ifSame v t (fourAt C (at + 2)) 0 + kTotal (beforeLeft A v)
+
+  unfoldable pub firstRight : ℕ → ℕ
+  firstRight v = kTotal (beforeRight A v) + ifSame (A .action q) 0 (wTotal (takenAt v)) 0
+
+  -- after the move
+  unfoldable pub secondLeft : ℕ → ℕ
+  secondLeft v = kTotal (afterLeft A v)
+
+  unfoldable pub secondRight : ℕ → ℕ
+  secondRight v = kTotal (afterRight A v) + ifSame (A .action q) 0 0 (wTotal (takenAt v))
+
+  -- at each u
+  unfoldable pub targetLeft : ℕ → ℕ
+  targetLeft u = wTotal (givenAt (A .denominator q) u)
+
+  unfoldable pub targetRight : ℕ → ℕ
+  targetRight u = A .weight q u * fourAt C (at + 2)
+
+-- the sums decide the rule's equations: 20 where a side breaks before or after the move, then 21
+pub record Decided (rule : FileRule) (A : Automaton) (C : List ℕ) (q t at : ℕ) : Type 0 where
+  pub holds : ((v : ℕ) → v < A .states → firstLeft A C q t at v ≡ firstRight A C q t at v) → ((v : ℕ) → v < A .states → secondLeft A C q t at v ≡ secondRight A C q t at v) → ((u : ℕ) → u < A .states → targetLeft A C q t at u ≡ targetRight A C q t at u) → noFault ≡ rule .equationsFault A q t (flowAt C at)
+  pub broken : (v : ℕ) → v < A .states → ((firstLeft A C q t at v ≡ firstRight A C q t at v → ⊥) ⊎ (secondLeft A C q t at v ≡ secondRight A C q t at v → ⊥)) → fault 20 ≡ rule .equationsFault A q t (flowAt C at)
+  pub missed : ((v : ℕ) → v < A .states → firstLeft A C q t at v ≡ firstRight A C q t at v) → ((v : ℕ) → v < A .states → secondLeft A C q t at v ≡ secondRight A C q t at v) → (u : ℕ) → u < A .states → (targetLeft A C q t at u ≡ targetRight A C q t at u → ⊥) → fault 21 ≡ rule .equationsFault A q t (flowAt C at)
+
+-- they do so for entries without fault
+abbrev pub DecidesEquations : FileRule → Type 0
+DecidesEquations rule =
+    (A : Automaton) (C : List ℕ) (R : Pairs) (q t at : ℕ)
+    → noFault ≡ kFault rule A C q t (kCountAt C at) (at + 8) 0
+    → noFault ≡ wFault A C R (wCountAt C at) (afterK C at + 2) 0
+    → Decided rule A C q t at
+
+-- the equations' fault, by how many remainders of each table are not zero
+unfoldable pub verdictOf : (nonzero target : ℕ) → Fault
+verdictOf nonzero target = unlessSame nonzero 0 (fault 20) (unlessSame target 0 (fault 21) noFault)

@@ -1,0 +1,4 @@
+pub mod EntrySums
+pub mod Differences
+pub mod EquationsLaws
+pub mod PlainEquations

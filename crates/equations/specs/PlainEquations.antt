@@ -1,0 +1,280 @@
+-- The sums over a flow's entries decide document 01's equations.
+use Prim.Native.Nat.{ℕ, zero, suc, _+_, _*_, _<_}
+use mathlib.Core.Path.{_≡_, refl, sym, _∙_, ap, ap₂}
+use mathlib.Core.Logic.{_≢_, ⊎-elim}
+use mathlib.Core.Bool.{true}
+use mathlib.Core.List.{List}
+use lib.Dec.{eqb}
+use native.Mathlib.Decide.{ℕ-discrete}
+use native.Mathlib.Omega.{arith}
+use Rattle.bisimulation.specs.definitions.Choice.{ifSame, ifTrue, both}
+use Rattle.bisimulation.specs.argument.ChoiceLaws.{same, notSame, isTrue, notTrue, eitherSame, eitherTrue}
+use Rattle.bisimulation.specs.definitions.Automaton.{Automaton}
+use Rattle.bisimulation.specs.argument.SumLaws.{sumTimes}
+use Rattle.bisimulation.specs.definitions.Pairs.{Pairs, isPair}
+use Rattle.bisimulation.specs.argument.PairsLaws.{isPairTrue, isPairOf}
+use Rattle.bisimulation.specs.definitions.StepRule.{Sides, arriving, leaving, overTargets, overSources, beforeMove, afterMove, internalMove, atTarget}
+use Rattle.rules.specs.definitions.Bytes.{byteAt, twoAt, threeAt, fourAt}
+use Rattle.rules.specs.definitions.Certificate.{kCountAt, afterK, wCountAt, kOf, wOf, flowAt, kFault, wFault}
+use Rattle.rules.specs.definitions.Faults.{fault, noFault}
+use Rattle.rules.specs.definitions.PlainRule.{allHold, internalEquationsFault, externalEquationsFault, plainEquationsFault, plainRule}
+use Rattle.rules.specs.definitions.PlainSays.{InPlainQuestion}
+use Rattle.rules.specs.argument.PlainDecides.{kind-internal, kind-external, all-hold, hold-all, in-question}
+use Rattle.rules.specs.argument.EntryFaults.{passed-k, passed-w}
+use Rattle.equations.specs.Differences.{kSum, wSum, kTotal, wTotal, beforeLeft, beforeRight, afterLeft, afterRight, takenAt, givenAt, firstLeft, firstRight, secondLeft, secondRight, targetLeft, targetRight, Decided, DecidesEquations}
+use Rattle.equations.specs.EntrySums.{Entries, turned, added, nothing, overSecond}
+
+-- what stands for two numbers where they are the entry's, and where they are not
+pair-found : (x y a b value rest : ℕ) → x ≡ a → y ≡ b → ifTrue (both (eqb x a) (eqb y b)) value rest ≡ value
+unfolding isPair
+pair-found x y a b value rest p q = sym (isTrue rest (isPairOf a b x y p q) refl)
+
+pair-passed : (x y a b value rest : ℕ) → (x ≡ a → y ≡ b → ⊥) → ifTrue (both (eqb x a) (eqb y b)) value rest ≡ rest
+unfolding isPair
+pair-passed x y a b value rest n = sym (notTrue value (λ e. let p = isPairTrue a b x y e in n (p .0) (p .1)) refl)
+
+-- what is known of a k entry without fault
+record GoodK (A : Automaton) (C : List ℕ) (q at : ℕ) : Type 0 where
+  pub transition : twoAt C (at + 1) < A .transitions
+  pub layer : byteAt C at < 3
+  pub internal : A .action q ≡ 0 → byteAt C at ≡ 0
+
+record GoodW (A : Automaton) (C : List ℕ) (at : ℕ) : Type 0 where
+  pub from : byteAt C at < A .states
+  pub to : byteAt C (at + 1) < A .states
+
+known-k : (A : Automaton) (C : List ℕ) (q at : ℕ) → twoAt C (at + 1) < A .transitions → InPlainQuestion A q (byteAt C at) (twoAt C (at + 1)) → GoodK A C q at
+known-k A C q at l (InPlainQuestion.before a b) = record { transition = l; layer = omega arith; internal = λ i. a }
+known-k A C q at l (InPlainQuestion.move n a b) = record { transition = l; layer = omega arith; internal = λ i. absurd (n i) }
+known-k A C q at l (InPlainQuestion.after n a b) = record { transition = l; layer = omega arith; internal = λ i. absurd (n i) }
+
+-- the k entries and the w entries of a certificate
+unfoldable kEntries : Automaton → List ℕ → (q t : ℕ) → Entries
+unfolding kOf kSum threeAt
+kEntries A C q t =
+    record {
+      first = byteAt C;
+      second = λ at. twoAt C (at + 1);
+      value = λ at. fourAt C (at + 3);
+      size = 7;
+      number = λ layer r. layer * 65536 + r;
+      Good = GoodK A C q;
+      judged = kFault plainRule A C q t;
+      look = kOf C;
+      total = kSum C;
+      turn = λ left at lowest e.
+          let p = passed-k plainRule A C q t left at lowest e in
+          (p .order, known-k A C q at (p .transition) (in-question A q (byteAt C at) (twoAt C (at + 1)) (p .allowed)), p .rest);
+      absent = λ at layer r. refl;
+      found = λ left at layer r. pair-found (byteAt C at) (twoAt C (at + 1)) layer r (fourAt C (at + 3)) (kOf C left (at + 7) layer r);
+      passed = λ left at layer r. pair-passed (byteAt C at) (twoAt C (at + 1)) layer r (fourAt C (at + 3)) (kOf C left (at + 7) layer r);
+      noTotal = λ f at. refl;
+      oneMore = λ f left at. refl;
+    }
+
+unfoldable wEntries : Automaton → List ℕ → Pairs → Entries
+unfolding wOf wSum twoAt
+wEntries A C R =
+    record {
+      first = byteAt C;
+      second = λ at. byteAt C (at + 1);
+      value = λ at. fourAt C (at + 2);
+      size = 6;
+      number = λ v u. v * 256 + u;
+      Good = GoodW A C;
+      judged = wFault A C R;
+      look = wOf C;
+      total = wSum C;
+      turn = λ left at lowest e.
+          let p = passed-w A C R left at lowest e in
+          (p .order, record { from = p .from; to = p .to }, p .rest);
+      absent = λ at v u. refl;
+      found = λ left at v u. pair-found (byteAt C at) (byteAt C (at + 1)) v u (fourAt C (at + 2)) (wOf C left (at + 6) v u);
+      passed = λ left at v u. pair-passed (byteAt C at) (byteAt C (at + 1)) v u (fourAt C (at + 2)) (wOf C left (at + 6) v u);
+      noTotal = λ f at. refl;
+      oneMore = λ f left at. refl;
+    }
+
+-- a term stands in one of three layers, and in one layer or another
+one-layer : (layer x : ℕ) → layer < 3 → ifSame layer 0 x 0 + ifSame layer 1 x 0 + ifSame layer 2 x 0 ≡ x
+unfolding ifSame
+one-layer zero x h = omega arith
+one-layer (suc zero) x h = omega arith
+one-layer (suc (suc zero)) x h = omega arith
+one-layer (suc (suc (suc layer))) x h = absurd (omega arith)
+
+or-another : (layer c x : ℕ) → ifSame layer c x 0 + ifSame layer c 0 x ≡ x
+or-another layer c x = go (ℕ-discrete layer c)
+  where
+    go : Dec (layer ≡ c) → ifSame layer c x 0 + ifSame layer c 0 x ≡ x
+    go (yes p) = omega (arith, same {z = x} 0 p refl, same {z = 0} x p refl)
+    go (no p) = omega (arith, notSame {z = 0} x p refl, notSame {z = x} 0 p refl)
+
+-- L and R are the sides of an equation, at each state
+record AreSides (L R : ℕ → ℕ) (equation : ℕ → Sides) : Type 0 where
+  pub left : (v : ℕ) → equation v .left ≡ L v
+  pub right : (v : ℕ) → equation v .right ≡ R v
+
+module _ (A : Automaton) {L R : ℕ → ℕ} {equation : ℕ → Sides} (s : AreSides L R equation) where
+  all-equal : ((v : ℕ) → v < A .states → L v ≡ R v) → allHold A equation ≡ true
+  all-equal h = hold-all A equation (λ v l. record { equal = s .left v ∙ h v l ∙ sym (s .right v) })
+
+  one-differs : (v : ℕ) → v < A .states → (L v ≡ R v → ⊥) → allHold A equation ≡ true → ⊥
+  one-differs v l n h = n (sym (s .left v) ∙ all-hold A equation h v l .equal ∙ s .right v)
+
+module _ (A : Automaton) (C : List ℕ) (R : Pairs) (q t at : ℕ) (noK : noFault ≡ kFault plainRule A C q t (kCountAt C at) (at + 8) 0) (noW : noFault ≡ wFault A C R (wCountAt C at) (afterK C at + 2) 0) where
+  abbrev ks : Entries
+  ks = kEntries A C q t
+
+  abbrev k : (layer r : ℕ) → ℕ
+  k = kOf C (kCountAt C at) (at + 8)
+
+  abbrev w : (v u : ℕ) → ℕ
+  w = wOf C (wCountAt C at) (afterK C at + 2)
+
+  abbrev overK : (ℕ → ℕ → ℕ → ℕ) → ℕ
+  overK = kTotal A C q t at
+
+  abbrev overW : (ℕ → ℕ → ℕ → ℕ) → ℕ
+  overW = wTotal A C q t at
+
+  -- what k of a transition brings to v, and takes from it
+  abbrev brings : (v r k : ℕ) → ℕ
+  brings v r k = k * A .weight r v
+
+  abbrev takes : (v r k : ℕ) → ℕ
+  takes v r k = ifSame (A .source r) v (k * A .denominator r) 0
+
+  -- the sums over the transitions of a layer are sums over the entries
+  arriving-k : (layer v : ℕ) → arriving A (k layer) v ≡ overK (λ l r x. ifSame l layer (brings v r x) 0)
+  unfolding arriving kEntries
+  arriving-k layer v =
+      overSecond ks (A .transitions) (λ at g. g .transition) (brings v) (λ r. omega arith) layer (kCountAt C at) (at + 8) 0 noK
+
+  leaving-k : (layer v : ℕ) → leaving A (k layer) v ≡ overK (λ l r x. ifSame l layer (takes v r x) 0)
+  unfolding leaving kEntries
+  leaving-k layer v =
+      overSecond ks (A .transitions) (λ at g. g .transition) (takes v) (λ r. eitherSame (λ x. x ≡ 0) (A .source r) v (omega arith) refl)
+      layer (kCountAt C at) (at + 8) 0 noK
+
+  -- those of two layers together
+  leaving-first : (v : ℕ) → leaving A (k 0) v + leaving A (k 1) v ≡ overK (beforeRight A v)
+  unfolding beforeRight kEntries
+  leaving-first v =
+      ap₂ _+_ (leaving-k 0 v) (leaving-k 1 v)
+      ∙ added ks _ _ (beforeRight A v)
+      (λ at g.
+      let x = takes v (twoAt C (at + 1)) (fourAt C (at + 3)) in
+      omega (arith, one-layer (byteAt C at) x (g .layer), or-another (byteAt C at) 2 x))
+      (kCountAt C at) (at + 8) 0 noK
+
+  arriving-last : (v : ℕ) → arriving A (k 1) v + arriving A (k 2) v ≡ overK (afterLeft A v)
+  unfolding afterLeft kEntries
+  arriving-last v =
+      ap₂ _+_ (arriving-k 1 v) (arriving-k 2 v)
+      ∙ added ks _ _ (afterLeft A v)
+      (λ at g.
+      let x = brings v (twoAt C (at + 1)) (fourAt C (at + 3)) in
+      omega (arith, one-layer (byteAt C at) x (g .layer), or-another (byteAt C at) 0 x))
+      (kCountAt C at) (at + 8) 0 noK
+
+  -- the sums of w over one of its states
+  over-targets : (v : ℕ) → overTargets A w v ≡ overW (takenAt v)
+  unfolding overTargets takenAt wEntries
+  over-targets v =
+      overSecond (wEntries A C R) (A .states) (λ at g. g .to) (λ u x. x) (λ u. refl) v (wCountAt C at) (afterK C at + 2) 0 noW
+
+  over-sources : (d u : ℕ) → d * overSources A w u ≡ overW (givenAt d u)
+  unfolding overSources givenAt wEntries
+  over-sources d u =
+      sym (sumTimes (A .states) d (λ v. w v u))
+      ∙ overSecond (turned (wEntries A C R)) (A .states) (λ at g. g .from) (λ v x. d * x) (λ v. omega arith) u (wCountAt C at) (afterK C at + 2) 0 noW
+
+  -- the sides that both kinds of challengers share
+  first-left : (v : ℕ) → ifSame v t (fourAt C (at + 2)) 0 + arriving A (k 0) v ≡ firstLeft A C q t at v
+  unfolding firstLeft beforeLeft
+  first-left v = ap (λ (x : ℕ). ifSame v t (fourAt C (at + 2)) 0 + x) (arriving-k 0 v)
+
+  target : AreSides (targetLeft A C q t at) (targetRight A C q t at) (atTarget A (flowAt C at) q)
+  unfolding targetLeft targetRight atTarget flowAt
+  target = record { left = over-sources (A .denominator q); right = λ u. refl }
+
+  -- the equations of an internal challenger, whose entries are all of layer 0
+  module _ (i : A .action q ≡ 0) where
+    other-layer : (layer : ℕ) → (0 ≡ layer → ⊥) → (g : ℕ → ℕ → ℕ) → overK (λ l r x. ifSame l layer (g r x) 0) ≡ 0
+    unfolding kEntries
+    other-layer layer n g =
+        nothing ks _ (λ at e. sym (notSame _ (λ o. n (sym (e .internal i) ∙ o)) refl)) (kCountAt C at) (at + 8) 0 noK
+
+    move : AreSides (firstLeft A C q t at) (firstRight A C q t at) (internalMove A (flowAt C at) t)
+    unfolding firstRight internalMove flowAt
+    move =
+        record {
+          left = first-left;
+          right = λ v.
+              let none : leaving A (k 1) v ≡ 0 = leaving-k 1 v ∙ other-layer 1 (λ o. omega arith) (takes v) in
+              omega (arith, none, leaving-first v, over-targets v, same {z = overW (takenAt v)} 0 i refl);
+        }
+
+    no-second : (v : ℕ) → secondLeft A C q t at v ≡ secondRight A C q t at v
+    unfolding secondLeft secondRight afterRight
+    no-second v =
+        let one = arriving-k 1 v ∙ other-layer 1 (λ o. omega arith) (brings v) in
+        let two = arriving-k 2 v ∙ other-layer 2 (λ o. omega arith) (brings v) in
+        omega (arith, one, two, arriving-last v, other-layer 2 (λ o. omega arith) (takes v), same {z = 0} (overW (takenAt v)) i refl)
+
+    internal : Decided plainRule A C q t at
+    unfolding plainEquationsFault internalEquationsFault
+    internal =
+        record {
+          holds = λ one two three.
+              isTrue _ (all-equal A move one) (isTrue _ (all-equal A target three) refl) ∙ kind-internal A q _ _ i;
+          broken = λ v l.
+              ⊎-elim
+              (λ b. notTrue _ (one-differs A move v l b) refl ∙ kind-internal A q _ _ i)
+              (λ b. absurd (b (no-second v)));
+          missed = λ one two u l b.
+              isTrue _ (all-equal A move one) (notTrue _ (one-differs A target u l b) refl) ∙ kind-internal A q _ _ i;
+        }
+
+  -- those of an external challenger
+  module _ (n : A .action q ≢ 0) where
+    before : AreSides (firstLeft A C q t at) (firstRight A C q t at) (beforeMove A (flowAt C at) t)
+    unfolding firstRight beforeMove flowAt
+    before =
+        record {
+          left = first-left;
+          right = λ v. omega (arith, leaving-first v, notSame {z = 0} (overW (takenAt v)) n refl);
+        }
+
+    after : AreSides (secondLeft A C q t at) (secondRight A C q t at) (afterMove A (flowAt C at))
+    unfolding secondLeft secondRight afterRight afterMove flowAt
+    after =
+        record {
+          left = arriving-last;
+          right = λ v. ap₂ _+_ (leaving-k 2 v) (over-targets v ∙ notSame 0 n refl);
+        }
+
+    external : Decided plainRule A C q t at
+    unfolding plainEquationsFault externalEquationsFault
+    external =
+        record {
+          holds = λ one two three.
+              isTrue _ (all-equal A before one) (isTrue _ (all-equal A after two) (isTrue _ (all-equal A target three) refl))
+              ∙ kind-external A q _ _ n;
+          broken = λ v l.
+              ⊎-elim
+              (λ b. notTrue _ (one-differs A before v l b) refl ∙ kind-external A q _ _ n)
+              (λ b. eitherTrue (λ x. fault 20 ≡ x) _ (notTrue _ (one-differs A after v l b) refl) refl ∙ kind-external A q _ _ n);
+          missed = λ one two u l b.
+              isTrue _ (all-equal A before one) (isTrue _ (all-equal A after two) (notTrue _ (one-differs A target u l b) refl))
+              ∙ kind-external A q _ _ n;
+        }
+
+-- for either kind of challenger
+pub decided : DecidesEquations plainRule
+decided A C R q t at noK noW = go (ℕ-discrete (A .action q) 0)
+  where
+    go : Dec (A .action q ≡ 0) → Decided plainRule A C q t at
+    go (yes i) = internal A C R q t at noK noW i
+    go (no n) = external A C R q t at noK noW n

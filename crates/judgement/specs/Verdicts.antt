@@ -1,0 +1,58 @@
+-- What a judging call finds, in document 01's terms.
+use Prim.Native.Nat.{ℕ, _+_, _≤_, _<_}
+use mathlib.Core.Path.{_≡_}
+use mathlib.Core.Logic.{_↔_}
+use mathlib.Core.List.{List, [], _∷_}
+use lib.ListN.{length, take, drop}
+use Rattle.rules.specs.definitions.Limits.{limits}
+use Rattle.rules.specs.definitions.JudgedBy.{plainPairs}
+use Rattle.rules.specs.definitions.Model.{Model}
+use Rattle.rules.specs.definitions.Reading.{modelAt, readWhole, model}
+use Rattle.rules.specs.definitions.Judging.{accepted, judge}
+use Rattle.rules.specs.definitions.Answers as rules
+use Rattle.rules.specs.definitions.Answers.{answerWithoutPlace, unwritten, Follows}
+use Rattle.rules.specs.definitions.Demands.{outcomeBy}
+use Rattle.rules.specs.argument.PlainRules.{plainCertificates}
+use Rattle.transition.specs.Known.{Known}
+use Rattle.answer.specs.declared.Answer.{Answer}
+use Rattle.judgement.specs.declared.Verdict.{Verdict}
+use Rattle.judgement.specs.declared.Verdict.the-variants.{Accepted, Refused}
+use Rattle.answer.specs.Answered.{answered, OutcomeIs}
+
+-- the model file is read as sound
+pub record ReadsModel (s : List ℕ) : Type 0 where
+  pub end : ℕ
+  pub reads : readWhole limits s ≡ model (modelAt s) end
+
+-- an accepted certificate: the blocks are the n bytes at a place of it, and there is room for them
+pub record AcceptedAt (M C table : List ℕ) (room n count at : ℕ) : Type 0 where
+  pub known : Known M n count table
+  pub model : ReadsModel M
+  pub judged : judge limits (readWhole limits) (plainCertificates .file) M C ≡ accepted (take n (drop at C))
+  pub inside : at + n ≤ length C
+  pub fits : n ≤ room
+
+-- what follows acceptance lends a block buffer with room for so many blocks, or none, and then there is room for every model's
+abbrev pub RoomFor : Follows → (before : List ℕ) → (room : ℕ) → Type 0
+RoomFor follows before room = (N : Model) → length (N .labels) ≤ limits .states → (length before < follows .blockRoom N) ↔ (room < length (N .labels))
+
+-- a refusal, in document 01's terms, whatever would follow acceptance
+pub record RefusedAs (M C : List ℕ) (room : ℕ) (r : Answer) : Type 0 where
+  pub refuses : (follows : Follows) (before : List ℕ) → RoomFor follows before room → OutcomeIs (outcomeBy plainPairs follows M C before) (M ∷ C ∷ []) before r
+
+abbrev pub VerdictSays : (M C table : List ℕ) (room : ℕ) → Verdict → Type 0
+VerdictSays M C table room (Accepted n count at) = AcceptedAt M C table room n count at
+VerdictSays M C table room (Refused r) = RefusedAs M C room r
+
+-- document 01's number, file and place for each case: 0, 0 and 0 where the certificate is accepted
+abbrev pub verdictAnswer : Verdict → rules.Answer
+verdictAnswer (Accepted n count at) = answerWithoutPlace 0 0
+verdictAnswer (Refused r) = answered r
+
+-- a call with a block buffer that writes nothing
+abbrev pub judgesOnly : Follows
+judgesOnly = record { blockRoom = λ N. length (N .labels); outcome = λ N blocks buffer. unwritten (answerWithoutPlace 0 0) buffer; late = 0 }
+
+pub record VerdictIs (M C table : List ℕ) (room : ℕ) (r : Verdict) : Type 0 where
+  pub says : VerdictSays M C table room r
+  pub answers : (before : List ℕ) → length before ≡ room → verdictAnswer r ≡ outcomeBy plainPairs judgesOnly M C before .answer

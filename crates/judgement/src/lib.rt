@@ -1,0 +1,66 @@
+// The two files of a pair judged: the model read, its certificate judged.
+ghost use mathlib.Core.Path.{_≡_};
+ghost use lib.ListN.{length};
+ghost use Rattle.limits.specs.Sizes as sizes;
+ghost use Rattle.rules.specs.definitions.Limits.{limits};
+ghost use Rattle.rules.specs.definitions.Reading.{headFault};
+ghost use Rattle.transition.specs.Known.{Known};
+ghost use Rattle.judgement.specs.Verdicts.{ReadsModel, VerdictIs};
+use answer::Answer;
+use flows::Judged;
+use model::Places;
+use model::Scanned;
+
+// What a judging call finds: the model's counts and where in the certificate the accepted blocks begin; or the answer of a refusal.
+pub enum Verdict {
+    Accepted {
+        states: usize,
+        transitions: usize,
+        blocks: usize,
+    },
+    Refused(Answer),
+}
+
+// A sound model's certificate judged, for a buffer with room for so many blocks.
+fn judge_sound(
+    model: &[u8],
+    n: usize,
+    count: usize,
+    places: &Places,
+    certificate: &[u8],
+    room: usize,
+) -> Verdict
+    requires { ⌜ Known (now model) n count (now places) × ReadsModel (now model) ⌝ }
+    ensures { λ r. ⌜ VerdictIs (now (model .entry)) (now (certificate .entry)) (now (places .entry)) room r ⌝ }
+{
+    if room < n {
+        return Verdict::Refused(answer::without_place(10, 0));
+    }
+    let judged = certificate::judge_certificate(model, n, count, places, certificate);
+    match judged {
+        Judged::Accepted { blocks } => Verdict::Accepted {
+            states: n,
+            transitions: count,
+            blocks,
+        },
+        Judged::Rejected(wrong) => Verdict::Refused(answer::refusal_in(
+            wrong,
+            2,
+            certificate.len(),
+        )),
+    }
+}
+
+// The model read from its labels on, then its certificate judged. A call without a block buffer gives the most states that a model has.
+pub fn judge_files(model: &[u8], certificate: &[u8], places: &mut Places, room: usize) -> Verdict
+    requires { ⌜ (length (now places) ≡ sizes.places) × (headFault limits (now model) .number ≡ 0) ⌝ }
+    ensures { λ r. ⌜ VerdictIs (now (model .entry)) (now (certificate .entry)) (now (places .exit)) room r ⌝ }
+{
+    let scanned = model::scan_whole(model, places);
+    match scanned {
+        Scanned::Sound(m) => {
+            judge_sound(model, m.states, m.transitions, places, certificate, room)
+        }
+        Scanned::Refused(wrong) => Verdict::Refused(answer::refusal_in(wrong, 1, model.len())),
+    }
+}

@@ -1,0 +1,3 @@
+-- The prices of a refutation judged.
+pub mod PricesJudged
+pub mod PlainPrices

@@ -1,0 +1,115 @@
+-- The demands follow from what a call answers.
+use Prim.Native.Nat.{ℕ, _≤_}
+use mathlib.Core.Path.{_≡_, refl, sym, _∙_, ap, subst}
+use mathlib.Core.Logic.{_⊎_, inl, inr, ⊎-elim}
+use mathlib.Core.List.{List}
+use lib.ListN.{length}
+use native.Mathlib.Omega.{arith}
+use Rattle.bisimulation.specs.argument.ChoiceLaws.{eitherLess}
+use Rattle.rules.specs.definitions.Model.{Model}
+use Rattle.rules.specs.definitions.JudgedBy.{plainPairs}
+use Rattle.rules.specs.definitions.SoundModel.{Bytes}
+use Rattle.rules.specs.definitions.Judging.{accepted, NameSameBlocks}
+use Rattle.rules.specs.argument.AnyRule.{PairRules, RefusalOf, pairsOf}
+use Rattle.rules.specs.definitions.Answers.{Outcome, answerWithoutPlace, unwritten, filled, Follows, writesBlocks, mergedOutcome, writesMerged, JudgeNumber, ReduceNumber}
+use Rattle.rules.specs.definitions.Demand3.{LargestBlocks}
+use Rattle.rules.specs.definitions.Demands.{AcceptedBy, KeepsRulesOn, LargestOf, outcomeBy, Accepting, Demands}
+use Rattle.rules.specs.argument.AnyRule.{AnyCertificateNumber}
+use Rattle.rules.specs.argument.AcceptedExactly.{AcceptedAs, accepted-exactly}
+use Rattle.rules.specs.argument.Demand3Holds.{itself, holds, one-model, holds-read, demand3, largest-of}
+use Rattle.rules.specs.argument.PairOutcome.{FollowsLaws, Followed, outcome-number, outcome-unwritten, outcome-found, outcome-followed}
+use Rattle.rules.specs.argument.PlainRules.{PlainNumber, ModelNumber, plainRules}
+
+module _ (by : PairRules) (follows : Follows) (laws : FollowsLaws by follows) (model certificate before after : List ℕ) (number : ℕ) (b : Bytes model) (c : Bytes certificate) (e : number ≡ outcomeBy (pairsOf by) follows model certificate before .answer .number) (left : after ≡ outcomeBy (pairsOf by) follows model certificate before .buffer) where
+  told : Accepting (pairsOf by) follows number → Followed by follows laws model certificate before
+  told z = outcome-found by follows laws model certificate before (subst (Accepting (pairsOf by) follows) e z)
+
+  told-kept : (z : Accepting (pairsOf by) follows number) → KeepsRulesOn (pairsOf by) model certificate (told z .found .N) (told z .found .blocks)
+  told-kept z =
+      let f = told z .found in
+      record {
+        holds = holds-read by model b (f .reads);
+        accepted = accepted-exactly by model certificate (f .blocks) b c .0 (record { answers = f .judged });
+      }
+
+  -- where the rules are kept and there is room, the outcome is what follows
+  kept-outcome : (M : Model) (blocks : List ℕ) → KeepsRulesOn (pairsOf by) model certificate M blocks → follows .blockRoom M ≤ length before → follows .outcome M blocks before ≡ outcomeBy (pairsOf by) follows model certificate before
+  kept-outcome M blocks k room =
+      outcome-followed by follows laws model certificate before blocks (k .holds .reads) (accepted-exactly by model certificate blocks b c .1 (k .accepted) .answers) room
+
+  told-room : Accepting (pairsOf by) follows number → (M : Model) (blocks : List ℕ) → KeepsRulesOn (pairsOf by) model certificate M blocks → follows .blockRoom M ≤ length before
+  told-room z M blocks k =
+      let t = told z in
+      let one : t .found .N ≡ M = one-model by model (t .found .N) M (holds-read by model b (t .found .reads)) (k .holds) in
+      subst (λ (N : Model). follows .blockRoom N ≤ length before) one (t .room)
+
+  pub demands-hold : (numbers : ℕ → Type 0) → numbers number → Demands (pairsOf by) follows numbers model certificate before after number
+  demands-hold numbers known =
+      record {
+        known = known;
+        accepts = (
+          λ z. (told z .found .N, told z .found .blocks, told-kept z, told z .room),
+          λ x.
+              let o = kept-outcome (x .0) (x .1) (x .2) (x .3) in
+              subst (Accepting (pairsOf by) follows) (ap (λ (y : Outcome). y .answer .number) o ∙ sym e) (laws .numbered (x .0) (x .1) before),
+        );
+        numbered = λ z M blocks k. e ∙ ap (λ (o : Outcome). o .answer .number) (sym (kept-outcome M blocks k (told-room z M blocks k)));
+        written = λ z M blocks k. left ∙ ap (λ (o : Outcome). o .buffer) (sym (kept-outcome M blocks k (told-room z M blocks k)));
+        unwritten = λ n. left ∙ outcome-unwritten by follows laws model certificate before (λ z. n (e ∙ z));
+        largest = λ M blocks k. largest-of by model certificate blocks b c (accepted-exactly by model certificate blocks b c .1 (k .accepted));
+      }
+
+-- demand 3 for relations of any kind follows from what a call promises: a set of pairs in its contract loses nothing
+pub any-largest : (by : PairRules) (model certificate blocks : List ℕ) → Bytes model → Bytes certificate → (M : Model) → KeepsRulesOn (pairsOf by) model certificate M blocks → LargestOf (pairsOf by) model blocks → LargestBlocks (by .models .read) (by .rule .theory .met) model blocks
+any-largest by model certificate blocks b c M k o = demand3 by .largest model certificate blocks b c (accepted-exactly by model certificate blocks b c .1 (k .accepted))
+
+-- document 01's two calls: what follows acceptance
+pub blocks-follow : FollowsLaws plainRules writesBlocks
+unfolding filled answerWithoutPlace Accepting
+blocks-follow =
+    record {
+      numbered = λ N blocks buffer. inl refl;
+      unwritten = λ N blocks buffer n. absurd (n refl);
+      late = λ k h n z. n z;
+      notTen = omega arith;
+    }
+
+pub merged-follow : FollowsLaws plainRules writesMerged
+unfolding mergedOutcome unwritten filled answerWithoutPlace Accepting RefusalOf AnyCertificateNumber PlainNumber ModelNumber
+merged-follow =
+    record {
+      numbered = λ N blocks buffer. eitherLess (λ (o : Outcome). (o .answer .number ≡ 0) ⊎ (o .answer .number ≡ 23)) _ _ (inr refl) (inl refl);
+      unwritten = λ N blocks buffer. eitherLess (λ (o : Outcome). (o .answer .number ≡ 0 → ⊥) → o .buffer ≡ buffer) _ _ (λ n. refl) (λ n. absurd (n refl));
+      late = λ k h n z.
+          ⊎-elim (λ x. omega (arith, x, z))
+          (λ y. ⊎-elim (λ x. ⊎-elim (λ w. omega (arith, w, z)) (λ w. ⊎-elim (λ v. omega (arith, v, z)) (λ v. omega (arith, v, z)) w) x) (λ x. ⊎-elim (λ w. omega (arith, w, z)) (λ w. omega (arith, w, z)) x) y)
+          h;
+      notTen = omega arith;
+    }
+
+-- a refusal of document 01's judging: 1 to 9, or 11 to 22
+pub plain-refusal : (k : ℕ) → RefusalOf plainRules k → (k ≤ 9) ⊎ ((11 ≤ k) × (k ≤ 22))
+unfolding RefusalOf AnyCertificateNumber PlainNumber ModelNumber
+plain-refusal k h =
+    ⊎-elim (λ x. inl (x .1))
+    (λ y.
+    ⊎-elim
+    (λ x. ⊎-elim (λ w. inr (w .0, omega (arith, w))) (λ w. ⊎-elim (λ v. inr (omega (arith, v), omega (arith, v))) (λ v. inr (omega (arith, v), omega (arith, v))) w) x)
+    (λ x. ⊎-elim (λ w. inr (omega (arith, w), omega (arith, w))) (λ w. inr (omega (arith, w), omega (arith, w))) x)
+    y)
+    h
+
+module _ (M C buffer : List ℕ) where
+  -- the call that judges answers one of 0 to 22
+  pub judge-numbered : JudgeNumber (outcomeBy plainPairs writesBlocks M C buffer .answer .number)
+  unfolding JudgeNumber
+  judge-numbered =
+      outcome-number plainRules writesBlocks blocks-follow M C buffer (λ k. k ≤ 22) (omega arith) (omega arith)
+      (λ k h. ⊎-elim (λ x. omega (arith, x)) (λ x. x .1) (plain-refusal k h)) (λ N h. omega arith)
+
+  -- the call that reduces one of 0 to 9 and 11 to 23
+  pub reduce-numbered : ReduceNumber (outcomeBy plainPairs writesMerged M C buffer .answer .number)
+  unfolding ReduceNumber
+  reduce-numbered =
+      outcome-number plainRules writesMerged merged-follow M C buffer (λ k. (k ≤ 9) ⊎ ((11 ≤ k) × (k ≤ 23))) (inl (omega arith)) (inr (omega arith, omega arith))
+      (λ k h. ⊎-elim (λ x. inl x) (λ x. inr (x .0, omega (arith, x .1))) (plain-refusal k h)) (λ N h. absurd (omega arith))

@@ -1,0 +1,28 @@
+-- What is promised of the merged model of an accepted certificate.
+use Prim.Native.Nat.{ℕ, _≤_, _<_}
+use mathlib.Core.Path.{_≡_}
+use mathlib.Core.List.{List}
+use lib.ListN.{length, getD}
+use Rattle.rules.specs.definitions.Limits.{Limits}
+use Rattle.rules.specs.definitions.Model.{Model}
+use Rattle.rules.specs.definitions.Reading.{readWhole}
+use Rattle.rules.specs.definitions.SoundModel.{Bytes, SoundModel}
+use Rattle.rules.specs.definitions.Certificate.{FileRule}
+use Rattle.rules.specs.definitions.Judging.{AcceptedFor}
+use Rattle.rules.specs.definitions.Quotient.{blockCount, quotient, mergedFile}
+use Rattle.rules.specs.definitions.Demand3.{HoldsModel}
+
+-- the merged model of the model M that the bytes hold: sound, its file holds it and is no longer, its states are the blocks, each with its members' label
+pub record MergedModel (L : Limits) (bytes : List ℕ) (M : Model) (blocks : List ℕ) : Type 0 where
+  pub sound : SoundModel L (quotient M blocks)
+  pub holds : HoldsModel (readWhole L) (mergedFile M blocks) (quotient M blocks)
+  pub short : length (mergedFile M blocks) ≤ length bytes
+  pub states : length (quotient M blocks .labels) ≡ blockCount blocks
+  pub below : (v : ℕ) → v < length (M .labels) → getD blocks v 0 < blockCount blocks
+  pub label : (v : ℕ) → v < length (M .labels) → getD (quotient M blocks .labels) (getD blocks v 0) 0 ≡ getD (M .labels) v 0
+  pub each : (b : ℕ) → b < blockCount blocks → (v : ℕ) × (v < length (M .labels)) × (getD blocks v 0 ≡ b)
+
+-- for what a step rule decides of a certificate file; all certificates accepted for one model file have one merged file
+pub record Merges (L : Limits) (file : FileRule) : Type 0 where
+  pub merged : (bytes C blocks : List ℕ) → Bytes bytes → Bytes C → AcceptedFor L (readWhole L) file bytes C blocks → (M : Model) → HoldsModel (readWhole L) bytes M → MergedModel L bytes M blocks
+  pub oneFile : (bytes C₁ blocks₁ C₂ blocks₂ : List ℕ) → Bytes bytes → Bytes C₁ → Bytes C₂ → AcceptedFor L (readWhole L) file bytes C₁ blocks₁ → AcceptedFor L (readWhole L) file bytes C₂ blocks₂ → (M : Model) → HoldsModel (readWhole L) bytes M → mergedFile M blocks₁ ≡ mergedFile M blocks₂

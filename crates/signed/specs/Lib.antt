@@ -1,0 +1,4 @@
+pub mod Terms
+pub mod TermsLaws
+pub mod Larger
+pub mod LargerLaws

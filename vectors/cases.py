@@ -1,0 +1,187 @@
+#!/usr/bin/env python3
+"""Writes crates/cases/data/cases and crates/cases/stdout: the cases, and what the program must print for them.
+
+C1 to C10 of document 01; the cases that it lists under 'Also run', files of the most bytes that the program reads, a pair with states
+that reach a move only by internal steps, and every truncation of model S, with their answers by hand; and the lines of base.txt with the
+answers that stand there, but for refusals 10 and 23: the program lends buffers that are always long enough.
+"""
+import os
+
+from files import FIRST, MEETS, S, S_CERTIFICATE, SECOND, STAYS, certificate, flow, model, refutation
+
+HERE = os.path.dirname(os.path.abspath(__file__))
+CRATE = os.path.join(HERE, '..', 'crates', 'cases')
+
+MODEL, CERTIFICATE = 8192, 49152  # of longer files the program would read no more
+JUDGE, REDUCE, FETCH = range(3)
+ABSENT = 0xFFFFFFFF  # a state that no model has
+
+
+def case(tag, state, m, c):
+    assert len(m) <= MODEL and len(c) <= CERTIFICATE
+    return bytes([tag]) + b''.join(x.to_bytes(4, 'big') for x in (state, len(m), len(c))) + m + c
+
+
+def result(answer):
+    return 'result %d %d %d\n' % answer
+
+
+def judge(m, c, answer, blocks=()):
+    """A case of judging and what is printed for it: number, file and place, and each state with its block."""
+    return case(JUDGE, 0, m, c), result(answer) + ''.join('%d %d\n' % line for line in enumerate(blocks))
+
+
+def reduce(m, c, answer, merged):
+    """The same of reducing: the merged model's bytes come after number, file and place, on acceptance."""
+    return case(REDUCE, 0, m, c), result(answer) + (merged.hex() + '\n' if answer[0] == 0 else '')
+
+
+def fetch(m, state, answer, part):
+    """The same of a fetch: the run or the stretch comes after number, file and place, by its length and its bytes."""
+    return case(FETCH, state, m, b''), result(answer) + '%d:%s\n' % (len(part), part.hex())
+
+
+def accepted(m, c, blocks):
+    return judge(m, c, (0, 0, 0), blocks)
+
+
+def refused(m, c, number, file, place):
+    return judge(m, c, (number, file, place))
+
+
+def run_of(m, state, start, end):
+    return fetch(m, state, (0, 0, 0), m[start:end])
+
+
+def no_state(m, state):
+    return fetch(m, state, (24, 0, 0), b'')
+
+
+def unsound(m, number, place, state=0):
+    return fetch(m, state, (number, 1, place), m[place:])
+
+
+def proved_cases():
+    yield accepted(S, S_CERTIFICATE, (0, 0, 1))
+    yield refused(S, certificate([SECOND, FIRST], (0, 0, 1), [MEETS, STAYS]), 15, 2, 4)
+    yield refused(S, certificate([refutation(0, 2, (1, 1, 1), (1, 1, 1), (1, 1, 1)), SECOND], (0, 0, 1), [MEETS, STAYS]), 16, 2, 4)
+    yield refused(S, certificate([FIRST, SECOND], (1, 1, 0), [MEETS, STAYS]), 17, 2, 74)
+    yield refused(S, certificate([FIRST, SECOND], (0, 1, 2), [MEETS, STAYS]), 18, 2, 74)
+    yield refused(S, certificate([FIRST, SECOND], (0, 0, 1), [flow(2, [(0, 1, 1), (1, 0, 1)], [(2, 2, 1)]), STAYS]), 20, 2, 79)
+    yield refused(S, certificate([FIRST, SECOND], (0, 0, 1), [MEETS, flow(1, [], [(0, 1, 1)])]), 21, 2, 109)
+    yield refused(S, certificate([FIRST, SECOND], (0, 0, 1), [MEETS, flow(1, [], [(2, 0, 1)])]), 19, 2, 109)
+    yield refused(S, S_CERTIFICATE + b'\0', 22, 2, 125)
+    yield refused(S, S_CERTIFICATE[:-1], 11, 2, 109)
+
+
+def pairs_also_run():
+    one_block = certificate([], [0] * 64, [])
+    yield accepted(model(64, 1, [0] * 64, []), one_block, [0] * 64)
+    yield refused(model(65, 1, [0] * 65, []), one_block, 3, 1, 0)
+    yield refused(model(0, 1, [], []), one_block, 3, 1, 0)
+    yield accepted(model(1, 1, [0], []), certificate([], [0], []), [0])
+    yield refused(model(2, 1, [0, 0], [(0, 0, 3, [(0, 1), (1, 1)])]), one_block, 7, 1, 10)
+    whole = [(v, 1) for v in range(64)]
+    each = certificate([], range(64), [])
+    full = [(v, 0, 64, whole) for v in range(16)]
+    yield accepted(model(64, 1, range(64), full), each, range(64))
+    yield refused(model(64, 1, range(64), full + [(16, 0, 1, [(0, 1)])]), each, 8, 1, 72 + 16 * 199)
+    yield refused(S.ljust(MODEL, b'\0'), S_CERTIFICATE, 9, 1, 31)
+    yield refused(S, S_CERTIFICATE.ljust(CERTIFICATE, b'\0'), 22, 2, 125)
+    yield refused(S, b'CT' + (2016).to_bytes(2, 'big'), 11, 2, 4)
+    yield refused(S, b'CT' + (2017).to_bytes(2, 'big'), 13, 2, 0)
+    lowest = -2147483648
+    low_a = refutation(0, 2, (1, 1, lowest), (1, 1, 1), (1, 1, 1))
+    yield accepted(S, certificate([low_a, SECOND], (0, 0, 1), [MEETS, STAYS]), (0, 0, 1))
+    low_g = refutation(0, 2, (1, 1, 0), (1, 1, 1), (1, 1, lowest))
+    yield refused(S, certificate([low_g, SECOND], (0, 0, 1), [MEETS, STAYS]), 16, 2, 4)
+
+
+def internal_steps():
+    """State 0 moves to 3, state 1 steps to 0, state 2 steps to 1: 0, 1 and 2 are one block."""
+    chain = model(4, 2, [0] * 4, [(0, 1, 1, [(3, 1)]), (1, 0, 1, [(0, 1)]), (2, 0, 1, [(1, 1)])])
+    refutations = [
+        refutation(0, 3, (1, 1, 1, 0), (1, 1, 1, 1), (1, 1, 1, 1)),
+        refutation(1, 3, (1, 1, 1, 0), (1, 0, 0, 0)),
+        refutation(2, 3, (1, 1, 1, 0), (0, 1, 0, 0)),
+    ]
+    flows = [
+        flow(1, [(0, 1, 1), (1, 0, 1)], [(3, 3, 1)]),
+        flow(1, [(0, 1, 1), (0, 2, 1), (1, 0, 1)], [(3, 3, 1)]),
+        flow(1, [], [(0, 0, 1)]),
+        flow(1, [], [(2, 0, 1)]),
+        flow(1, [], [(0, 1, 1)]),
+        flow(1, [], [(1, 1, 1)]),
+    ]
+    yield accepted(chain, certificate(refutations, (0, 0, 0, 1), flows), (0, 0, 0, 1))
+    # a class split by the move alone: state 1, which has no move of its own, against state 0
+    split = [refutation(0, 1, (1, 0, 0, 0), (1, 1, 1, 1), (1, 1, 1, 1))]
+    yield refused(chain, certificate(split, (0, 1, 1, 1), []), 15, 2, 4)
+
+
+def truncations():
+    for size in range(len(S)):
+        yield unsound(S[:size], 1, 0 if size < 6 else 6 if size < 11 else 11 if size < 21 else 21)
+
+
+def models_also_run():
+    yield run_of(S, 0, 11, 21)
+    yield run_of(S, 1, 21, 31)
+    yield run_of(S, 2, 0, 0)
+    yield no_state(S, 3)
+    yield no_state(S, 256)
+    yield unsound(S + b'\0', 9, 31)
+    n64 = model(64, 1, [0] * 64, [])
+    yield run_of(n64, 63, 0, 0)
+    yield no_state(n64, 64)
+    yield unsound(model(65, 1, [0] * 65, []), 3, 0)
+    yield unsound(model(0, 1, [], []), 3, 0)
+    yield run_of(model(1, 1, [0], []), 0, 0, 0)
+    yield unsound(model(2, 1, [0, 0], [(0, 0, 3, [(0, 1), (1, 1)])]), 7, 10)
+    whole = [(v, 1) for v in range(64)]
+    full = [(v, 0, 64, whole) for v in range(16)]
+    last, end = 72 + 15 * 199, 72 + 16 * 199
+    yield run_of(model(64, 1, [0] * 64, full), 15, last, end)
+    over = model(64, 1, [0] * 64, full + [(16, 0, 1, [(0, 1)])])
+    yield unsound(over, 8, end, 15)
+    # 5 before 8, 5 in a cut file, 8 before the entries must be there, 6 before 7, a mark before the file's end
+    yield unsound(over[:-5] + b'\0' + over[-4:], 5, end)
+    yield unsound(model(1, 1, [0], [(0, 0, 0, [(0, 1)])])[:-3], 5, 9)
+    yield unsound(over[:-3], 8, end)
+    yield unsound(model(2, 1, [0, 0], [(0, 0, 3, [(0, 1), (0, 1)])]), 6, 10)
+    yield unsound(b'PB', 2, 0)
+    yield unsound(b'P', 1, 0)
+
+
+def from_vectors():
+    for line in open(os.path.join(HERE, 'base.txt')):
+        call, argument, m, c, *numbers, out = line.split()
+        m, c, out = (b'' if x == '-' else bytes.fromhex(x) for x in (m, c, out))
+        number, file, place, stretch, run = map(int, numbers)
+        answer = number, file, place
+        if call == 'fetch':
+            start = run if number == 0 else place
+            assert start + stretch <= len(m)
+            yield fetch(m, int(argument), answer, m[start:start + stretch])
+            continue
+        if call == 'judge' and number != 10:
+            yield judge(m, c, answer, out)
+        if call == 'reduce' and number != 23:
+            yield reduce(m, c, answer, out)
+        # and its model by itself
+        yield unsound(m, number, place) if file == 1 else no_state(m, ABSENT)
+
+
+def all_cases():
+    """Each case once: where two sources have one case, they must agree."""
+    found = {}
+    for source in (proved_cases(), pairs_also_run(), internal_steps(), models_also_run(), truncations(), from_vectors()):
+        for data, text in source:
+            assert found.setdefault(data, text) == text
+    return found
+
+
+with open(os.path.join(CRATE, 'data', 'cases'), 'wb') as cases, open(os.path.join(CRATE, 'stdout'), 'w') as stdout:
+    for data, text in all_cases().items():
+        cases.write(data)
+        stdout.write(text)

@@ -43,11 +43,6 @@ judges {C} {n} r e inside = record { answer = e; says = λ M. cases M r ∙ ap (
     cases M (Accepted at) = unfold judgementAnswer in refl
     cases M (Rejected f) = unfold judgementAnswer fileOf in refl
 
--- the rows hold some related pairs of n states
-pub record Relates (n : ℕ) (rows : List ℕ) : Type 0 where
-  pub pairs : Pairs
-  pub held : HoldsPairs n pairs rows
-
 -- the flows after n blocks, judged for the pairs that the rows hold
 pub record JudgesFlows (rule : FileRule) (s C : List ℕ) (n : ℕ) (rows : List ℕ) (blocks : ℕ) (r : Judged) : Type 0 where
   pub answer : (R : Pairs) → HoldsPairs n R rows → judgementOf C n r ≡ judgeFlows limits rule (automatonIn s) C R (take n (drop blocks C)) (questions (automatonIn s) (take n (drop blocks C))) (blocks + n)

@@ -59,9 +59,9 @@ module _ (by : PairRules) (follows : Follows) (laws : FollowsLaws by follows) (m
         largest = λ M blocks k. largest-of by model certificate blocks b c (accepted-exactly by model certificate blocks b c .1 (k .accepted));
       }
 
--- demand 3 for relations of any kind follows from what a call promises: a set of pairs in its contract loses nothing
-pub any-largest : (by : PairRules) (model certificate blocks : List ℕ) → Bytes model → Bytes certificate → (M : Model) → KeepsRulesOn (pairsOf by) model certificate M blocks → LargestOf (pairsOf by) model blocks → LargestBlocks (by .models .read) (by .rule .theory .met) model blocks
-any-largest by model certificate blocks b c M k o = demand3 by .largest model certificate blocks b c (accepted-exactly by model certificate blocks b c .1 (k .accepted))
+-- demand 3 for relations of any kind, where the rules are kept: that a contract speaks of sets of pairs loses nothing
+pub any-largest : (by : PairRules) (model certificate blocks : List ℕ) → Bytes model → Bytes certificate → (M : Model) → KeepsRulesOn (pairsOf by) model certificate M blocks → LargestBlocks (by .models .read) (by .rule .theory .met) model blocks
+any-largest by model certificate blocks b c M k = demand3 by .largest model certificate blocks b c (accepted-exactly by model certificate blocks b c .1 (k .accepted))
 
 -- document 01's two calls: what follows acceptance
 pub blocks-follow : FollowsLaws plainRules writesBlocks

@@ -70,7 +70,7 @@ module _ (by : PairRules) (follows : Follows) (laws : FollowsLaws by follows) (M
   numberOf o = o .answer .number
 
   -- the cases of an outcome: reading refuses, 10, judging refuses, or acceptance with what follows
-  outcome-cases {κ} : (P : Outcome → Type κ)
+  pub outcome-cases {κ} : (P : Outcome → Type κ)
       → ((f : Fault) (file place : ℕ) → RefusedWith by f → P (unwritten (refusalIn f file place (length (fileOf (M ∷ C ∷ []) file))) buffer))
       → ((N : Model) → length buffer < follows .blockRoom N → P (unwritten (answerWithoutPlace 10 0) buffer))
       → ((N : Model) (end : ℕ) (blocks : List ℕ) → by .models .read M ≡ model N end → follows .blockRoom N ≤ length buffer → accepted blocks ≡ judgeCertificate (by .limits) (by .rule .file) (automatonOf N) C → P (follows .outcome N blocks buffer))

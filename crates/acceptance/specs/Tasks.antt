@@ -19,7 +19,7 @@ abbrev pub numbersOf : Task → ℕ → Type 0
 numbersOf Blocks = JudgeNumber
 numbersOf Merged = ReduceNumber
 
--- for how many blocks there is room in a buffer of so many bytes
+-- for how many blocks there is room: a block buffer's length, or those of every model where none is lent
 abbrev pub roomOf : Task → ℕ → ℕ
 roomOf Blocks size = size
 roomOf Merged size = limits .states

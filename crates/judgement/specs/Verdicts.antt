@@ -12,7 +12,7 @@ use Rattle.rules.specs.definitions.Judging.{accepted, judge}
 use Rattle.rules.specs.definitions.Answers as rules
 use Rattle.rules.specs.definitions.Answers.{answerWithoutPlace, unwritten, Follows}
 use Rattle.rules.specs.definitions.Demands.{outcomeBy}
-use Rattle.rules.specs.argument.PlainRules.{plainCertificates}
+use Rattle.rules.specs.definitions.PlainRule.{plainRule}
 use Rattle.transition.specs.Known.{Known}
 use Rattle.answer.specs.declared.Answer.{Answer}
 use Rattle.judgement.specs.declared.Verdict.{Verdict}
@@ -28,7 +28,7 @@ pub record ReadsModel (s : List ℕ) : Type 0 where
 pub record AcceptedAt (M C table : List ℕ) (room n count at : ℕ) : Type 0 where
   pub known : Known M n count table
   pub model : ReadsModel M
-  pub judged : judge limits (readWhole limits) (plainCertificates .file) M C ≡ accepted (take n (drop at C))
+  pub judged : judge limits (readWhole limits) plainRule M C ≡ accepted (take n (drop at C))
   pub inside : at + n ≤ length C
   pub fits : n ≤ room
 

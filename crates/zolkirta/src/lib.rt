@@ -67,7 +67,7 @@ fn answer_headed(
 }
 
 // The one way in of all calls that judge: the head, and the rest of the pair. Only a call that lends a block buffer limits the blocks. The
-// rest has a large frame and two callers, so it stays out of line, and a refusal at the head needs no such frame.
+// rest has a large frame and is called from two places, so that the compiler keeps it out of line: a refusal at the head needs no such frame.
 fn answer_pair(task: Task, model: &[u8], certificate: &[u8], out: &mut [u8]) -> Answer
     ensures { λ r. ⌜ PairAnswered (followsOf task) (numbersOf task) (now (model .entry)) (now (certificate .entry)) (now (out .entry)) (now (out .exit)) r ⌝ }
 {

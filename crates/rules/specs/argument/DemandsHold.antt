@@ -2,17 +2,18 @@
 use Prim.Native.Nat.{ℕ, _≤_}
 use mathlib.Core.Path.{_≡_, refl, sym, _∙_, ap, subst}
 use mathlib.Core.Logic.{_⊎_, inl, inr, ⊎-elim}
-use mathlib.Core.List.{List}
-use lib.ListN.{length}
+use mathlib.Core.List.{List, _++_}
+use lib.ListN.{length, take, drop}
+use lib.Seq.{take-append-seam}
 use native.Mathlib.Omega.{arith}
 use Rattle.bisimulation.specs.argument.ChoiceLaws.{eitherLess}
-use Rattle.rules.specs.definitions.Model.{Model}
+use Rattle.rules.specs.definitions.Model.{Model, automatonOf}
 use Rattle.rules.specs.definitions.JudgedBy.{plainPairs}
 use Rattle.rules.specs.definitions.SoundModel.{Bytes}
 use Rattle.rules.specs.definitions.Judging.{accepted, NameSameBlocks}
 use Rattle.rules.specs.argument.AnyRule.{PairRules, RefusalOf, pairsOf}
 use Rattle.rules.specs.definitions.Answers.{Outcome, answerWithoutPlace, unwritten, filled, Follows, writesBlocks, mergedOutcome, writesMerged, JudgeNumber, ReduceNumber}
-use Rattle.rules.specs.definitions.Demand3.{LargestBlocks}
+use Rattle.rules.specs.definitions.Demand3.{HoldsModel, LargestBlocks}
 use Rattle.rules.specs.definitions.Demands.{AcceptedBy, KeepsRulesOn, LargestOf, outcomeBy, Accepting, Demands}
 use Rattle.rules.specs.argument.AnyRule.{AnyCertificateNumber}
 use Rattle.rules.specs.argument.AcceptedExactly.{AcceptedAs, accepted-exactly}
@@ -20,27 +21,37 @@ use Rattle.rules.specs.argument.Demand3Holds.{itself, holds, one-model, 
 use Rattle.rules.specs.argument.PairOutcome.{FollowsLaws, Followed, outcome-number, outcome-unwritten, outcome-found, outcome-followed}
 use Rattle.rules.specs.argument.PlainRules.{PlainNumber, ModelNumber, plainRules}
 
-module _ (by : PairRules) (follows : Follows) (laws : FollowsLaws by follows) (model certificate before after : List ℕ) (number : ℕ) (b : Bytes model) (c : Bytes certificate) (e : number ≡ outcomeBy (pairsOf by) follows model certificate before .answer .number) (left : after ≡ outcomeBy (pairsOf by) follows model certificate before .buffer) where
-  told : Accepting (pairsOf by) follows number → Followed by follows laws model certificate before
-  told z = outcome-found by follows laws model certificate before (subst (Accepting (pairsOf by) follows) e z)
+module _ (by : PairRules) (model certificate blocks : List ℕ) (b : Bytes model) where
+  -- the two ways to say that the rules are kept
+  accepted-of : (M : Model) → KeepsRulesOn (pairsOf by) model certificate M blocks → AcceptedAs by model certificate blocks
+  accepted-of M k = record { M = M; file = k .file; kept = k .kept }
 
-  told-kept : (z : Accepting (pairsOf by) follows number) → KeepsRulesOn (pairsOf by) model certificate (told z .found .N) (told z .found .blocks)
+  kept-of : (M : Model) → HoldsModel (by .models .read) model M → AcceptedAs by model certificate blocks → KeepsRulesOn (pairsOf by) model certificate M blocks
+  kept-of M h a =
+      subst (λ (N : Model). KeepsRulesOn (pairsOf by) model certificate N blocks) (one-model by model (a .M) M (holds by model certificate blocks b a) h)
+      (record { file = a .file; kept = a .kept })
+
+  holds-of : (M : Model) → KeepsRulesOn (pairsOf by) model certificate M blocks → HoldsModel (by .models .read) model M
+  holds-of M k = record { reads = by .models .exactly model M b .1 (k .file) }
+
+module _ (by : PairRules) (follows : Follows) (laws : FollowsLaws by follows) (model certificate before after : List ℕ) (number : ℕ) (b : Bytes model) (c : Bytes certificate) (e : number ≡ outcomeBy (pairsOf by) follows model certificate before .answer .number) (left : after ≡ outcomeBy (pairsOf by) follows model certificate before .buffer) where
+  told : Accepting follows number → Followed by follows laws model certificate before
+  told z = outcome-found by follows laws model certificate before (subst (Accepting follows) e z)
+
+  told-kept : (z : Accepting follows number) → KeepsRulesOn (pairsOf by) model certificate (told z .found .N) (told z .found .blocks)
   told-kept z =
       let f = told z .found in
-      record {
-        holds = holds-read by model b (f .reads);
-        accepted = accepted-exactly by model certificate (f .blocks) b c .0 (record { answers = f .judged });
-      }
+      kept-of by model certificate (f .blocks) b (f .N) (holds-read by model b (f .reads)) (accepted-exactly by model certificate (f .blocks) b c .0 (record { answers = f .judged }))
 
   -- where the rules are kept and there is room, the outcome is what follows
   kept-outcome : (M : Model) (blocks : List ℕ) → KeepsRulesOn (pairsOf by) model certificate M blocks → follows .blockRoom M ≤ length before → follows .outcome M blocks before ≡ outcomeBy (pairsOf by) follows model certificate before
   kept-outcome M blocks k room =
-      outcome-followed by follows laws model certificate before blocks (k .holds .reads) (accepted-exactly by model certificate blocks b c .1 (k .accepted) .answers) room
+      outcome-followed by follows laws model certificate before blocks (holds-of by model certificate blocks b M k .reads) (accepted-exactly by model certificate blocks b c .1 (accepted-of by model certificate blocks b M k) .answers) room
 
-  told-room : Accepting (pairsOf by) follows number → (M : Model) (blocks : List ℕ) → KeepsRulesOn (pairsOf by) model certificate M blocks → follows .blockRoom M ≤ length before
+  told-room : Accepting follows number → (M : Model) (blocks : List ℕ) → KeepsRulesOn (pairsOf by) model certificate M blocks → follows .blockRoom M ≤ length before
   told-room z M blocks k =
       let t = told z in
-      let one : t .found .N ≡ M = one-model by model (t .found .N) M (holds-read by model b (t .found .reads)) (k .holds) in
+      let one : t .found .N ≡ M = one-model by model (t .found .N) M (holds-read by model b (t .found .reads)) (holds-of by model certificate blocks b M k) in
       subst (λ (N : Model). follows .blockRoom N ≤ length before) one (t .room)
 
   pub demands-hold : (numbers : ℕ → Type 0) → numbers number → Demands (pairsOf by) follows numbers model certificate before after number
@@ -51,17 +62,26 @@ module _ (by : PairRules) (follows : Follows) (laws : FollowsLaws by follows) (m
           λ z. (told z .found .N, told z .found .blocks, told-kept z, told z .room),
           λ x.
               let o = kept-outcome (x .0) (x .1) (x .2) (x .3) in
-              subst (Accepting (pairsOf by) follows) (ap (λ (y : Outcome). y .answer .number) o ∙ sym e) (laws .numbered (x .0) (x .1) before),
+              subst (Accepting follows) (ap (λ (y : Outcome). y .answer .number) o ∙ sym e) (laws .numbered (x .0) (x .1) before),
         );
         numbered = λ z M blocks k. e ∙ ap (λ (o : Outcome). o .answer .number) (sym (kept-outcome M blocks k (told-room z M blocks k)));
         written = λ z M blocks k. left ∙ ap (λ (o : Outcome). o .buffer) (sym (kept-outcome M blocks k (told-room z M blocks k)));
         unwritten = λ n. left ∙ outcome-unwritten by follows laws model certificate before (λ z. n (e ∙ z));
-        largest = λ M blocks k. largest-of by model certificate blocks b c (accepted-exactly by model certificate blocks b c .1 (k .accepted));
+        largest = λ M blocks k. largest-of by model certificate blocks b c (accepted-exactly by model certificate blocks b c .1 (accepted-of by model certificate blocks b M k));
       }
 
 -- demand 3 for relations of any kind, where the rules are kept: that a contract speaks of sets of pairs loses nothing
 pub any-largest : (by : PairRules) (model certificate blocks : List ℕ) → Bytes model → Bytes certificate → (M : Model) → KeepsRulesOn (pairsOf by) model certificate M blocks → LargestBlocks (by .models .read) (by .rule .theory .met) model blocks
-any-largest by model certificate blocks b c M k = demand3 by .largest model certificate blocks b c (accepted-exactly by model certificate blocks b c .1 (k .accepted))
+any-largest by model certificate blocks b c M k = demand3 by .largest model certificate blocks b c (accepted-exactly by model certificate blocks b c .1 (accepted-of by model certificate blocks b M k))
+
+-- demand 3 of the bytes in the block buffer, where the call that judges answers 0: from its contract alone
+pub judged-largest : (by : PairRules) (numbers : ℕ → Type 0) (model certificate before after : List ℕ) → Bytes model → Demands (pairsOf by) writesBlocks numbers model certificate before after 0 → (M : Model) (blocks : List ℕ) → KeepsRulesOn (pairsOf by) model certificate M blocks → LargestOf (pairsOf by) model (take (length (M .labels)) after)
+unfolding Accepting filled automatonOf
+judged-largest by numbers model certificate before after b d M blocks k =
+    let whole : length blocks ≡ length (M .labels) = ap length (sym (k .kept .named)) ∙ k .kept .keeps .blocks .whole in
+    subst (LargestOf (pairsOf by) model)
+    (sym (ap (take (length (M .labels))) (d .written (inl refl) M blocks k) ∙ ap (λ (n : ℕ). take n (blocks ++ drop (length blocks) before)) (sym whole) ∙ take-append-seam blocks _))
+    (d .largest M blocks k)
 
 -- document 01's two calls: what follows acceptance
 pub blocks-follow : FollowsLaws plainRules writesBlocks

@@ -60,7 +60,7 @@ pub record AcceptedModel (L : Limits) (read : Reader) (file : FileRule) (M C : L
 
 -- what follows acceptance answers 0 and the late number alone, and writes on 0 alone; the late number is no other refusal of the call
 pub record FollowsLaws (by : PairRules) (follows : Follows) : Type 0 where
-  pub numbered : (N : Model) (blocks buffer : List ℕ) → Accepting (pairsOf by) follows (follows .outcome N blocks buffer .answer .number)
+  pub numbered : (N : Model) (blocks buffer : List ℕ) → Accepting follows (follows .outcome N blocks buffer .answer .number)
   pub unwritten : (N : Model) (blocks buffer : List ℕ) → (follows .outcome N blocks buffer .answer .number ≡ 0 → ⊥) → follows .outcome N blocks buffer .buffer ≡ buffer
   pub late : (k : ℕ) → RefusalOf by k → (k ≡ 0 → ⊥) → k ≡ follows .late → ⊥
   pub notTen : follows .late ≡ 10 → ⊥
@@ -117,7 +117,7 @@ module _ (by : PairRules) (follows : Follows) (laws : FollowsLaws by follows) (M
     pub room : follows .blockRoom (found .N) ≤ length buffer
 
   -- where its number tells of acceptance
-  pub outcome-found : Accepting (pairsOf by) follows (numberOf (outcomeBy (pairsOf by) follows M C buffer)) → Followed
+  pub outcome-found : Accepting follows (numberOf (outcomeBy (pairsOf by) follows M C buffer)) → Followed
   unfolding unwritten refusalIn answerWithoutPlace Accepting judge judgeReading
   outcome-found =
       outcome-cases (λ o. (numberOf o ≡ 0) ⊎ (numberOf o ≡ follows .late) → Followed)

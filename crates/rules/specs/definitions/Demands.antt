@@ -4,23 +4,28 @@ use mathlib.Core.Path.{_≡_}
 use mathlib.Core.Logic.{_↔_, _⊎_}
 use mathlib.Core.List.{List}
 use lib.ListN.{length}
-use Rattle.rules.specs.definitions.Model.{Model, HoldOneAutomaton}
+use Rattle.rules.specs.definitions.Model.{Model, automatonOf, HoldOneAutomaton}
 use Rattle.rules.specs.definitions.SoundModel.{Bytes}
 use Rattle.rules.specs.definitions.Judging.{AcceptedFor, NameSameBlocks}
-use Rattle.rules.specs.definitions.Accepted.{Accepted}
+use Rattle.rules.specs.definitions.Accepted.{Kept}
 use Rattle.rules.specs.definitions.JudgedBy.{JudgedBy}
 use Rattle.rules.specs.definitions.Answers.{Outcome, Follows, pairOutcome}
 use Rattle.rules.specs.definitions.Demand3.{HoldsModel, LargestBlockPairs}
+
+-- a number that tells of acceptance: 0, or the one that refuses after it
+unfoldable pub Accepting : Follows → ℕ → Type 0
+Accepting follows number = (number ≡ 0) ⊎ (number ≡ follows .late)
 
 module _ (by : JudgedBy) where
   -- a certificate accepted for a model, with its accepted blocks
   abbrev pub AcceptedBy : (model certificate blocks : List ℕ) → Type 0
   AcceptedBy model certificate blocks = AcceptedFor (by .limits) (by .read) (by .file) model certificate blocks
 
-  -- the certificate keeps every rule on the model M of these bytes, with these blocks
+  -- the bytes are the file of the sound model M, and the certificate keeps every rule for its automaton and names these blocks: `Accepted`, said
+  -- of M
   pub record KeepsRulesOn (model certificate : List ℕ) (M : Model) (blocks : List ℕ) : Type 0 where
-    pub holds : HoldsModel (by .read) model M
-    pub accepted : Accepted (by .limits) (by .isFile) (by .says) (by .file .mark) model certificate blocks
+    pub file : by .isFile model M
+    pub kept : Kept (by .limits) (by .says) (by .file .mark) (automatonOf M) certificate blocks
 
   -- demand 3 of blocks: lying in one of them is the largest relation, and a certificate accepted for a model file that holds the same
   -- automaton has the same blocks
@@ -33,20 +38,16 @@ module _ (by : JudgedBy) where
     abbrev pub outcomeBy : (model certificate before : List ℕ) → Outcome
     outcomeBy model certificate before = pairOutcome (by .limits) (by .read) (by .file) follows model certificate before
 
-    -- a number that tells of acceptance: 0, or the one that refuses after it
-    unfoldable pub Accepting : ℕ → Type 0
-    Accepting number = (number ≡ 0) ⊎ (number ≡ follows .late)
-
     -- what a call that answers this number keeps, with these bytes in the lent buffer before and after it
     pub record Demands (numbers : ℕ → Type 0) (model certificate before after : List ℕ) (number : ℕ) : Type 0 where
       -- demand 1: the number is one of the call's
       pub known : numbers number
       -- demand 2: it tells of acceptance exactly when the certificate keeps every rule on a sound model, and a lent block buffer is long enough
-      pub accepts : Accepting number ↔ ((M : Model) × (blocks : List ℕ) × KeepsRulesOn model certificate M blocks × (follows .blockRoom M ≤ length before))
+      pub accepts : Accepting follows number ↔ ((M : Model) × (blocks : List ℕ) × KeepsRulesOn model certificate M blocks × (follows .blockRoom M ≤ length before))
       -- then number and buffer are what follows acceptance
-      pub numbered : Accepting number → (M : Model) (blocks : List ℕ) → KeepsRulesOn model certificate M blocks → number ≡ follows .outcome M blocks before .answer .number
-      pub written : Accepting number → (M : Model) (blocks : List ℕ) → KeepsRulesOn model certificate M blocks → after ≡ follows .outcome M blocks before .buffer
+      pub numbered : Accepting follows number → (M : Model) (blocks : List ℕ) → KeepsRulesOn model certificate M blocks → number ≡ follows .outcome M blocks before .answer .number
+      pub written : Accepting follows number → (M : Model) (blocks : List ℕ) → KeepsRulesOn model certificate M blocks → after ≡ follows .outcome M blocks before .buffer
       -- demand 1: a refusal leaves the buffer as it was
       pub unwritten : (number ≡ 0 → ⊥) → after ≡ before
-      -- demand 3
+      -- demand 3, of the blocks for which the rules are kept; the clauses above say that the call's blocks are these
       pub largest : (M : Model) (blocks : List ℕ) → KeepsRulesOn model certificate M blocks → LargestOf model blocks

@@ -1,0 +1,240 @@
+-- The joined model of two sound models is sound within the limits, its file reads back as it, and its automaton is the joined one.
+use Prim.Native.Nat.{ℕ, zero, suc, _+_, _≤_, _<_}
+use mathlib.Core.Path.{_≡_, refl, sym, _∙_, ap}
+use mathlib.Core.List.{List, [], _∷_, _++_, map}
+use lib.ListN.{length, getD, length-append, length-map}
+use native.Mathlib.Decide.{ℕ-discrete, decLt}
+use native.Mathlib.Omega.{arith}
+use Rattle.bisimulation.specs.definitions.Choice.{ifLess, ifSame}
+use Rattle.bisimulation.specs.argument.ChoiceLaws.{same, notSame, eitherLess, less, notLess}
+use Rattle.rules.specs.definitions.Limits.{Limits}
+use Rattle.rules.specs.definitions.Model.{Entry, Transition, Model, noTransition, weightOf, automatonOf}
+use Rattle.rules.specs.definitions.Reading.{model, readWhole}
+use Rattle.rules.specs.definitions.SoundModel.{Each, Along, sumOver, TransitionRules, SoundModel, FitsWidths}
+use Rattle.rules.specs.argument.SoundModelLaws.{each-at, each-append, each-map}
+use Rattle.rules.specs.argument.ReadBack.{read-back-whole}
+use Rattle.joined.specs.Joined.{raisedEntry, raisedTransition, larger, joined, joinedFile, IsJoined}
+
+-- the larger of two is at least each, and one of them
+larger-first : (a b : ℕ) → a ≤ larger a b
+unfolding larger ifLess
+larger-first a b = go (decLt a b)
+  where
+    go : Dec (a < b) → a ≤ larger a b
+    go (yes l) = omega (arith, less {z = b} a {a = a} {b = b} l refl)
+    go (no l) = omega (arith, notLess {z = a} b {a = a} {b = b} (omega arith) refl)
+
+larger-second : (a b : ℕ) → b ≤ larger a b
+unfolding larger ifLess
+larger-second a b = go (decLt a b)
+  where
+    go : Dec (a < b) → b ≤ larger a b
+    go (yes l) = omega (arith, less {z = b} a {a = a} {b = b} l refl)
+    go (no l) = omega (arith, notLess {z = a} b {a = a} {b = b} (omega arith) refl)
+
+larger-most : (a b most : ℕ) → a ≤ most → b ≤ most → larger a b ≤ most
+unfolding larger
+larger-most a b most h k = eitherLess (λ (x : ℕ). x ≤ most) a b k h
+
+-- sums of two lists in a row
+sum-append : {X : Type 0} (f : X → ℕ) (xs ys : List X) → sumOver f (xs ++ ys) ≡ sumOver f xs + sumOver f ys
+unfolding sumOver
+sum-append f [] ys = omega arith
+sum-append f (x ∷ xs) ys = omega (arith, sum-append f xs ys)
+
+-- an element of two lists in a row
+get-first : {X : Type 0} (xs ys : List X) (d : X) (i : ℕ) → i < length xs → getD (xs ++ ys) i d ≡ getD xs i d
+get-first [] ys d i h = absurd (omega arith)
+get-first (x ∷ xs) ys d zero h = refl
+get-first (x ∷ xs) ys d (suc i) h = get-first xs ys d i (omega arith)
+
+get-second : {X : Type 0} (xs ys : List X) (d : X) (i : ℕ) → getD (xs ++ ys) (length xs + i) d ≡ getD ys i d
+get-second [] ys d i = let e : 0 + i ≡ i = omega arith in ap (λ (j : ℕ). getD ys j d) e
+get-second (x ∷ xs) ys d i =
+    let e : suc (length xs) + i ≡ suc (length xs + i) = omega arith in
+    ap (λ (j : ℕ). getD (x ∷ (xs ++ ys)) j d) e ∙ get-second xs ys d i
+
+get-map : {X : Type 0} (f : X → X) (xs : List X) (d : X) (i : ℕ) → i < length xs → getD (map f xs) i d ≡ f (getD xs i d)
+get-map f [] d i h = absurd (omega arith)
+get-map f (x ∷ xs) d zero h = refl
+get-map f (x ∷ xs) d (suc i) h = get-map f xs d i (omega arith)
+
+-- the entries raised
+module _ (k : ℕ) where
+  raised-each : (P Q : Entry → Type 0) → ((e : Entry) → P e → Q (raisedEntry k e)) → (es : List Entry) → Each P es → Each Q (map (raisedEntry k) es)
+  unfolding Each
+  raised-each P Q f [] h = tt
+  raised-each P Q f (e ∷ es) h = (f e (h .0), raised-each P Q f es (h .1))
+
+  raised-ascend : (es : List Entry) → Along (λ (e f : Entry). e .state < f .state) es → Along (λ (e f : Entry). e .state < f .state) (map (raisedEntry k) es)
+  unfolding Along raisedEntry
+  raised-ascend [] h = tt
+  raised-ascend (e ∷ []) h = tt
+  raised-ascend (e ∷ f ∷ es) h = (omega (arith, h .0), raised-ascend (f ∷ es) (h .1))
+
+  raised-sum : (es : List Entry) → sumOver (λ (e : Entry). e .weight) (map (raisedEntry k) es) ≡ sumOver (λ (e : Entry). e .weight) es
+  unfolding sumOver raisedEntry
+  raised-sum [] = refl
+  raised-sum (e ∷ es) = omega (arith, raised-sum es)
+
+  raised-weight : (es : List Entry) (v : ℕ) → weightOf (map (raisedEntry k) es) (k + v) ≡ weightOf es v
+  unfolding weightOf raisedEntry
+  raised-weight [] v = refl
+  raised-weight (e ∷ es) v = go (raised-weight es v) (ℕ-discrete (e .state) v)
+    where
+      go : weightOf (map (raisedEntry k) es) (k + v) ≡ weightOf es v → Dec (e .state ≡ v) → ifSame (k + e .state) (k + v) (e .weight) (weightOf (map (raisedEntry k) es) (k + v)) ≡ ifSame (e .state) v (e .weight) (weightOf es v)
+      go rest (yes q) = sym (same _ (omega arith) refl) ∙ same _ q refl
+      go rest (no q) = sym (notSame _ (omega arith) refl) ∙ rest ∙ notSame _ q refl
+
+  raised-none : (es : List Entry) (v : ℕ) → v < k → weightOf (map (raisedEntry k) es) v ≡ 0
+  unfolding weightOf raisedEntry
+  raised-none [] v h = refl
+  raised-none (e ∷ es) v h = sym (notSame _ (omega arith) (sym (raised-none es v h)))
+
+  -- a transition raised keeps the rules of more states and actions
+  raised-rules : (n m m′ : ℕ) → m ≤ m′ → (t : Transition) → TransitionRules n m t → TransitionRules (k + n) m′ (raisedTransition k t)
+  unfolding raisedTransition
+  raised-rules n m m′ le t r =
+      record {
+        source = omega (arith, r .source);
+        action = omega (arith, r .action);
+        positive = r .positive;
+        fits = r .fits;
+        some = omega (arith, r .some, length-map (t .entries) (raisedEntry k));
+        most = omega (arith, r .most, length-map (t .entries) (raisedEntry k));
+        states = raised-each (λ e. e .state < n) (λ e. e .state < k + n) raised-state (t .entries) (r .states);
+        ascend = raised-ascend (t .entries) (r .ascend);
+        weights = raised-each (λ e. 1 ≤ e .weight) (λ e. 1 ≤ e .weight) raised-some (t .entries) (r .weights);
+        whole = raised-sum (t .entries) ∙ r .whole;
+      }
+    where
+      raised-state : (e : Entry) → e .state < n → raisedEntry k e .state < k + n
+      raised-state e h = unfold raisedEntry in omega arith
+
+      raised-some : (e : Entry) → 1 ≤ e .weight → 1 ≤ raisedEntry k e .weight
+      raised-some e h = unfold raisedEntry in h
+
+  raised-all : (n m m′ : ℕ) → m ≤ m′ → (ts : List Transition) → Each (TransitionRules n m) ts → Each (TransitionRules (k + n) m′) (map (raisedTransition k) ts)
+  unfolding Each
+  raised-all n m m′ le [] h = tt
+  raised-all n m m′ le (t ∷ ts) h = (raised-rules n m m′ le t (h .0), raised-all n m m′ le ts (h .1))
+
+  raised-entries : (ts : List Transition) → sumOver (λ (t : Transition). length (t .entries)) (map (raisedTransition k) ts) ≡ sumOver (λ (t : Transition). length (t .entries)) ts
+  unfolding sumOver raisedTransition
+  raised-entries [] = refl
+  raised-entries (t ∷ ts) = omega (arith, raised-entries ts, length-map (t .entries) (raisedEntry k))
+
+  raised-sources : (ts : List Transition) → Along (λ (t u : Transition). t .source ≤ u .source) ts → Along (λ (t u : Transition). t .source ≤ u .source) (map (raisedTransition k) ts)
+  unfolding Along raisedTransition
+  raised-sources [] h = tt
+  raised-sources (t ∷ []) h = tt
+  raised-sources (t ∷ u ∷ ts) h = (omega (arith, h .0), raised-sources (u ∷ ts) (h .1))
+
+  -- sources below k, then sources raised by k
+  sources-follow : (ts us : List Transition) → Along (λ (t u : Transition). t .source ≤ u .source) ts → Each (λ (t : Transition). t .source < k) ts → Along (λ (t u : Transition). t .source ≤ u .source) us → Along (λ (t u : Transition). t .source ≤ u .source) (ts ++ map (raisedTransition k) us)
+  unfolding Along Each
+  sources-follow [] us h below g = raised-sources us g
+  sources-follow (t ∷ []) [] h below g = tt
+  sources-follow (t ∷ []) (u ∷ us) h below g = (unfold raisedTransition in omega (arith, below .0), raised-sources (u ∷ us) g)
+  sources-follow (t ∷ s ∷ ts) us h below g = (h .0, sources-follow (s ∷ ts) us (h .1) (below .1) g)
+
+-- a transition keeps the rules of more states and actions
+grown-rules : (n n′ m m′ : ℕ) → n ≤ n′ → m ≤ m′ → (t : Transition) → TransitionRules n m t → TransitionRules n′ m′ t
+grown-rules n n′ m m′ le lm t r =
+    record {
+      source = omega (arith, r .source);
+      action = omega (arith, r .action);
+      positive = r .positive;
+      fits = r .fits;
+      some = r .some;
+      most = omega (arith, r .most);
+      states = each-map (λ (e : Entry). e .state < n) (λ (e : Entry). e .state < n′) (λ e h. omega arith) (t .entries) (r .states);
+      ascend = r .ascend;
+      weights = r .weights;
+      whole = r .whole;
+    }
+
+module _ (L : Limits) (M N : Model) (first : SoundModel L M) (second : SoundModel L N) where
+  -- 25 does not refuse: states, transitions and entries of the joined model are within the limits
+  pub record Within : Type 0 where
+    pub states : length (M .labels) + length (N .labels) ≤ L .states
+    pub transitions : length (M .transitions) + length (N .transitions) ≤ L .transitions
+    pub entries : sumOver (λ (t : Transition). length (t .entries)) (M .transitions) + sumOver (λ (t : Transition). length (t .entries)) (N .transitions) ≤ L .entries
+
+  abbrev k : ℕ
+  k = length (M .labels)
+
+  pub joined-sound : Within → SoundModel L (joined M N)
+  unfolding joined
+  joined-sound w =
+      let size = length-append (M .labels) (N .labels) in
+      let count = length-append (M .transitions) (map (raisedTransition k) (N .transitions)) in
+      let raised = length-map (N .transitions) (raisedTransition k) in
+      record {
+        someState = omega (arith, size, first .someState);
+        states = omega (arith, size, w .states);
+        someAction = omega (arith, larger-first (M .actions) (N .actions), first .someAction);
+        actions = larger-most (M .actions) (N .actions) (L .actions) (first .actions) (second .actions);
+        count = omega (arith, count, raised, w .transitions);
+        labels = each-append _ (M .labels) (N .labels) (first .labels) (second .labels);
+        transitions =
+            each-append _ (M .transitions) _
+            (each-map _ _ (λ t r. grown-rules _ _ _ _ (omega (arith, size)) (larger-first (M .actions) (N .actions)) t r) (M .transitions) (first .transitions))
+            (rw size (raised-all k (length (N .labels)) (N .actions) _ (larger-second (M .actions) (N .actions)) (N .transitions) (second .transitions)));
+        sources =
+            sources-follow k (M .transitions) (N .transitions) (first .sources)
+            (each-map (TransitionRules k (M .actions)) (λ (t : Transition). t .source < k) (λ t r. r .source) (M .transitions) (first .transitions)) (second .sources);
+        entries = omega (arith, sum-append (λ (t : Transition). length (t .entries)) (M .transitions) (map (raisedTransition k) (N .transitions)), raised-entries k (N .transitions), w .entries);
+      }
+
+  -- its file reads back as it
+  pub joined-reads : FitsWidths L → Within → readWhole L (joinedFile M N) ≡ model (joined M N) (length (joinedFile M N))
+  unfolding joinedFile
+  joined-reads widths w = read-back-whole L (joined M N) widths (joined-sound w)
+
+-- its automaton, of models of any size
+pub joined-automaton : (M N : Model) → IsJoined (automatonOf M) (automatonOf N) (automatonOf (joined M N))
+unfolding joined automatonOf
+joined-automaton M N =
+    record {
+      states = length-append (M .labels) (N .labels);
+      transitions = length-append (M .transitions) _ ∙ ap (λ (x : ℕ). length (M .transitions) + x) (length-map (N .transitions) (raisedTransition k));
+      firstLabel = λ v h. get-first (M .labels) (N .labels) 0 v h;
+      firstSource = λ q h. ap (λ (t : Transition). t .source) (in-first q h);
+      firstAction = λ q h. ap (λ (t : Transition). t .action) (in-first q h);
+      firstDenominator = λ q h. ap (λ (t : Transition). t .denominator) (in-first q h);
+      firstWeight = λ q v h. ap (λ (t : Transition). weightOf (t .entries) v) (in-first q h);
+      secondLabel = λ v. get-second (M .labels) (N .labels) 0 v;
+      secondSource = λ q h. ap (λ (t : Transition). t .source) (in-second q h) ∙ source q;
+      secondAction = λ q h. ap (λ (t : Transition). t .action) (in-second q h) ∙ action q;
+      secondDenominator = λ q h. ap (λ (t : Transition). t .denominator) (in-second q h) ∙ denominator q;
+      secondWeight = λ q v h. ap (λ (t : Transition). weightOf (t .entries) (k + v)) (in-second q h) ∙ weight q v;
+      secondOnly = λ q v h l. ap (λ (t : Transition). weightOf (t .entries) v) (in-second q h) ∙ only q v l;
+    }
+  where
+    k : ℕ
+    k = length (M .labels)
+
+    at : ℕ → Transition
+    at q = getD (N .transitions) q noTransition
+
+    in-first : (q : ℕ) → q < length (M .transitions) → getD (M .transitions ++ map (raisedTransition k) (N .transitions)) q noTransition ≡ getD (M .transitions) q noTransition
+    in-first q h = get-first (M .transitions) _ noTransition q h
+
+    in-second : (q : ℕ) → q < length (N .transitions) → getD (M .transitions ++ map (raisedTransition k) (N .transitions)) (length (M .transitions) + q) noTransition ≡ raisedTransition k (at q)
+    in-second q h = get-second (M .transitions) _ noTransition q ∙ get-map (raisedTransition k) (N .transitions) noTransition q h
+
+    source : (q : ℕ) → raisedTransition k (at q) .source ≡ k + at q .source
+    source q = unfold raisedTransition in refl
+
+    action : (q : ℕ) → raisedTransition k (at q) .action ≡ at q .action
+    action q = unfold raisedTransition in refl
+
+    denominator : (q : ℕ) → raisedTransition k (at q) .denominator ≡ at q .denominator
+    denominator q = unfold raisedTransition in refl
+
+    weight : (q v : ℕ) → weightOf (raisedTransition k (at q) .entries) (k + v) ≡ weightOf (at q .entries) v
+    weight q v = unfold raisedTransition in raised-weight k (at q .entries) v
+
+    only : (q v : ℕ) → v < k → weightOf (raisedTransition k (at q) .entries) v ≡ 0
+    only q v l = unfold raisedTransition in raised-none k (at q .entries) v l

@@ -19,7 +19,7 @@ use Rattle.rules.specs.definitions.Limits.{limits}
 use Rattle.rules.specs.definitions.Reading.{statesOf, entriesAt}
 use Rattle.rules.specs.definitions.PlainRule.{priceCondition, allWithAction, below}
 use Rattle.rules.specs.argument.PlainDecides.{holds-T}
-use Rattle.model_records.specs.declared.Fields.{Fields}
+use Rattle.transition_record.specs.declared.Fields.{Fields}
 use Rattle.transition.specs.Known.{automatonIn, Known, KnownTransition, FieldsOf}
 use Rattle.transition.specs.KnownLaws.{few-states, known-transitions}
 use Rattle.prices.specs.Prices.{priceIn, SmallPrices, IsSum}

@@ -57,7 +57,7 @@ enum Fetched {
 fn fetch_run(s: &[u8], state: usize) -> Fetched
     ensures { λ r. ⌜ answerOf (now (s .entry)) r ≡ fetchAnswer limits (now (s .entry)) state ⌝ }
 {
-    let wrong = model_records::head_fault(s);
+    let wrong = model_head::head_fault(s);
     if wrong.number != 0 {
         return Fetched::Unsound(wrong);
     }

@@ -16,7 +16,7 @@ use Rattle.fault.specs.declared.Fault.{Fault}
 use Rattle.field.specs.Taken as field
 use Rattle.field.specs.Taken.{taken-at}
 use Rattle.field.specs.declared.Field.{Field}
-use Rattle.model_records.specs.declared.Fields.{Fields}
+use Rattle.transition_record.specs.declared.Fields.{Fields}
 use Rattle.limits.specs.Sizes as sizes
 use Rattle.pairs.specs.Rows.{HoldsPairs}
 use Rattle.transition.specs.Known.{automatonIn, FieldsOf, entriesOf}

@@ -17,8 +17,8 @@ use Rattle.rules.specs.definitions.Quotient.{blockCount, blockLabels, byBlock, 
 use Rattle.rules.specs.argument.QuotientLaws.{NumberedBlocks, quotient-sound, merged-states, merged-below}
 use Rattle.rules.specs.definitions.Answers.{Outcome, unwritten, filled, mergedOutcome}
 use Rattle.limits.specs.Sizes as sizes
-use Rattle.model_records.specs.declared.Head.{Head}
-use Rattle.model_records.specs.Fields.{HeadAt}
+use Rattle.model_head.specs.declared.Head.{Head}
+use Rattle.model_head.specs.Head.{HeadAt}
 use Rattle.transition.specs.Known.{Known}
 use Rattle.merged_transition.specs.MergedTransition.{BlocksBelow}
 use Rattle.writer.specs.Appends.{Appends, CanWriteModel, WritesModel}

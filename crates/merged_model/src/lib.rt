@@ -76,7 +76,7 @@ fn write_parts(
     requires { ⌜ CanWriteParts (now s) n (now blocks) k (now records) kept (now out) ⌝ }
     ensures { λ _. ⌜ PartsWritten (now (s .entry)) (now (blocks .entry)) (now (out .entry)) (now (out .exit)) ⌝ }
 {
-    let m = model_records::head_at(s).actions;
+    let m = model_head::head_at(s).actions;
     let mut labels = [0; STATES];
     write_labels(&s[8..8 + n], blocks, k, &mut labels[..], 0);
     writer::write_model(out, m, &labels[..k], kept.count, &records[..kept.size]);

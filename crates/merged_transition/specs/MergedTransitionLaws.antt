@@ -16,7 +16,7 @@ use Rattle.rules.specs.definitions.Reading.{statesOf, countOf, entryCountAt, tr
 use Rattle.rules.specs.definitions.Quotient.{weightToBlock, blockEntries, mergedTransition, blockCount}
 use Rattle.rules.specs.argument.ModelAutomaton.{automaton-source, automaton-action, automaton-denominator}
 use Rattle.rules.specs.argument.SoundModelLaws.{sound-automaton}
-use Rattle.model_records.specs.declared.Fields.{Fields}
+use Rattle.transition_record.specs.declared.Fields.{Fields}
 use Rattle.transition.specs.Known.{KnownTransition, FieldsOf, entriesOf}
 use Rattle.transition.specs.KnownLaws.{known-transitions, entries-known}
 use Rattle.writer.specs.Appends.{Appends, fixedBytes}

@@ -15,7 +15,7 @@ use Rattle.rules.specs.definitions.Reading.{entryCountAt, entriesAt, placeOf}
 use Rattle.rules.specs.argument.ReadBack.{entriesBytes-length}
 use Rattle.rules.specs.definitions.Quotient.{weightToBlock, blockEntries}
 use Rattle.rules.specs.definitions.SoundModel.{Each, sumOver}
-use Rattle.model_records.specs.declared.Fields.{Fields}
+use Rattle.transition_record.specs.declared.Fields.{Fields}
 use Rattle.transition.specs.declared.Entry as read
 use Rattle.transition.specs.Known.{FieldsOf, entriesOf}
 use Rattle.transition.specs.KnownLaws.{entries-known}

@@ -20,7 +20,7 @@ use Rattle.rules.specs.argument.KeyedSums.{each-all, sumOver-most, sumOver-leng
 use Rattle.rules.specs.definitions.Quotient.{blockCount, mergedTransition, fromBlock, isAmong, distinct, byBlock}
 use Rattle.rules.specs.argument.QuotientLaws.{merged-few, merged-rules, each-distinct, each-from, transitions-length}
 use Rattle.limits.specs.Sizes.{records}
-use Rattle.model_records.specs.declared.Fields.{Fields}
+use Rattle.transition_record.specs.declared.Fields.{Fields}
 use Rattle.transition.specs.Known.{Known, KnownTransition, FieldsOf}
 use Rattle.transition.specs.KnownLaws.{known-own, known-states, known-transitions, known-transition, few-transitions}
 use Rattle.writer.specs.Appends.{Appends}

@@ -35,7 +35,7 @@ fn scan_transitions(s: &[u8], n: usize, m: usize, count: usize, places: &mut Pla
     let mut entries = 0;
     let mut place = Cursor::new(8 + n);
     while 0 < left {
-        let t = model_records::transition_at(s, n, m, last, entries, place);
+        let t = transition_record::transition_at(s, n, m, last, entries, place);
         let wrong = t.fault;
         if wrong.number != 0 {
             return Scanned::Refused(wrong);
@@ -62,8 +62,8 @@ pub fn scan_model(s: &[u8], places: &mut Places) -> Scanned
     requires { ⌜ (length (now places) ≡ sizes.places) × (headFault limits (now s) .number ≡ 0) ⌝ }
     ensures { λ r. ⌜ Scans (now (s .entry)) (scanModel limits (now (s .entry))) r (now (places .exit)) ⌝ }
 {
-    let head = model_records::head_at(s);
-    let labels = model_records::labels_fault(s, head.states);
+    let head = model_head::head_at(s);
+    let labels = model_head::labels_fault(s, head.states);
     if labels.number != 0 {
         return Scanned::Refused(labels);
     }

@@ -17,7 +17,7 @@ use Rattle.rules.specs.definitions.Model.{Entry}
 use Rattle.rules.specs.definitions.Reading.{statesOf, entriesAt}
 use Rattle.rules.specs.definitions.SoundModel.{Each, sumOver}
 use Rattle.rules.specs.argument.EntryPrices.{priceOfEntries}
-use Rattle.model_records.specs.declared.Fields.{Fields}
+use Rattle.transition_record.specs.declared.Fields.{Fields}
 use Rattle.transition.specs.declared.Entry as read
 use Rattle.transition.specs.Known.{automatonIn, KnownTransition, FieldsOf, EntriesKnown}
 use Rattle.transition.specs.KnownLaws.{few-states, entries-known, price-known}

@@ -17,7 +17,7 @@ use Rattle.field.specs.declared.Cursor.{Cursor}
 use Rattle.fault.specs.declared.Fault.{Fault}
 use Rattle.fault.specs.Faults.{faultOf, Placed}
 use Rattle.fault.specs.FaultsLaws.{none-is, placed-some}
-use Rattle.model_records.specs.declared.Fields.{Fields}
+use Rattle.transition_record.specs.declared.Fields.{Fields}
 use Rattle.pairs.specs.Rows.{rowBit, HoldsPairs}
 use Rattle.transition.specs.Known.{automatonIn, FieldsOf}
 use Rattle.refutation.specs.declared.Head.{Head}

@@ -21,7 +21,7 @@ use Rattle.limits.specs.Sizes as sizes
 use Rattle.rules.specs.definitions.Reading.{statesOf, entryCountAt, entriesAt, placeOf}
 use Rattle.rules.specs.definitions.SoundModel.{Each, sumOver}
 use Rattle.rules.specs.argument.SoundModelLaws.{From, StatesFrom, no-weight}
-use Rattle.model_records.specs.declared.Fields.{Fields}
+use Rattle.transition_record.specs.declared.Fields.{Fields}
 use Rattle.transition.specs.declared.Entry as read
 use Rattle.transition.specs.Known.{automatonIn, FieldsOf, entriesOf}
 use Rattle.transition.specs.KnownLaws.{few-states, entries-known}

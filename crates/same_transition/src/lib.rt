@@ -30,7 +30,7 @@ pub fn is_repeated(s: &[u8], start: usize, at: usize, next: usize) -> bool
         if same_bytes(s, place, at, next - at) {
             return true;
         }
-        place = model_records::after_transition(s, place);
+        place = transition_record::after_transition(s, place);
     }
     false
 }

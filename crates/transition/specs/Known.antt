@@ -11,7 +11,7 @@ use Rattle.rules.specs.definitions.Reading.{statesOf, countOf, entryCountAt, af
 use Rattle.rules.specs.definitions.SoundModel.{Each, sumOver, SoundModel}
 use Rattle.rules.specs.argument.SoundModelLaws.{StatesFrom}
 use Rattle.model.specs.Scanned.{PlacesHeld}
-use Rattle.model_records.specs.declared.Fields.{Fields}
+use Rattle.transition_record.specs.declared.Fields.{Fields}
 
 -- the automaton of a model file
 abbrev pub automatonIn : List ℕ → Automaton

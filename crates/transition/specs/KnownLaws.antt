@@ -18,9 +18,9 @@ use Rattle.rules.specs.argument.ReadSound.{read-whole-sound}
 use Rattle.rules.specs.argument.AnswerLaws.{labels-length}
 use Rattle.rules.specs.argument.ModelAutomaton.{length-transitionsAt, automaton-states, automaton-transitions, automaton-source, automaton-action, automaton-denominator, automaton-weight, transition-is}
 use Rattle.rules.specs.argument.EntryPrices.{priceOfEntries, price-of-entries}
-use Rattle.model_records.specs.Fields.{FieldsAt}
+use Rattle.transition_record.specs.Fields.{FieldsAt}
 use Rattle.model.specs.Scanned.{PlacesHeld}
-use Rattle.model_records.specs.declared.Fields.{Fields}
+use Rattle.transition_record.specs.declared.Fields.{Fields}
 use Rattle.transition.specs.Known.{automatonIn, Known, KnownTransition, FieldsOf, entriesOf, EntriesKnown}
 
 -- what the reader's answer tells

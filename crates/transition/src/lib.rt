@@ -5,7 +5,7 @@ ghost use Rattle.transition.specs.Known.{KnownTransition, FieldsOf};
 ghost use Rattle.transition.specs.Entries.{EntryTaken};
 use field::Cursor;
 use model::Places;
-use model_records::Fields;
+use transition_record::Fields;
 
 pub struct Entry {
     pub state: usize,
@@ -18,7 +18,7 @@ pub fn fields_of(s: &[u8], places: &Places, r: usize) -> Fields
     requires { ⌜ KnownTransition (now s) (now places) r ⌝ }
     ensures { λ x. ⌜ FieldsOf (now (s .entry)) r x ⌝ }
 {
-    model_records::fields_at(s, places[r])
+    transition_record::fields_at(s, places[r])
 }
 
 // The entry at a place.

@@ -71,7 +71,7 @@ fn answer_headed(
 fn answer_pair(task: Task, model: &[u8], certificate: &[u8], out: &mut [u8]) -> Answer
     ensures { λ r. ⌜ PairAnswered (followsOf task) (numbersOf task) (now (model .entry)) (now (certificate .entry)) (now (out .entry)) (now (out .exit)) r ⌝ }
 {
-    let head = model_records::head_fault(model);
+    let head = model_head::head_fault(model);
     if head.number != 0 {
         return answer::refusal_in(head, 1, model.len());
     }

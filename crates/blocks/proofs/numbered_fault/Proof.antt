@@ -1,7 +1,7 @@
 -- `numbered_fault` meets its contract. The invariant: the blocks left have the fault of all.
 use native.Mathlib.Omega.{arith}
-use Prim.Native.Nat.{ℕ, _+_, _≤_}
-use mathlib.Core.Path.{_≡_, refl, _∙_}
+use Prim.Native.Nat.{ℕ, _+_, _-_, _≤_}
+use mathlib.Core.Path.{_≡_, refl, _∙_, ap, ap₂}
 use Rattle.rules.specs.definitions.Bytes.{byteAt}
 use Rattle.rules.specs.definitions.Certificate.{numberedFault}
 use Rattle.bisimulation.specs.definitions.Choice.{ifSame}
@@ -52,13 +52,14 @@ loop-again c =
     let b = c .before .before .before .byte in
     let e : b .result .next .at ≡ l .place .at + 1 = omega arith in
     let v : b .result .value ≡ byteAt _ (l .place .at) = b .ensures .value in
+    let seen = c .before .seen-after .ensures ∙ ap (λ (k : ℕ). ifSame k (l .seen) (l .seen + 1) (l .seen)) v in
     let most : ifSame (b .result .value) (l .seen) (l .seen + 1) (l .seen) ≤ l .seen + 1 =
     eitherSame (λ (k : ℕ). k ≤ l .seen + 1) (b .result .value) (l .seen) (omega arith) (omega arith)
     in (
       omega arith,
       omega (arith, most, c .before .seen-after .ensures),
       via (numbered-turn _ (l .left) (l .place .at) (l .seen) (omega arith))
-          (notLess _ (omega (arith, b .ensures .value)) (cc))
+          (notLess _ (omega (arith, v)) (ap₂ (numberedFault _ (l .left - 1)) e seen))
           ∙ l .inv .2,
     )
 

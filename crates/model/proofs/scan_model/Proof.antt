@@ -1,8 +1,8 @@
 -- `scan_model` meets its contract: the labels and the transitions in the order of `scanModel`.
 use Rattle.rules.specs.argument.ReadingLaws.{refuse-stops, refuse-passes, head-passed, labels-passed}
-use Rattle.rules.specs.definitions.Reading.{Scan, refused, headFault, scanModel, labelsFault}
+use Rattle.rules.specs.definitions.Reading.{Scan, refused, headFault, scanTransitions, scanModel, labelsFault}
 use Rattle.rules.specs.definitions.Limits.{limits}
-use Prim.Native.Nat.{ℕ}
+use Prim.Native.Nat.{ℕ, _+_}
 use mathlib.Core.Path.{_≡_, refl, sym, _∙_, ap}
 use native.Mathlib.Omega.{arith}
 use Rattle.rules.specs.definitions.Faults as rules
@@ -10,6 +10,7 @@ use Rattle.rules.specs.definitions.Faults.{noFault}
 use mathlib.Core.List.{List}
 use Rattle.fault.specs.Faults.{faultOf}
 use Rattle.fault.specs.FaultsLaws.{none-is}
+use Rattle.model_head.specs.HeadLaws.{of-head}
 use Rattle.model.specs.Scanned.{scans}
 use Rattle.model.proofs.scan_model.Statement.{statement}
 use Rattle.model.proofs.scan_model.Tie as tie
@@ -49,11 +50,15 @@ scan-transitions-requires c κs =
 returns-2 : tie.Need-returns-2
 unfolding scanModel
 returns-2 c =
-    let wrong = c .before .before .before .before .labels-fault in
+    let judged = c .before .before .before .before in
+    let wrong = judged .labels-fault in
+    let head = judged .before .head-at .ensures in
+    let start = judged .before .before .before in
+    let s = start .args .s .now in
     scans _
-    (refuse-passes _ refl (c .before .before .before .before .before .before .before .pre .1)
-    (refuse-passes _ (wrong .ensures .is ∙ ap (labelsFault limits _) (c .before .before .before .before .before .head-at .ensures .states)) (c .before .before .if1 .left)
-    (cc)))
+    (refuse-passes _ refl (start .pre .1)
+    (refuse-passes _ (wrong .ensures .is ∙ ap (labelsFault limits _) (head .states)) (c .before .before .if1 .left)
+    (c .scan-transitions .ensures .answer ∙ of-head (λ (n m count : ℕ). scanTransitions limits s n m count count 0 0 (8 + n)) head)))
     (c .scan-transitions .ensures .places) (c .scan-transitions .ensures .size)
 
 pub scan-model-spec : {M : Type 1} → statement M

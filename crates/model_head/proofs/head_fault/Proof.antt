@@ -1,10 +1,12 @@
 -- `head_fault` meets its contract: the record is opened, then its ranges are judged.
 use native.Mathlib.Omega.{arith}
 use mathlib.Core.Path.{_∙_}
+use Rattle.rules.specs.definitions.Limits.{limits}
 use Rattle.rules.specs.definitions.Faults.{modelRecord}
 use Rattle.rules.specs.argument.FaultLaws.{first-stops, first-passes, model-refuses, opened}
 use Rattle.fault.specs.FaultsLaws.{none-is, placed-as}
-use Rattle.rules.specs.definitions.Reading.{headFault}
+use Rattle.rules.specs.definitions.Reading.{headFault, rangeFault}
+use Rattle.model_head.specs.HeadLaws.{of-head}
 use borrow.Author.Needs.{needs}
 use Rattle.model_head.proofs.head_fault.Statement.{statement}
 use Rattle.model_head.proofs.head_fault.Tie as tie
@@ -30,7 +32,11 @@ at-requires-2 c κs = search needs
 
 returns-2 : tie.Need-returns-2
 unfolding headFault
-returns-2 c = placed-as (c .at2 .ensures) (first-passes _ _ (c .before .before .before .before .before .open-model .ensures) (c .before .before .before .if1 .left) (cc))
+returns-2 c =
+    let head = c .before .before in
+    placed-as (c .at2 .ensures)
+    (first-passes _ _ (head .before .before .before .open-model .ensures) (head .before .if1 .left)
+    (c .before .range-fault .ensures ∙ of-head (rangeFault limits) (head .head-at .ensures)))
 
 pub head-fault-spec : {M : Type 1} → statement M
 head-fault-spec =

@@ -4,8 +4,8 @@ use Rattle.bisimulation.specs.argument.ChoiceLaws.{via, less, notLess}
 use Rattle.rules.specs.definitions.Limits.{limits}
 use Rattle.rules.specs.definitions.Reading.{labelFault}
 use Rattle.rules.specs.argument.ReadingLaws.{labelFault-end, labelFault-turn}
-use Prim.Native.Nat.{ℕ, _+_}
-use mathlib.Core.Path.{_≡_, refl, _∙_}
+use Prim.Native.Nat.{ℕ, _+_, _-_}
+use mathlib.Core.Path.{_≡_, refl, _∙_, ap}
 use borrow.Author.Needs.{needs}
 use Rattle.model_head.proofs.label_fault.Statement.{statement}
 use Rattle.model_head.proofs.label_fault.Tie as tie
@@ -45,7 +45,7 @@ loop-again c =
     let l = c .before .before .before .before .loop in
     let e : c .before .before .byte .result .next .at ≡ l .place .at + 1 = omega arith in (
       omega arith,
-      via (labelFault-turn limits _ (l .left) (l .place .at) (omega arith)) (notLess _ (omega arith) (cc)) ∙ l .inv .1,
+      via (labelFault-turn limits _ (l .left) (l .place .at) (omega arith)) (notLess _ (omega arith) (ap (labelFault limits _ (l .left - 1)) e)) ∙ l .inv .1,
     )
 
 none-requires : tie.Need-none-requires Inv-loop μ-loop

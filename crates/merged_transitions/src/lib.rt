@@ -37,13 +37,14 @@ fn keep_of_block(
         return kept;
     }
     let next = merged_transition::write_merged(s, places, r, blocks, k, weights, out, kept.size);
-    if same_transition::is_repeated(out, start, kept.size, next) {
-        return kept;
-    }
-    Kept {
+    let longer = Kept {
         count: kept.count + 1,
         size: next,
+    };
+    if same_transition::is_repeated(out, start, kept.size, next) {
+        return kept; // the next record is written over it
     }
+    longer
 }
 
 // The transitions of the block b, by original place.

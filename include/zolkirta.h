@@ -5,8 +5,9 @@
  * changed by others during the call, and a lent buffer overlaps no input and no other lent buffer. A refusal writes no byte of any
  * lent buffer.
  *
- * Stack. zolkirta_reduce and zolkirta_judge use at most 11,000 bytes each and zolkirta_fetch 2,400 (measured, rounded up). In a
- * dynamically linked program the loader adds some 3 KiB when it binds memcpy or memset at the first call. No heap is used.
+ * Stack. zolkirta_reduce, zolkirta_judge and zolkirta_alike use at most 11,000 bytes each, zolkirta_join and zolkirta_fetch 2,400
+ * (measured, rounded up). In a dynamically linked program the loader adds some 3 KiB when it binds memcpy or memset at the first
+ * call. No heap is used.
  *
  * Threads. The library has no state and keeps no pointer: any number of calls may run at once.
  *
@@ -18,13 +19,13 @@
 #include <stddef.h>
 #include <stdint.h>
 
-#define ZOLKIRTA_VERSION "0.1.0"
-#define ZOLKIRTA_VERSION_NUMBER 100 /* major * 10000 + minor * 100 + patch */
+#define ZOLKIRTA_VERSION "0.2.0"
+#define ZOLKIRTA_VERSION_NUMBER 200 /* major * 10000 + minor * 100 + patch */
 
 /* The most states that a model has: a block buffer of this length is always long enough. */
 #define ZOLKIRTA_STATES 64
 /* The bytes of the longest model, 8 + 64 + 7 * 256 + 3 * 1024: an output buffer of this length is always long enough for
- * zolkirta_reduce, and a longer model file is always refused. */
+ * zolkirta_reduce and zolkirta_join, and a longer model file is always refused. */
 #define ZOLKIRTA_MODEL 4936
 
 #ifdef __cplusplus
@@ -34,7 +35,7 @@ extern "C" {
 /* The numbers that a call answers: 0, or one refusal. */
 enum zolkirta_number {
     ZOLKIRTA_ACCEPTED = 0,
-    /* in the model, file 1 */
+    /* in a model: file 1, or file 3 for the second of two */
     ZOLKIRTA_MODEL_ENDS = 1,            /* the file ends inside a record */
     ZOLKIRTA_MODEL_MARK = 2,            /* a record has a wrong mark */
     ZOLKIRTA_MODEL_HEAD = 3,            /* the state, action or transition count is outside its range */
@@ -61,18 +62,27 @@ enum zolkirta_number {
     ZOLKIRTA_CERTIFICATE_BYTES_LEFT = 22, /* bytes are left after the last flow */
     /* of the call, no file and no place */
     ZOLKIRTA_OUTPUT_BUFFER = 23,        /* the certificate is accepted, and the buffer is shorter than the merged model's file */
-    ZOLKIRTA_STATE = 24                 /* the state to fetch is not below the state count */
+    ZOLKIRTA_STATE = 24,                /* the state to fetch is not below the state count */
+    ZOLKIRTA_JOINED_MODEL = 25,         /* the joined model has more than 64 states, 256 transitions or 1,024 entries */
+    ZOLKIRTA_JOINED_BUFFER = 26,        /* the buffer is shorter than the joined model's file */
+    ZOLKIRTA_PARTS = 27                 /* accepted, and the first's count is above the state count or a state is not in its part */
 };
 
 /* What a call answers. */
 typedef struct zolkirta_answer {
     uint32_t number;       /* 0, or the number of the refusal */
-    uint32_t file;         /* the file at fault: 1 model, 2 certificate; 0 where none is */
+    uint32_t file;         /* the file at fault: 1 model, 2 certificate, 3 the second model; 0 where none is */
     size_t place;          /* the byte of that file where the record at fault begins; for bytes left, the first of them */
     size_t stretch_start;  /* the stretch from that place to the file's end, or the run that was fetched: */
     size_t stretch_length; /* where it starts in its file and how long it is; both 0 where it is empty and has no file */
-    size_t written;        /* bytes written into the lent buffer, 0 on refusal */
+    size_t written;        /* bytes written into the lent buffer; 0 on refusal, and where none is lent */
 } zolkirta_answer;
+
+/* What zolkirta_alike answers. */
+typedef struct zolkirta_alike_answer {
+    zolkirta_answer answer;
+    uint32_t alike; /* 1 for yes, 0 for no; 0 on refusal */
+} zolkirta_alike_answer;
 
 /* The run of the model's bytes that holds the transitions that leave a state: number 0, with the run in stretch_start and
  * stretch_length, length 0 where none leave. Refusals 1 to 9 with file 1, and 24 where the state is not below the model's
@@ -91,6 +101,21 @@ zolkirta_answer zolkirta_judge(const uint8_t *model, size_t model_length, const 
  * and `out` is shorter than the file (no file, no place). */
 zolkirta_answer zolkirta_reduce(const uint8_t *model, size_t model_length, const uint8_t *certificate, size_t certificate_length,
                                 uint8_t *out, size_t out_length);
+
+/* Writes two models as one: the second's states and transitions follow the first's, its state numbers raised by the first's state
+ * count; labels are kept, and the action count is the larger one. Number 0: the first `written` bytes of `out` are the joined
+ * model's file; its later bytes stay. Else a refusal, which writes nothing: 1 to 9 in the first model (file 1), then 1 to 9 in the
+ * second (file 3), then 25 where the joined model passes a limit and 26 where `out` is shorter than the file (no file, no place). */
+zolkirta_answer zolkirta_join(const uint8_t *first, size_t first_length, const uint8_t *second, size_t second_length, uint8_t *out,
+                              size_t out_length);
+
+/* Judges a certificate for a joined model and says whether a state of the first part behaves as one of the second. `first_count` is
+ * the state count of the first part; both states go by their numbers in the joined model. Number 0: accepted, and `alike` is 1 where
+ * the two share a block, else 0. Other numbers refuse: 1 to 9 in the model (file 1), 11 to 22 in the certificate (file 2), and 27
+ * where the certificate is accepted, but `first_count` is above the state count, `first_state` is not below `first_count`, or
+ * `second_state` is below it or not below the state count (no file, no place). */
+zolkirta_alike_answer zolkirta_alike(const uint8_t *model, size_t model_length, uint32_t first_count, const uint8_t *certificate,
+                                     size_t certificate_length, uint32_t first_state, uint32_t second_state);
 
 #ifdef __cplusplus
 }

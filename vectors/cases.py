@@ -2,8 +2,9 @@
 """Writes crates/cases/data/cases and crates/cases/stdout: the cases, and what the program must print for them.
 
 C1 to C10 of document 01; the cases that it lists under 'Also run', files of the most bytes that the program reads, a pair with states
-that reach a move only by internal steps, and every truncation of model S, with their answers by hand; and the lines of base.txt with the
-answers that stand there, but for refusals 10 and 23: the program lends buffers that are always long enough.
+that reach a move only by internal steps, models joined at the limits, and every truncation of model S, with their answers by hand; and the
+lines of base.txt and k1.txt with the answers that stand there, but for refusals 10, 23 and 26: the program lends buffers that are always
+long enough.
 """
 import os
 
@@ -13,13 +14,16 @@ HERE = os.path.dirname(os.path.abspath(__file__))
 CRATE = os.path.join(HERE, '..', 'crates', 'cases')
 
 MODEL, CERTIFICATE = 8192, 49152  # of longer files the program would read no more
-JUDGE, REDUCE, FETCH = range(3)
+JUDGE, REDUCE, FETCH, JOIN, ALIKE = range(5)
 ABSENT = 0xFFFFFFFF  # a state that no model has
 
 
-def case(tag, state, m, c):
+def case(tag, numbers, m, c):
     assert len(m) <= MODEL and len(c) <= CERTIFICATE
-    return bytes([tag]) + b''.join(x.to_bytes(4, 'big') for x in (state, len(m), len(c))) + m + c
+    return bytes([tag]) + b''.join(x.to_bytes(4, 'big') for x in (*numbers, len(m), len(c))) + m + c
+
+
+NONE = 0, 0, 0  # a case that needs no numbers
 
 
 def result(answer):
@@ -28,17 +32,28 @@ def result(answer):
 
 def judge(m, c, answer, blocks=()):
     """A case of judging and what is printed for it: number, file and place, and each state with its block."""
-    return case(JUDGE, 0, m, c), result(answer) + ''.join('%d %d\n' % line for line in enumerate(blocks))
+    return case(JUDGE, NONE, m, c), result(answer) + ''.join('%d %d\n' % line for line in enumerate(blocks))
 
 
 def reduce(m, c, answer, merged):
     """The same of reducing: the merged model's bytes come after number, file and place, on acceptance."""
-    return case(REDUCE, 0, m, c), result(answer) + (merged.hex() + '\n' if answer[0] == 0 else '')
+    return case(REDUCE, NONE, m, c), result(answer) + (merged.hex() + '\n' if answer[0] == 0 else '')
 
 
 def fetch(m, state, answer, part):
     """The same of a fetch: the run or the stretch comes after number, file and place, by its length and its bytes."""
-    return case(FETCH, state, m, b''), result(answer) + '%d:%s\n' % (len(part), part.hex())
+    return case(FETCH, (state, 0, 0), m, b''), result(answer) + '%d:%s\n' % (len(part), part.hex())
+
+
+def join(a, b, answer, joined=b''):
+    """The same of joining: the joined model's bytes come after number, file and place, where it answers 0."""
+    assert len(b) <= MODEL
+    return case(JOIN, NONE, a, b), result(answer) + (joined.hex() + '\n' if answer[0] == 0 else '')
+
+
+def alike(m, c, named, answer, yes):
+    """The same of two states compared: yes or no comes after number, file and place."""
+    return case(ALIKE, named, m, c), result(answer) + ('yes\n' if yes else 'no\n')
 
 
 def accepted(m, c, blocks):
@@ -153,6 +168,40 @@ def models_also_run():
     yield unsound(b'P', 1, 0)
 
 
+def joined_at_the_limits():
+    def still(n):
+        return model(n, 1, [0] * n, [])
+
+    def loops(count):
+        return model(1, 1, [0], [(0, 0, 1, [(0, 1)])] * count)
+
+    def wide(transitions, n=32):
+        return model(n, 1, [0] * n, transitions)
+
+    yield join(still(63), still(1), (0, 0, 0), still(64))
+    yield join(still(64), still(1), (25, 0, 0))
+    both = model(2, 1, [0, 0], [(0, 0, 1, [(0, 1)])] * 128 + [(1, 0, 1, [(1, 1)])] * 128)
+    yield join(loops(128), loops(128), (0, 0, 0), both)
+    yield join(loops(128), loops(129), (25, 0, 0))
+    # 16 transitions with 32 entries each are 512 entries
+    full = [(v, 0, 32, [(u, 1) for u in range(32)]) for v in range(16)]
+    raised = [(v + 32, 0, 32, [(u + 32, 1) for u in range(32)]) for v in range(16)]
+    yield join(wide(full), wide(full), (0, 0, 0), wide(full + raised, 64))
+    yield join(wide(full), wide(full + [(16, 0, 1, [(0, 1)])]), (25, 0, 0))
+
+
+def from_requests():
+    for line in open(os.path.join(HERE, 'k1.txt')):
+        call, arguments, files, *numbers, outs = line.split()
+        first, second = (b'' if x == '-' else bytes.fromhex(x) for x in files.split(','))
+        number, file, place, stretch, run, state, remainder, yes = map(int, numbers)
+        answer = number, file, place
+        if call == 'join' and number != 26:
+            yield join(first, second, answer, b'' if outs == '-' else bytes.fromhex(outs))
+        if call == 'alike':
+            yield alike(first, second, tuple(map(int, arguments.split(','))), answer, yes == 1)
+
+
 def from_vectors():
     for line in open(os.path.join(HERE, 'base.txt')):
         call, argument, m, c, *numbers, out = line.split()
@@ -175,7 +224,7 @@ def from_vectors():
 def all_cases():
     """Each case once: where two sources have one case, they must agree."""
     found = {}
-    for source in (proved_cases(), pairs_also_run(), internal_steps(), models_also_run(), truncations(), from_vectors()):
+    for source in (proved_cases(), pairs_also_run(), internal_steps(), models_also_run(), truncations(), from_vectors(), joined_at_the_limits(), from_requests()):
         for data, text in source:
             assert found.setdefault(data, text) == text
     return found

@@ -3,47 +3,7 @@
 #include <stdio.h>
 #include <stdlib.h>
 
-#include <zolkirta.h>
-
-/* Far more bytes than any model has, and more than a certificate is likely to have. */
-#define ROOM ((size_t)16 << 20)
-
-static uint8_t *read_file(const char *path, size_t *length)
-{
-    FILE *file = fopen(path, "rb");
-    uint8_t *bytes = malloc(ROOM);
-    if (!file || !bytes) {
-        perror(path);
-        exit(2);
-    }
-    *length = fread(bytes, 1, ROOM, file);
-    if (ferror(file) || (*length == ROOM && fgetc(file) != EOF)) {
-        fprintf(stderr, "%s: cannot be read, or is longer than %zu bytes\n", path, ROOM);
-        exit(2);
-    }
-    fclose(file);
-    return bytes;
-}
-
-static void write_file(const char *path, const uint8_t *bytes, size_t length)
-{
-    FILE *file = fopen(path, "wb");
-    if (!file || fwrite(bytes, 1, length, file) != length || fclose(file)) {
-        perror(path);
-        exit(2);
-    }
-}
-
-static void print_answer(zolkirta_answer answer)
-{
-    static const char *const files[] = {"no file", "the model", "the certificate", "an unknown file"};
-    if (answer.number == ZOLKIRTA_ACCEPTED)
-        printf("accepted, %zu bytes\n", answer.written);
-    else if (answer.file)
-        printf("refused %u in %s, at byte %zu\n", (unsigned)answer.number, files[answer.file < 3 ? answer.file : 3], answer.place);
-    else
-        printf("refused %u\n", (unsigned)answer.number);
-}
+#include "common.h"
 
 int main(int count, char **names)
 {

@@ -5,51 +5,49 @@ use mathlib.Core.List.{List, _++_}
 use lib.ListN.{length, take, drop}
 use lib.Seq.{take-all}
 use native.Mathlib.Omega.{arith}
-use Rattle.bisimulation.specs.argument.ChoiceLaws.{less, notLess, eitherLess}
+use Rattle.bisimulation.specs.argument.ChoiceLaws.{eitherLess}
 use Rattle.rules.specs.definitions.Model.{Model}
 use Rattle.rules.specs.definitions.Reading.{modelAt}
 use Rattle.rules.specs.definitions.Quotient.{mergedFile}
-use Rattle.rules.specs.definitions.Answers.{Outcome, answerWithoutPlace, unwritten, filled, mergedOutcome, writesBlocks}
+use Rattle.rules.specs.definitions.Answers.{Outcome, answerWithoutPlace, unwritten, filled, fileOutcome, writesBlocks}
+use Rattle.rules.specs.argument.AnswerLaws.{file-short, file-whole}
 use Rattle.merged_model.specs.File.{CanWriteFile, FileWritten}
 use Rattle.answer.specs.declared.Answer.{Answer}
-use Rattle.answer.specs.Answered.{answered}
+use Rattle.answer.specs.Answered.{answered, Gives}
 use Rattle.acceptance.specs.declared.Task.{Task}
 use Rattle.acceptance.specs.declared.Task.the-variants.{Blocks, Merged}
-use Rattle.acceptance.specs.Tasks.{followsOf, Followed}
+use Rattle.acceptance.specs.Tasks.{followsOf}
 
 -- the blocks were copied
-pub copied : (blocks before after : List ℕ) {r : Answer} → after ≡ take (length blocks) blocks ++ drop (length blocks) before → answered r ≡ answerWithoutPlace 0 (length blocks) → Followed (filled blocks before) after r
+pub copied : (blocks before after : List ℕ) {r : Answer} → after ≡ take (length blocks) blocks ++ drop (length blocks) before → answered r ≡ answerWithoutPlace 0 (length blocks) → Gives (filled blocks before) after r
 unfolding filled
 copied blocks before after e f =
     record { answer = f; buffer = e ∙ ap (λ (l : List ℕ). l ++ drop (length blocks) before) (take-all (length blocks) blocks (omega arith)) }
 
 -- the merged file was written, or there was no room for it
 module _ (s blocks before after : List ℕ) {size : ℕ} (w : FileWritten s blocks before after size) where
-  pub merged-short : {r : Answer} → length before < size → answered r ≡ answerWithoutPlace 23 0 → Followed (mergedOutcome (mergedFile (modelAt s) blocks) before) after r
-  unfolding mergedOutcome unwritten
-  merged-short h e =
-      let o : record { answer = answerWithoutPlace 23 0; buffer = before } ≡ mergedOutcome (mergedFile (modelAt s) blocks) before = less _ (omega (arith, h, w .size)) refl in
-      record { answer = e ∙ ap (λ (x : Outcome). x .answer) o; buffer = w .buffer }
+  pub merged-short : {r : Answer} → length before < size → answered r ≡ answerWithoutPlace 23 0 → Gives (fileOutcome 23 (mergedFile (modelAt s) blocks) before) after r
+  unfolding unwritten
+  merged-short h e = record { answer = e ∙ ap (λ (x : Outcome). x .answer) (file-short 23 _ before (omega (arith, h, w .size))); buffer = w .buffer }
 
-  pub merged-whole : {r : Answer} → size ≤ length before → answered r ≡ answerWithoutPlace 0 size → Followed (mergedOutcome (mergedFile (modelAt s) blocks) before) after r
-  unfolding mergedOutcome filled
+  pub merged-whole : {r : Answer} → size ≤ length before → answered r ≡ answerWithoutPlace 0 size → Gives (fileOutcome 23 (mergedFile (modelAt s) blocks) before) after r
+  unfolding filled
   merged-whole h e =
-      let o : filled (mergedFile (modelAt s) blocks) before ≡ mergedOutcome (mergedFile (modelAt s) blocks) before = notLess _ (omega (arith, h, w .size)) refl in
-      record { answer = e ∙ ap (answerWithoutPlace 0) (w .size) ∙ ap (λ (x : Outcome). x .answer) o; buffer = w .buffer }
+      record { answer = e ∙ ap (answerWithoutPlace 0) (w .size) ∙ ap (λ (x : Outcome). x .answer) (file-whole 23 _ before (omega (arith, h, w .size))); buffer = w .buffer }
 
 -- what follows acceptance has no stretch
 pub no-stretch : (task : Task) (N : Model) (blocks before : List ℕ) → (followsOf task .outcome N blocks before .answer .file ≡ 0) × (followsOf task .outcome N blocks before .answer .stretchStart ≡ 0) × (followsOf task .outcome N blocks before .answer .stretchLength ≡ 0)
-unfolding mergedOutcome unwritten filled answerWithoutPlace
+unfolding fileOutcome unwritten filled answerWithoutPlace
 no-stretch Blocks N blocks before = (refl, refl, refl)
 no-stretch Merged N blocks before =
     eitherLess (λ (o : Outcome). (o .answer .file ≡ 0) × (o .answer .stretchStart ≡ 0) × (o .answer .stretchLength ≡ 0)) (length before) (length (mergedFile N blocks)) (refl, refl, refl) (refl, refl, refl)
 
 -- what follows acceptance, by the task
-pub follows-blocks : (task : Task) (N : Model) (blocks before after : List ℕ) (r : Answer) → task ≡ Blocks → Followed (filled blocks before) after r → Followed (followsOf task .outcome N blocks before) after r
-follows-blocks task N blocks before after r e h = subst (λ (t : Task). Followed (followsOf t .outcome N blocks before) after r) (sym e) h
+pub follows-blocks : (task : Task) (N : Model) (blocks before after : List ℕ) (r : Answer) → task ≡ Blocks → Gives (filled blocks before) after r → Gives (followsOf task .outcome N blocks before) after r
+follows-blocks task N blocks before after r e h = subst (λ (t : Task). Gives (followsOf t .outcome N blocks before) after r) (sym e) h
 
-pub follows-merged : (task : Task) (N : Model) (blocks before after : List ℕ) (r : Answer) → task ≡ Merged → Followed (mergedOutcome (mergedFile N blocks) before) after r → Followed (followsOf task .outcome N blocks before) after r
-follows-merged task N blocks before after r e h = subst (λ (t : Task). Followed (followsOf t .outcome N blocks before) after r) (sym e) h
+pub follows-merged : (task : Task) (N : Model) (blocks before after : List ℕ) (r : Answer) → task ≡ Merged → Gives (fileOutcome 23 (mergedFile N blocks) before) after r → Gives (followsOf task .outcome N blocks before) after r
+follows-merged task N blocks before after r e h = subst (λ (t : Task). Gives (followsOf t .outcome N blocks before) after r) (sym e) h
 
 -- a block buffer is as long as there are blocks
 pub blocks-fit : (task : Task) {M table blocks : List ℕ} {n count size : ℕ} → CanWriteFile M n count table blocks → followsOf task .blockRoom (modelAt M) ≤ size → task ≡ Blocks → length blocks ≤ size

@@ -2,10 +2,11 @@
 ghost use Prim.Native.Nat.{_≤_};
 ghost use lib.ListN.{length};
 ghost use Rattle.rules.specs.definitions.Reading.{modelAt};
-ghost use Rattle.rules.specs.definitions.Answers.{filled, mergedOutcome};
+ghost use Rattle.rules.specs.definitions.Answers.{filled, fileOutcome};
 ghost use Rattle.rules.specs.definitions.Quotient.{mergedFile};
 ghost use Rattle.merged_model.specs.File.{CanWriteFile};
-ghost use Rattle.acceptance.specs.Tasks.{followsOf, Followed};
+ghost use Rattle.answer.specs.Answered.{Gives};
+ghost use Rattle.acceptance.specs.Tasks.{followsOf};
 use answer::Answer;
 use model::Places;
 
@@ -20,7 +21,7 @@ pub enum Task {
 // The blocks written into a buffer that has room for them.
 fn write_blocks(blocks: &[u8], out: &mut [u8]) -> Answer
     requires { ⌜ length (now blocks) ≤ length (now out) ⌝ }
-    ensures { λ r. ⌜ Followed (filled (now (blocks .entry)) (now (out .entry))) (now (out .exit)) r ⌝ }
+    ensures { λ r. ⌜ Gives (filled (now (blocks .entry)) (now (out .entry))) (now (out .exit)) r ⌝ }
 {
     bytes::copy(blocks, out);
     answer::without_place(0, blocks.len())
@@ -36,7 +37,7 @@ fn write_merged(
     out: &mut [u8],
 ) -> Answer
     requires { ⌜ CanWriteFile (now model) n count (now places) (now blocks) ⌝ }
-    ensures { λ r. ⌜ Followed (mergedOutcome (mergedFile (modelAt (now (model .entry))) (now (blocks .entry))) (now (out .entry))) (now (out .exit)) r ⌝ }
+    ensures { λ r. ⌜ Gives (fileOutcome 23 (mergedFile (modelAt (now (model .entry))) (now (blocks .entry))) (now (out .entry))) (now (out .exit)) r ⌝ }
 {
     let room = out.len();
     let size = merged_model::write_file(model, n, count, places, blocks, out);
@@ -57,7 +58,7 @@ pub fn follow(
     out: &mut [u8],
 ) -> Answer
     requires { ⌜ CanWriteFile (now model) n count (now places) (now blocks) × (followsOf task .blockRoom (modelAt (now model)) ≤ length (now out)) ⌝ }
-    ensures { λ r. ⌜ Followed (followsOf task .outcome (modelAt (now (model .entry))) (now (blocks .entry)) (now (out .entry))) (now (out .exit)) r ⌝ }
+    ensures { λ r. ⌜ Gives (followsOf task .outcome (modelAt (now (model .entry))) (now (blocks .entry)) (now (out .entry))) (now (out .exit)) r ⌝ }
 {
     match task {
         Task::Blocks => write_blocks(blocks, out),

@@ -24,7 +24,12 @@ pub record StretchInside (files : List (List ℕ)) (r : Answer) : Type 0 where
   pub named : r .file ≤ length files
   pub fits : r .«stretch_start» + r .«stretch_length» ≤ length (fileOf files (r .file))
 
--- a call's answer and the lent buffer afterwards are those of an outcome of document 01
+-- an answer and the lent buffer afterwards are those of an outcome
+pub record Gives (o : Outcome) (after : List ℕ) (r : Answer) : Type 0 where
+  pub answer : answered r ≡ o .answer
+  pub buffer : after ≡ o .buffer
+
+-- the same of a call that was given these files: its stretch lies in the one that it names
 pub record OutcomeIs (o : Outcome) (files : List (List ℕ)) (after : List ℕ) (r : Answer) : Type 0 where
   pub answer : answered r ≡ o .answer
   pub buffer : after ≡ o .buffer

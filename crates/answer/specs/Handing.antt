@@ -3,7 +3,7 @@ use Prim.Native.Nat.{ℕ, _+_, _-_}
 use mathlib.Core.Path.{_≡_}
 use mathlib.Core.List.{List}
 use lib.ListN.{getD}
-use Rattle.rules.specs.definitions.Answers.{stretchOf}
+use Rattle.rules.specs.definitions.Answers.{Outcome, stretchOf}
 use Rattle.answer.specs.declared.Answer.{Answer}
 use Rattle.answer.specs.Answered.{answered}
 
@@ -22,3 +22,14 @@ pub record HandsBack (files : List (List ℕ)) (slices : List (ℕ × ℕ)) (r :
   pub placed : place ≡ r .place
   pub handed : part ≡ stretchOf files (answered r)
   pub lies : lying ≡ partFrom (sliceOf slices (r .file)) (r .«stretch_start»)
+
+-- an outcome of a call that was given these files, which lie in these slices: its numbers stand beside its stretch, a part of the file that
+-- it names, and the lent buffer is as it says
+pub record Handed (o : Outcome) (files : List (List ℕ)) (slices : List (ℕ × ℕ)) (after : List ℕ) (number file place written : ℕ) (part : List ℕ) (lying : ℕ × ℕ) : Type 0 where
+  pub numbered : number ≡ o .answer .number
+  pub filed : file ≡ o .answer .file
+  pub placed : place ≡ o .answer .place
+  pub wrote : written ≡ o .answer .written
+  pub handed : part ≡ stretchOf files (o .answer)
+  pub lies : lying ≡ partFrom (sliceOf slices (o .answer .file)) (o .answer .stretchStart)
+  pub buffer : after ≡ o .buffer

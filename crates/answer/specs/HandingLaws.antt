@@ -6,10 +6,11 @@ use lib.ListN.{length, take, drop, getD}
 use native.Mathlib.Nat.{add-sub-cancel-left}
 use native.Mathlib.Decide.{decLe}
 use native.Mathlib.Omega.{arith}
-use Rattle.rules.specs.definitions.Answers.{fileOf, stretchIn, stretchOf}
+use Rattle.rules.specs.definitions.Answers as rules
+use Rattle.rules.specs.definitions.Answers.{Outcome, fileOf, stretchIn, stretchOf}
 use Rattle.answer.specs.declared.Answer.{Answer}
-use Rattle.answer.specs.Answered.{answered, StretchInside}
-use Rattle.answer.specs.Handing.{partFrom, sliceOf, HandsBack}
+use Rattle.answer.specs.Answered.{answered, StretchInside, OutcomeIs}
+use Rattle.answer.specs.Handing.{partFrom, sliceOf, HandsBack, Handed}
 
 -- the file of an answer, of three, and of their slices
 module _ {X : Type 0} (a b c d : X) (k : ℕ) where
@@ -81,3 +82,18 @@ module _ (a b c : List ℕ) (x y z : ℕ × ℕ) (r : Answer) where
   pub from-first : r .file ≤ 1 → HandsPart a x
   unfolding fileOf
   from-first h = from-file _ _ r a x (first-of a b c [] (r .file) h) (first-of x y z (0, 0) (r .file) h)
+
+-- an outcome whose answer was handed back from these files, among which are the call's own
+pub handed-back : {o : Outcome} {files : List (List ℕ)} {slices : List (ℕ × ℕ)} {after : List ℕ} {r : Answer} {number file place written : ℕ} {part : List ℕ} {lying : ℕ × ℕ} (all : List (List ℕ)) (places : List (ℕ × ℕ)) → OutcomeIs o files after r → HandsBack all places r number file place part lying → written ≡ r .written → fileOf all (r .file) ≡ fileOf files (r .file) → sliceOf places (r .file) ≡ sliceOf slices (r .file) → Handed o files slices after number file place written part lying
+unfolding stretchOf
+handed-back {files = files} {slices} {r = r} all places is h w e f =
+    let a = is .answer in
+    record {
+      numbered = h .numbered ∙ ap (λ (x : rules.Answer). x .number) a;
+      filed = h .filed ∙ ap (λ (x : rules.Answer). x .file) a;
+      placed = h .placed ∙ ap (λ (x : rules.Answer). x .place) a;
+      wrote = w ∙ ap (λ (x : rules.Answer). x .written) a;
+      handed = h .handed ∙ ap (λ (l : List ℕ). stretchIn l (answered r)) e ∙ ap (stretchOf files) a;
+      lies = h .lies ∙ ap (λ (p : ℕ × ℕ). partFrom p (r .«stretch_start»)) f ∙ ap (λ (x : rules.Answer). partFrom (sliceOf slices (x .file)) (x .stretchStart)) a;
+      buffer = is .buffer;
+    }

@@ -9,7 +9,7 @@ ghost use Rattle.answer.specs.Answered.{answered, StretchInside};
 ghost use Rattle.answer.specs.Handing.{HandsBack};
 use fault::Fault;
 
-// What a call answers: document 01's number, file (1 model, 2 certificate) and place; where the stretch, or the run of a
+// What a call answers: the papers' number, file (1 model, 2 certificate, 3 second model) and place; where the stretch, or the run of a
 // fetch, starts in its file and how long it is; and how many bytes were written into the lent buffer.
 #[repr(C)]
 pub struct Answer {

@@ -1,9 +1,9 @@
-// Sends every case of data/cases through the judging program, the reducing program or a fetch, and prints the answers. A case is a tag of
-// one byte, the state to fetch, and the lengths of the model and of the certificate, in four bytes each, most significant first, and then
-// the two files. A case keeps no merged.bin: the next one would write over it.
+// Sends every case of data/cases through one of the programs or a fetch, and prints the answers. A case is a tag of one byte, three numbers
+// (the state to fetch; or the first's count and the two states) and the lengths of the two files, in four bytes each, most significant first,
+// and then the files. A case keeps no merged.bin and no joined.bin: the next one would write over it.
 use field::Cursor;
 
-const HEAD: usize = 13;
+const HEAD: usize = 21;
 
 const JUDGE: usize = 0;
 
@@ -11,7 +11,11 @@ const REDUCE: usize = 1;
 
 const FETCH: usize = 2;
 
-// Answers the next case, and whether there was one. A tag that is none of the three ends the cases.
+const JOIN: usize = 3;
+
+const ALIKE: usize = 4;
+
+// Answers the next case, and whether there was one. A tag that is none of these ends the cases.
 fn one_case(fd: i32) -> bool {
     let mut head = [0u8; HEAD];
     let got = io::read_full(fd, &mut head);
@@ -19,14 +23,26 @@ fn one_case(fd: i32) -> bool {
         return false;
     }
     let tag = Cursor::new(0).byte(&head);
-    let state = tag.next.quad(&head);
-    let model = state.next.quad(&head);
+    let number = tag.next.quad(&head);
+    let first = number.next.quad(&head);
+    let second = first.next.quad(&head);
+    let model = second.next.quad(&head);
     let certificate = model.next.quad(&head);
     let kind = tag.value;
     match kind {
         JUDGE => programs::judge_streams(fd, model.value, fd, certificate.value),
         REDUCE => programs::reduce_streams(fd, model.value, fd, certificate.value),
-        FETCH => programs::fetch_stream(fd, model.value, state.value as u32),
+        FETCH => programs::fetch_stream(fd, model.value, number.value as u32),
+        JOIN => programs::join_streams(fd, model.value, fd, certificate.value),
+        ALIKE => programs::alike_streams(
+            fd,
+            model.value,
+            fd,
+            certificate.value,
+            number.value as u32,
+            first.value as u32,
+            second.value as u32,
+        ),
         _ => return false,
     }
     true

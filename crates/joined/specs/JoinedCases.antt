@@ -27,5 +27,5 @@ secondModel =
 
 -- four states, m 3, the second's source and targets raised by 2; and the other way round
 pub joined-cases : (joinedFile firstModel secondModel ≡ 0x50 ∷ 0x41 ∷ 4 ∷ 3 ∷ 0 ∷ 2 ∷ 0x4C ∷ 0x42 ∷ 5 ∷ 6 ∷ 7 ∷ 5 ∷ 0x54 ∷ 0x52 ∷ 1 ∷ 0 ∷ 0 ∷ 2 ∷ 1 ∷ 0 ∷ 0 ∷ 2 ∷ 0x54 ∷ 0x52 ∷ 2 ∷ 2 ∷ 0 ∷ 4 ∷ 2 ∷ 2 ∷ 0 ∷ 1 ∷ 3 ∷ 0 ∷ 3 ∷ []) × (joinedFile secondModel firstModel ≡ 0x50 ∷ 0x41 ∷ 4 ∷ 3 ∷ 0 ∷ 2 ∷ 0x4C ∷ 0x42 ∷ 7 ∷ 5 ∷ 5 ∷ 6 ∷ 0x54 ∷ 0x52 ∷ 0 ∷ 2 ∷ 0 ∷ 4 ∷ 2 ∷ 0 ∷ 0 ∷ 1 ∷ 1 ∷ 0 ∷ 3 ∷ 0x54 ∷ 0x52 ∷ 3 ∷ 0 ∷ 0 ∷ 2 ∷ 1 ∷ 2 ∷ 0 ∷ 2 ∷ [])
-unfolding ifLess twoBytes headBytes labelsBytes entriesBytes transitionBytes transitionsBytes modelBytes raisedEntry raisedTransition larger joined joinedFile firstModel secondModel
+unfolding ifLess twoBytes headBytes labelsBytes entriesBytes transitionBytes transitionsBytes modelBytes raisedEntry raisedTransition larger joined firstModel secondModel
 joined-cases = (refl, refl)

@@ -1,5 +1,5 @@
 -- The joined model of two sound models is sound within the limits, its file reads back as it, and its automaton is the joined one.
-use Prim.Native.Nat.{ℕ, zero, suc, _+_, _≤_, _<_}
+use Prim.Native.Nat.{ℕ, zero, suc, _+_, _*_, _≤_, _<_}
 use mathlib.Core.Path.{_≡_, refl, sym, _∙_, ap}
 use mathlib.Core.List.{List, [], _∷_, _++_, map}
 use lib.ListN.{length, getD, length-append, length-map}
@@ -8,11 +8,12 @@ use native.Mathlib.Omega.{arith}
 use Rattle.bisimulation.specs.definitions.Choice.{ifLess, ifSame}
 use Rattle.bisimulation.specs.argument.ChoiceLaws.{same, notSame, eitherLess, less, notLess}
 use Rattle.rules.specs.definitions.Limits.{Limits}
-use Rattle.rules.specs.definitions.Model.{Entry, Transition, Model, noTransition, weightOf, automatonOf}
+use Rattle.rules.specs.definitions.Bytes.{twoBytes}
+use Rattle.rules.specs.definitions.Model.{Entry, Transition, Model, noTransition, weightOf, automatonOf, headBytes, labelsBytes, transitionBytes, transitionsBytes, modelBytes}
 use Rattle.rules.specs.definitions.Reading.{model, readWhole}
-use Rattle.rules.specs.definitions.SoundModel.{Each, Along, sumOver, TransitionRules, SoundModel, FitsWidths}
+use Rattle.rules.specs.definitions.SoundModel.{Each, Along, sumOver, TransitionRules, entryCount, SoundModel, FitsWidths}
 use Rattle.rules.specs.argument.SoundModelLaws.{each-at, each-append, each-map}
-use Rattle.rules.specs.argument.ReadBack.{read-back-whole}
+use Rattle.rules.specs.argument.ReadBack.{transitionBytes-length, read-back-whole}
 use Rattle.joined.specs.Joined.{raisedEntry, raisedTransition, larger, joined, joinedFile, IsJoined}
 
 -- the larger of two is at least each, and one of them
@@ -154,61 +155,97 @@ grown-rules n n′ m m′ le lm t r =
       whole = r .whole;
     }
 
-module _ (L : Limits) (M N : Model) (first : SoundModel L M) (second : SoundModel L N) where
-  -- 25 does not refuse: states, transitions and entries of the joined model are within the limits
-  pub record Within : Type 0 where
-    pub states : length (M .labels) + length (N .labels) ≤ L .states
-    pub transitions : length (M .transitions) + length (N .transitions) ≤ L .transitions
-    pub entries : sumOver (λ (t : Transition). length (t .entries)) (M .transitions) + sumOver (λ (t : Transition). length (t .entries)) (N .transitions) ≤ L .entries
+-- 25 does not refuse: states, transitions and entries of a model are within the limits
+pub record Within (L : Limits) (J : Model) : Type 0 where
+  pub states : length (J .labels) ≤ L .states
+  pub transitions : length (J .transitions) ≤ L .transitions
+  pub entries : entryCount J ≤ L .entries
 
+-- how many states, transitions and entries the joined model has, and how long its file is
+module _ (M N : Model) where
   abbrev k : ℕ
   k = length (M .labels)
 
-  pub joined-sound : Within → SoundModel L (joined M N)
+  pub joined-states : length (joined M N .labels) ≡ length (M .labels) + length (N .labels)
+  unfolding joined
+  joined-states = length-append (M .labels) (N .labels)
+
+  pub joined-transitions : length (joined M N .transitions) ≡ length (M .transitions) + length (N .transitions)
+  unfolding joined
+  joined-transitions = length-append (M .transitions) _ ∙ ap (λ (x : ℕ). length (M .transitions) + x) (length-map (N .transitions) (raisedTransition k))
+
+  pub joined-entries : entryCount (joined M N) ≡ entryCount M + entryCount N
+  unfolding joined
+  joined-entries = omega (arith, sum-append (λ (t : Transition). length (t .entries)) (M .transitions) (map (raisedTransition k) (N .transitions)), raised-entries k (N .transitions))
+
+-- the bytes of transitions: 7 for each, and 3 for each entry
+records-length : (ts : List Transition) → length (transitionsBytes ts) ≡ 7 * length ts + 3 * sumOver (λ (t : Transition). length (t .entries)) ts
+unfolding transitionsBytes sumOver
+records-length [] = refl
+records-length (t ∷ ts) = omega (arith, length-append (transitionBytes t) (transitionsBytes ts), transitionBytes-length t, records-length ts)
+
+pub file-length : (M : Model) → length (modelBytes M) ≡ 8 + length (M .labels) + 7 * length (M .transitions) + 3 * entryCount M
+unfolding modelBytes headBytes labelsBytes twoBytes
+file-length M = omega (arith, length-append (M .labels) (transitionsBytes (M .transitions)), records-length (M .transitions))
+
+pub joined-length : (M N : Model) → length (joinedFile M N) + 8 ≡ length (modelBytes M) + length (modelBytes N)
+joined-length M N = omega (arith, file-length (joined M N), file-length M, file-length N, joined-states M N, joined-transitions M N, joined-entries M N)
+
+module _ (L : Limits) (M N : Model) (first : SoundModel L M) (second : SoundModel L N) where
+  pub joined-sound : Within L (joined M N) → SoundModel L (joined M N)
   unfolding joined
   joined-sound w =
       let size = length-append (M .labels) (N .labels) in
-      let count = length-append (M .transitions) (map (raisedTransition k) (N .transitions)) in
-      let raised = length-map (N .transitions) (raisedTransition k) in
       record {
         someState = omega (arith, size, first .someState);
-        states = omega (arith, size, w .states);
+        states = w .states;
         someAction = omega (arith, larger-first (M .actions) (N .actions), first .someAction);
         actions = larger-most (M .actions) (N .actions) (L .actions) (first .actions) (second .actions);
-        count = omega (arith, count, raised, w .transitions);
+        count = w .transitions;
         labels = each-append _ (M .labels) (N .labels) (first .labels) (second .labels);
         transitions =
             each-append _ (M .transitions) _
             (each-map _ _ (λ t r. grown-rules _ _ _ _ (omega (arith, size)) (larger-first (M .actions) (N .actions)) t r) (M .transitions) (first .transitions))
-            (rw size (raised-all k (length (N .labels)) (N .actions) _ (larger-second (M .actions) (N .actions)) (N .transitions) (second .transitions)));
+            (rw size (raised-all (k M N) (length (N .labels)) (N .actions) _ (larger-second (M .actions) (N .actions)) (N .transitions) (second .transitions)));
         sources =
-            sources-follow k (M .transitions) (N .transitions) (first .sources)
-            (each-map (TransitionRules k (M .actions)) (λ (t : Transition). t .source < k) (λ t r. r .source) (M .transitions) (first .transitions)) (second .sources);
-        entries = omega (arith, sum-append (λ (t : Transition). length (t .entries)) (M .transitions) (map (raisedTransition k) (N .transitions)), raised-entries k (N .transitions), w .entries);
+            sources-follow (k M N) (M .transitions) (N .transitions) (first .sources)
+            (each-map (TransitionRules (k M N) (M .actions)) (λ (t : Transition). t .source < k M N) (λ t r. r .source) (M .transitions) (first .transitions)) (second .sources);
+        entries = w .entries;
       }
 
+  -- a sound model is within the limits
+  pub sound-within : SoundModel L (joined M N) → Within L (joined M N)
+  sound-within s = record { states = s .states; transitions = s .count; entries = s .entries }
+
   -- its file reads back as it
-  pub joined-reads : FitsWidths L → Within → readWhole L (joinedFile M N) ≡ model (joined M N) (length (joinedFile M N))
-  unfolding joinedFile
+  pub joined-reads : FitsWidths L → Within L (joined M N) → readWhole L (joinedFile M N) ≡ model (joined M N) (length (joinedFile M N))
   joined-reads widths w = read-back-whole L (joined M N) widths (joined-sound w)
 
--- its automaton, of models of any size
-pub joined-automaton : (M N : Model) → IsJoined (automatonOf M) (automatonOf N) (automatonOf (joined M N))
+-- entries lead to no state beyond theirs
+none-beyond : (n v : ℕ) → n ≤ v → (es : List Entry) → Each (λ (e : Entry). e .state < n) es → weightOf es v ≡ 0
+unfolding weightOf Each
+none-beyond n v h [] below = refl
+none-beyond n v h (e ∷ es) below = sym (notSame _ (omega (arith, below .0)) (sym (none-beyond n v h es (below .1))))
+
+-- its automaton, of models of any size whose transitions keep the rules
+pub joined-automaton : (M N : Model) → Each (TransitionRules (length (M .labels)) (M .actions)) (M .transitions) → IsJoined (automatonOf M) (automatonOf N) (automatonOf (joined M N))
 unfolding joined automatonOf
-joined-automaton M N =
+joined-automaton M N rules =
     record {
-      states = length-append (M .labels) (N .labels);
-      transitions = length-append (M .transitions) _ ∙ ap (λ (x : ℕ). length (M .transitions) + x) (length-map (N .transitions) (raisedTransition k));
+      states = joined-states M N;
+      transitions = joined-transitions M N;
+      actions = refl;
       firstLabel = λ v h. get-first (M .labels) (N .labels) 0 v h;
       firstSource = λ q h. ap (λ (t : Transition). t .source) (in-first q h);
       firstAction = λ q h. ap (λ (t : Transition). t .action) (in-first q h);
       firstDenominator = λ q h. ap (λ (t : Transition). t .denominator) (in-first q h);
-      firstWeight = λ q v h. ap (λ (t : Transition). weightOf (t .entries) v) (in-first q h);
-      secondLabel = λ v. get-second (M .labels) (N .labels) 0 v;
+      firstWeight = λ q v h l. ap (λ (t : Transition). weightOf (t .entries) v) (in-first q h);
+      secondLabel = λ v h. get-second (M .labels) (N .labels) 0 v;
       secondSource = λ q h. ap (λ (t : Transition). t .source) (in-second q h) ∙ source q;
       secondAction = λ q h. ap (λ (t : Transition). t .action) (in-second q h) ∙ action q;
       secondDenominator = λ q h. ap (λ (t : Transition). t .denominator) (in-second q h) ∙ denominator q;
-      secondWeight = λ q v h. ap (λ (t : Transition). weightOf (t .entries) (k + v)) (in-second q h) ∙ weight q v;
+      secondWeight = λ q v h l. ap (λ (t : Transition). weightOf (t .entries) (k + v)) (in-second q h) ∙ weight q v;
+      firstOnly = λ q v h l. ap (λ (t : Transition). weightOf (t .entries) v) (in-first q h) ∙ none-beyond k v l _ (each-at _ (M .transitions) q noTransition rules h .states);
       secondOnly = λ q v h l. ap (λ (t : Transition). weightOf (t .entries) v) (in-second q h) ∙ only q v l;
     }
   where

@@ -1,29 +1,22 @@
 -- What the cases of a verdict come to, as document 01's outcome.
-use Prim.Native.Nat.{ℕ, _-_, _≤_, _<_}
-use mathlib.Core.Path.{_≡_, refl, sym, _∙_, ap, ap₂, subst}
-use mathlib.Core.Logic.{_↔_}
+use Prim.Native.Nat.{ℕ, _≤_, _<_}
+use mathlib.Core.Path.{_≡_, sym, _∙_, ap, subst}
 use mathlib.Core.List.{List, [], _∷_}
 use lib.ListN.{length, take, drop}
 use native.Mathlib.Omega.{arith}
 use native.Mathlib.Decide.{decLt}
 use Rattle.rules.specs.definitions.Limits.{limits}
-use Rattle.rules.specs.definitions.Model.{Model, automatonOf}
-use Rattle.rules.specs.definitions.Reading.{Reading, modelAt, headFault, refused, scanWhole, readingOf, readWhole, noModel}
-use Rattle.rules.specs.argument.ReadingLaws.{Tells, whole-tells, head-stops}
-use Rattle.rules.specs.definitions.SoundModel.{Bytes}
-use Rattle.rules.specs.definitions.Judging.{Judgement, accepted, judgeCertificate, judgeReading, judge}
+use Rattle.rules.specs.definitions.Model.{automatonOf}
+use Rattle.rules.specs.definitions.Reading.{Reading, modelAt, readWhole, noModel}
+use Rattle.rules.specs.definitions.Judging.{judgeCertificate, judgeReading, judge}
 use Rattle.rules.specs.definitions.Answers.{Outcome, refusalIn, answerWithoutPlace, fileOf, unwritten, Follows}
-use Rattle.rules.specs.definitions.Demands.{outcomeBy}
 use Rattle.rules.specs.argument.PlainRules.{plainCertificates}
 use Rattle.rules.specs.argument.PairOutcome.{outcome-refused, outcome-short, outcome-rejected, outcome-accepted}
-use Rattle.fault.specs.Faults.{faultOf, Placed}
+use Rattle.fault.specs.Faults.{faultOf}
 use Rattle.fault.specs.declared.Fault.{Fault}
 use Rattle.transition.specs.Known.{automatonIn, Known}
+use Rattle.transition.specs.ModelRead.{ReadsModel}
 use Rattle.transition.specs.KnownLaws.{known, known-states, few-states}
-use Rattle.model.specs.Scanned.{Scans}
-use Rattle.model.specs.declared.Model.{Model as Found}
-use Rattle.model.specs.declared.Scanned.{Scanned}
-use Rattle.model.specs.declared.Scanned.the-variants.{Sound, Refused}
 use Rattle.flows.specs.FlowsJudged.{Judges}
 use Rattle.flows.specs.declared.Judged.{Judged}
 use Rattle.flows.specs.declared.Judged.the-variants.{Accepted, Rejected}
@@ -32,7 +25,7 @@ use Rattle.answer.specs.Answered.{answered}
 use Rattle.answer.specs.AnsweredLaws.{without-stretch, with-stretch}
 use Rattle.judgement.specs.declared.Verdict.{Verdict}
 use Rattle.judgement.specs.declared.Verdict.the-variants as verdicts
-use Rattle.judgement.specs.Verdicts.{ReadsModel, AcceptedAt, RoomFor, RefusedAs, VerdictSays, judgesOnly, VerdictIs}
+use Rattle.judgement.specs.Verdicts.{AcceptedAt, RoomFor, RefusedAs, VerdictSays, judgesOnly, VerdictIs}
 
 -- a verdict that refuses: whatever follows acceptance, and so where nothing does
 refuses-only : {M C table : List ℕ} {room : ℕ} {r : Answer} → RefusedAs M C room r → VerdictIs M C table room (verdicts.Refused r)
@@ -46,7 +39,7 @@ refuses-only {M} {C} {room = room} {r} a =
 pub refused-as : (M C : List ℕ) {table : List ℕ} (room : ℕ) (f : Fault) {r : Answer} → readWhole limits M ≡ noModel (faultOf f) (f .place) → f .place ≤ length M → answered r ≡ refusalIn (faultOf f) 1 (f .place) (length M) → VerdictIs M C table room (verdicts.Refused r)
 unfolding fileOf
 refused-as M C room f q h e =
-    refuses-only (record { refuses = λ follows before fit. with-stretch M C before (faultOf f) 1 (f .place) e (outcome-refused _ _ _ follows M C before (faultOf f) (f .place) q) (omega arith) h })
+    refuses-only (record { refuses = λ follows before fit. with-stretch (M ∷ C ∷ []) before (faultOf f) 1 (f .place) e (outcome-refused _ _ _ follows M C before (faultOf f) (f .place) q) (omega arith) h })
 
 pub labels-are : {M table : List ℕ} {n count : ℕ} → Known M n count table → length (modelAt M .labels) ≡ n
 unfolding automatonOf
@@ -62,7 +55,7 @@ short-as M C room k m h e =
     refuses-only
     (record {
       refuses = λ follows before fit.
-          without-stretch M C before 10 0 e (outcome-short _ _ _ follows M C before (m .reads) (fit (modelAt M) (labels-few k) .1 (omega (arith, labels-are k, h))));
+          without-stretch (M ∷ C ∷ []) before 10 0 e (outcome-short _ _ _ follows M C before (m .reads) (fit (modelAt M) (labels-few k) .1 (omega (arith, labels-are k, h))));
     })
 
 -- what a judge's answer is for a sound model
@@ -85,7 +78,7 @@ rejected-as M C room {n = n} f k m e g h a =
     refuses-only
     (record {
       refuses = λ follows before fit.
-          with-stretch M C before (faultOf f) 2 (f .place) a
+          with-stretch (M ∷ C ∷ []) before (faultOf f) 2 (f .place) a
           (outcome-rejected _ _ _ follows M C before (m .reads) (faultOf f) (f .place) (enough follows before k fit h) (told .answer)) (omega arith) (told .inside);
     })
 
@@ -117,27 +110,3 @@ module _ {M C table : List ℕ} {room : ℕ} {r : Verdict} (v : VerdictIs M C ta
 
   pub found-refused : {a : Answer} → r ≡ verdicts.Refused a → RefusedAs M C room a
   found-refused e = subst (VerdictSays M C table room) e (v .says)
-
--- a model refused: document 01's reading, at a place of the file
-scan-told : (s : List ℕ) (f : Fault) → refused (faultOf f) (f .place) ≡ scanWhole limits s → (readWhole limits s ≡ noModel (faultOf f) (f .place)) × (f .place ≤ length s)
-unfolding readWhole readingOf
-scan-told s f e =
-    let placed = subst (Tells limits s) (sym e) (whole-tells limits s) in
-    (ap (readingOf s) (sym e), placed .inside)
-
--- what the reader's answer tells of the model
-module _ (s : List ℕ) {table : List ℕ} {r : Scanned} (g : Scans s (scanWhole limits s) r table) where
-  pub sound-known : {m : Found} → r ≡ Sound m → Bytes s → Known s (m .states) (m .transitions) table × ReadsModel s
-  unfolding readWhole readingOf
-  sound-known {m} e b =
-      let told = subst (λ (x : Scanned). Scans s (scanWhole limits s) x table) e g in (
-        known s (m .states) (m .actions) (m .transitions) (m .end) table b (told .answer) (told .places) (told .size),
-        record { end = m .end; reads = ap (readingOf s) (sym (told .answer)) },
-      )
-
-  pub refused-told : (f : Fault) → r ≡ Refused f → (readWhole limits s ≡ noModel (faultOf f) (f .place)) × (f .place ≤ length s)
-  refused-told f e = scan-told s f (subst (λ (x : Scanned). Scans s (scanWhole limits s) x table) e g .answer)
-
--- and what the fault of the head tells
-pub head-told : (s : List ℕ) (f : Fault) → Placed (headFault limits s) 0 f → (f .number ≡ 0 → ⊥) → (readWhole limits s ≡ noModel (faultOf f) (f .place)) × (f .place ≤ length s)
-head-told s f p n = scan-told s f (ap (refused (faultOf f)) (p .at) ∙ head-stops limits s (p .is) n)

@@ -7,22 +7,18 @@ use lib.ListN.{length, take, drop}
 use Rattle.rules.specs.definitions.Limits.{limits}
 use Rattle.rules.specs.definitions.JudgedBy.{plainPairs}
 use Rattle.rules.specs.definitions.Model.{Model}
-use Rattle.rules.specs.definitions.Reading.{modelAt, readWhole, model}
+use Rattle.rules.specs.definitions.Reading.{readWhole, model}
 use Rattle.rules.specs.definitions.Judging.{accepted, judge}
 use Rattle.rules.specs.definitions.Answers as rules
 use Rattle.rules.specs.definitions.Answers.{answerWithoutPlace, unwritten, Follows}
 use Rattle.rules.specs.definitions.Demands.{outcomeBy}
 use Rattle.rules.specs.definitions.PlainRule.{plainRule}
 use Rattle.transition.specs.Known.{Known}
+use Rattle.transition.specs.ModelRead.{ReadsModel}
 use Rattle.answer.specs.declared.Answer.{Answer}
 use Rattle.judgement.specs.declared.Verdict.{Verdict}
 use Rattle.judgement.specs.declared.Verdict.the-variants.{Accepted, Refused}
 use Rattle.answer.specs.Answered.{answered, OutcomeIs}
-
--- the model file is read as sound
-pub record ReadsModel (s : List ℕ) : Type 0 where
-  pub end : ℕ
-  pub reads : readWhole limits s ≡ model (modelAt s) end
 
 -- an accepted certificate: the blocks are the n bytes at a place of it, and there is room for them
 pub record AcceptedAt (M C table : List ℕ) (room n count at : ℕ) : Type 0 where

@@ -9,7 +9,7 @@ use Rattle.rules.specs.definitions.Reading.{statesOf, modelAt}
 use Rattle.rules.specs.definitions.SoundModel.{SoundModel}
 use Rattle.rules.specs.definitions.Quotient.{blockCount, byBlock, mergedFile}
 use Rattle.rules.specs.argument.QuotientLaws.{NumberedBlocks}
-use Rattle.rules.specs.definitions.Answers.{mergedOutcome}
+use Rattle.rules.specs.definitions.Answers.{fileOutcome}
 use Rattle.transition.specs.Known.{Known}
 use Rattle.merged_transitions.specs.declared.Kept.{Kept}
 use Rattle.merged_transitions.specs.MergedTransitions.{transitionsIn, Holds}
@@ -37,4 +37,4 @@ pub record PartsWritten (s blocks before after : List ℕ) : Type 0 where
 -- the buffer as document 01 leaves it
 pub record FileWritten (s blocks before after : List ℕ) (written : ℕ) : Type 0 where
   pub size : written ≡ length (mergedFile (modelAt s) blocks)
-  pub buffer : after ≡ mergedOutcome (mergedFile (modelAt s) blocks) before .buffer
+  pub buffer : after ≡ fileOutcome 23 (mergedFile (modelAt s) blocks) before .buffer

@@ -15,7 +15,7 @@ use Rattle.rules.specs.definitions.Reading.{statesOf, actionsOf, modelAt}
 use Rattle.rules.specs.definitions.SoundModel.{SoundModel}
 use Rattle.rules.specs.definitions.Quotient.{blockCount, blockLabels, byBlock, quotient, mergedFile}
 use Rattle.rules.specs.argument.QuotientLaws.{NumberedBlocks, quotient-sound, merged-states, merged-below}
-use Rattle.rules.specs.definitions.Answers.{Outcome, unwritten, filled, mergedOutcome}
+use Rattle.rules.specs.definitions.Answers.{Outcome, unwritten, filled, fileOutcome}
 use Rattle.limits.specs.Sizes as sizes
 use Rattle.model_head.specs.declared.Head.{Head}
 use Rattle.model_head.specs.Head.{HeadAt}
@@ -140,7 +140,7 @@ module _ {s : List ℕ} {n count : ℕ} {places blocks : List ℕ} {k : ℕ} (p 
 
     -- with room for it, and without
     pub file-written : {before after : List ℕ} {size : ℕ} → size ≡ 8 + k + kept .size → size ≤ length before → PartsWritten s blocks before after → FileWritten s blocks before after size
-    unfolding mergedOutcome filled
+    unfolding fileOutcome filled
     file-written {before} e h q =
         record {
           size = omega (arith, e, size-is);
@@ -148,6 +148,6 @@ module _ {s : List ℕ} {n count : ℕ} {places blocks : List ℕ} {k : ℕ} (p 
         }
 
     pub file-short : {before : List ℕ} {size : ℕ} → size ≡ 8 + k + kept .size → length before < size → FileWritten s blocks before before size
-    unfolding mergedOutcome unwritten
+    unfolding fileOutcome unwritten
     file-short {before} e h =
         record { size = omega (arith, e, size-is); buffer = ap (λ (o : Outcome). o .buffer) (less _ (omega (arith, e, h, size-is)) refl) }

@@ -7,41 +7,21 @@ use lib.Dec.{ltb}
 use lib.ListN.{length, getD}
 use borrow.Author.Tests.{ltb-true, ltb-false}
 use native.Mathlib.Omega.{arith}
-use Rattle.bisimulation.specs.definitions.Automaton.{SoundAutomaton}
 use Rattle.rules.specs.definitions.Bytes.{twoBytes}
 use Rattle.rules.specs.definitions.Limits.{limits}
-use Rattle.rules.specs.definitions.Model.{Entry, Transition, entriesBytes, transitionBytes, automatonOf}
+use Rattle.rules.specs.definitions.Model.{entriesBytes, transitionBytes}
 use Rattle.rules.specs.argument.ReadBack.{entriesBytes-length}
-use Rattle.rules.specs.definitions.Reading.{statesOf, countOf, entryCountAt, transitionAt, modelAt, placeOf}
+use Rattle.rules.specs.definitions.Reading.{statesOf, countOf, entryCountAt, transitionAt, placeOf}
 use Rattle.rules.specs.definitions.Quotient.{weightToBlock, blockEntries, mergedTransition, blockCount}
 use Rattle.rules.specs.argument.ModelAutomaton.{automaton-source, automaton-action, automaton-denominator}
-use Rattle.rules.specs.argument.SoundModelLaws.{sound-automaton}
 use Rattle.transition_record.specs.declared.Fields.{Fields}
-use Rattle.transition.specs.Known.{KnownTransition, FieldsOf, entriesOf}
-use Rattle.transition.specs.KnownLaws.{known-transitions, entries-known}
+use Rattle.transition.specs.Known.{FieldsOf, entriesOf}
+use Rattle.transition.specs.KnownLaws.{entries-known}
 use Rattle.writer.specs.Appends.{Appends, fixedBytes}
-use Rattle.writer.specs.AppendsLaws.{append-more}
+use Rattle.writer.specs.AppendsLaws.{append-more, record-bytes}
 use Rattle.merged_transition.specs.MergedTransition.{CanMerge, Merged}
 use Rattle.merged_transition.specs.Weights.{weightIn, weightEntries, CanAdd, WeightsOf, CanCount, CanWriteEntries, WroteEntries}
 use Rattle.merged_transition.specs.WeightsLaws.{weight-light, weight-past, entries-same, entries-merged, entries-few, entries-shorter}
-
--- the fixed fields and then the entries are the record
-record-bytes : {source action denominator count : ℕ} {es : List Entry} (t : Transition) → source ≡ t .source → action ≡ t .action → denominator ≡ t .denominator → count ≡ length es → es ≡ t .entries → fixedBytes source action denominator count ++ entriesBytes es ≡ transitionBytes t
-unfolding transitionBytes twoBytes
-record-bytes {source} {action} {denominator} {count} {es} t from by over many e =
-    let all = many ∙ ap length e in
-    λ i. fixedBytes (from i) (by i) (over i) (all i) ++ entriesBytes (e i)
-
--- an action fits its field
-pub action-small : {s places : List ℕ} {r : ℕ} {f : Fields} → KnownTransition s places r → FieldsOf s r f → f .action < 256
-unfolding SoundAutomaton automatonOf
-action-small {s} {places} {r} {f} t h =
-    omega (
-      arith,
-      h .action,
-      sound-automaton limits (modelAt s) (t .known .sound) r (omega (arith, known-transitions (t .known), t .below)) .known,
-      t .known .sound .actions,
-    )
 
 module _ {s places : List ℕ} {r : ℕ} {blocks : List ℕ} {k : ℕ} {weights out : List ℕ} {at : ℕ} (m : CanMerge s places r blocks k weights out at) where
   pub merging-adds : CanAdd s places r blocks weights

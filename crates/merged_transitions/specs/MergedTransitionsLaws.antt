@@ -24,20 +24,13 @@ use Rattle.transition_record.specs.declared.Fields.{Fields}
 use Rattle.transition.specs.Known.{Known, KnownTransition, FieldsOf}
 use Rattle.transition.specs.KnownLaws.{known-own, known-states, known-transitions, known-transition, few-transitions}
 use Rattle.writer.specs.Appends.{Appends}
-use Rattle.writer.specs.AppendsLaws.{front-kept, appended-part, appended-front}
+use Rattle.writer.specs.AppendsLaws.{front-kept, appended-part, appended-front, transitions-append}
 use Rattle.merged_transition.specs.MergedTransition.{NoWeights, BlocksBelow, CanMerge, Merged}
 use Rattle.same_transition.specs.SameTransition.{Fits, FitsFrom, StandAs, Stand, IsRepeated}
 use Rattle.merged_transitions.specs.declared.Kept.{Kept}
 use Rattle.merged_transitions.specs.MergedTransitions.{transitionsIn, Holds, before, here, InBlock, CanKeep, Keeps}
 use Rattle.merged_transitions.specs.DistinctLaws.{distinct-more, from-more, by-block-more}
 use Rattle.merged_transitions.specs.RoomLaws.{sizeOf, each-first, room}
-
--- records one after the other
-transitions-append : (xs ys : List Transition) → transitionsBytes (xs ++ ys) ≡ transitionsBytes xs ++ transitionsBytes ys
-unfolding transitionsBytes
-transitions-append [] ys = refl
-transitions-append (x ∷ xs) ys =
-    ap (λ (l : List ℕ). transitionBytes x ++ l) (transitions-append xs ys) ∙ sym (append-assoc (transitionBytes x) (transitionsBytes xs) (transitionsBytes ys))
 
 -- a part in the middle: what stands between two places
 middle : (s xs ys : List ℕ) (start at : ℕ) → take at s ≡ xs ++ ys → start ≡ length xs → at ≡ start + length ys → at ≤ length s → take (at - start) (drop start s) ≡ ys

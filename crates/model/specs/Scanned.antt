@@ -3,9 +3,12 @@ use Prim.Native.Nat.{ℕ, _+_, _<_}
 use mathlib.Core.Path.{_≡_, refl, _∙_, ap}
 use mathlib.Core.List.{List}
 use lib.ListN.{length, getD}
-use Rattle.rules.specs.definitions.Reading.{Scan, sound, refused, placeOf}
+use Rattle.rules.specs.definitions.Limits.{limits}
+use Rattle.rules.specs.definitions.Reading.{headFault, Scan, sound, refused, scanWhole, placeOf}
+use Rattle.rules.specs.argument.ReadingLaws.{head-stops}
 use Rattle.rules.specs.definitions.Answers.{Answer, refusalIn, answerWithoutPlace, scanAnswer}
-use Rattle.fault.specs.Faults.{faultOf}
+use Rattle.fault.specs.Faults.{faultOf, Placed}
+use Rattle.fault.specs.declared.Fault.{Fault}
 use Rattle.limits.specs.Sizes as sizes
 use Rattle.model.specs.declared.Scanned.{Scanned}
 use Rattle.model.specs.declared.Scanned.the-variants.{Sound, Refused}
@@ -43,3 +46,7 @@ scans {s} r e places size = record { answer = e; says = cases r ∙ ap (scanAnsw
     cases : (x : Scanned) → scannedAnswer (length s) x ≡ scanAnswer (length s) (scanOf x)
     cases (Sound m) = unfold scanAnswer in refl
     cases (Refused f) = unfold scanAnswer in refl
+
+-- a fault of the head is the file's
+pub head-refused : (s : List ℕ) (f : Fault) → Placed (headFault limits s) 0 f → (f .number ≡ 0 → ⊥) → refused (faultOf f) (f .place) ≡ scanWhole limits s
+head-refused s f p n = ap (refused (faultOf f)) (p .at) ∙ head-stops limits s (p .is) n

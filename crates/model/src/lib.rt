@@ -87,6 +87,18 @@ pub fn scan_whole(s: &[u8], places: &mut Places) -> Scanned
     }
 }
 
+// Refusals 1 to 9 of a whole file, its head too, where the table is made already.
+pub fn scan_file(s: &[u8], places: &mut Places) -> Scanned
+    requires { ⌜ length (now places) ≡ sizes.places ⌝ }
+    ensures { λ r. ⌜ Scans (now (s .entry)) (scanWhole limits (now (s .entry))) r (now (places .exit)) ⌝ }
+{
+    let wrong = model_head::head_fault(s);
+    if wrong.number != 0 {
+        return Scanned::Refused(wrong);
+    }
+    scan_whole(s, places)
+}
+
 pub fn no_places() -> Places
     ensures { λ r. ⌜ sizes.places ≡ length r ⌝ }
 {

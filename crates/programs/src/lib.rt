@@ -1,4 +1,5 @@
-// The judging program of document 01, the reducing program beside it, and a fetch, as functions that the programs call.
+// The judging program of document 01, those that reduce, join and compare beside it, and a fetch, as functions that the programs call.
+ghost use Prim.Native.Nat.{_<_};
 ghost use Rattle.io.specs.Counts.{Counts};
 use libc::STDOUT_FILENO;
 
@@ -7,11 +8,23 @@ const MODEL: usize = 8192;
 
 const CERTIFICATE: usize = 49152;
 
-// What is asked of a model and a certificate.
+// What is asked of a model and a certificate, or of two models.
 enum Asked {
     Judge,
-    Reduce { keeps: bool },
-    Fetch { state: u32 },
+    Reduce {
+        keeps: bool,
+    },
+    Fetch {
+        state: u32,
+    },
+    Join {
+        keeps: bool,
+    },
+    Alike {
+        first_count: u32,
+        first_state: u32,
+        second_state: u32,
+    },
 }
 
 // So many bytes, or all that a buffer has.
@@ -76,7 +89,7 @@ fn judge_and_print<'a>(model: &'a [u8], certificate: &'a [u8], blocks: &mut [u8]
     let mut file = 0;
     let mut place = 0;
     let mut written = 0;
-    zolkirta::judge(
+    slices::judge(
         model,
         certificate,
         blocks,
@@ -90,26 +103,25 @@ fn judge_and_print<'a>(model: &'a [u8], certificate: &'a [u8], blocks: &mut [u8]
     print_blocks(&blocks[..end]);
 }
 
-// Writes merged.bin; a line on standard error says why where that fails.
-fn keep_merged(merged: &[u8]) {
-    let path = b"merged.bin";
+// Writes a file; a line on standard error says why where that fails.
+fn keep_file(path: &[u8], bytes: &[u8]) {
     let fd = os::open_overwrite(path);
     if fd < 0 {
         os::fail(path);
         return;
     }
-    if !io::write_all(fd, merged) {
+    if !io::write_all(fd, bytes) {
         os::fail(path);
     }
     libc::close(fd);
 }
 
-// Prints the merged model's bytes, and writes them into merged.bin where they are to be kept.
-fn print_merged(merged: &[u8], keeps: bool) {
+// Prints a model's bytes, and writes them into a file where they are to be kept.
+fn print_model(path: &[u8], bytes: &[u8], keeps: bool) {
     if keeps {
-        keep_merged(merged);
+        keep_file(path, bytes);
     }
-    print_bytes(merged);
+    print_bytes(bytes);
 }
 
 // Prints number, file and place, and on acceptance the merged model, which may be kept. A refusal leaves merged.bin alone.
@@ -118,7 +130,7 @@ fn reduce_and_print<'a>(model: &'a [u8], certificate: &'a [u8], out: &mut [u8], 
     let mut file = 0;
     let mut place = 0;
     let mut written = 0;
-    zolkirta::reduce(
+    slices::reduce(
         model,
         certificate,
         out,
@@ -130,7 +142,7 @@ fn reduce_and_print<'a>(model: &'a [u8], certificate: &'a [u8], out: &mut [u8], 
     print_result(number, file, place);
     if number == 0 {
         let end = at_most(written, out);
-        print_merged(&out[..end], keeps);
+        print_model(b"merged.bin", &out[..end], keeps);
     }
 }
 
@@ -139,11 +151,64 @@ fn fetch_and_print(model: &[u8], state: u32) {
     let mut number = 0;
     let mut file = 0;
     let mut place = 0;
-    let part = zolkirta::fetch(model, state, &mut number, &mut file, &mut place);
+    let part = slices::fetch(model, state, &mut number, &mut file, &mut place);
     print_result(number, file, place);
     print_number(part.len());
     print(b":");
     print_bytes(part);
+}
+
+// Prints number, file and place, and where the two models were joined the joined one, which may be kept. A refusal leaves joined.bin alone.
+fn join_and_print<'a>(first: &'a [u8], second: &'a [u8], out: &mut [u8], keeps: bool) {
+    let mut number = 0;
+    let mut file = 0;
+    let mut place = 0;
+    let mut written = 0;
+    slices::join(
+        first,
+        second,
+        out,
+        &mut number,
+        &mut file,
+        &mut place,
+        &mut written,
+    );
+    print_result(number, file, place);
+    if number == 0 {
+        let end = at_most(written, out);
+        print_model(b"joined.bin", &out[..end], keeps);
+    }
+}
+
+// Prints number, file and place, and yes or no.
+fn alike_and_print<'a>(
+    model: &'a [u8],
+    first_count: u32,
+    certificate: &'a [u8],
+    first_state: u32,
+    second_state: u32,
+) {
+    let mut number = 0;
+    let mut file = 0;
+    let mut place = 0;
+    let mut said = 0;
+    slices::alike(
+        model,
+        first_count,
+        certificate,
+        first_state,
+        second_state,
+        &mut number,
+        &mut file,
+        &mut place,
+        &mut said,
+    );
+    print_result(number, file, place);
+    if said == 1 {
+        print(b"yes\n");
+    } else {
+        print(b"no\n");
+    }
 }
 
 fn answer<'a>(asked: Asked, model: &'a [u8], certificate: &'a [u8]) {
@@ -158,6 +223,16 @@ fn answer<'a>(asked: Asked, model: &'a [u8], certificate: &'a [u8]) {
             reduce_and_print(model, certificate, &mut out, keeps);
         }
         Asked::Fetch { state } => fetch_and_print(model, state),
+        Asked::Join { keeps } => {
+            // long enough: a joined model is a model
+            let mut out = [0u8; MODEL];
+            join_and_print(model, certificate, &mut out, keeps);
+        }
+        Asked::Alike {
+            first_count,
+            first_state,
+            second_state,
+        } => alike_and_print(model, first_count, certificate, first_state, second_state),
     }
 }
 
@@ -196,21 +271,124 @@ pub fn fetch_stream(pa: i32, pa_bytes: usize, state: u32) {
     answer_streams(Asked::Fetch { state }, pa, pa_bytes, -1, 0);
 }
 
-// Answers for pa.bin and ct.bin of the current folder. A missing file reads as empty.
-fn answer_files(asked: Asked) {
-    let pa = os::open_read(b"pa.bin");
-    let ct = os::open_read(b"ct.bin");
-    answer_streams(asked, pa, usize::MAX, ct, usize::MAX);
+// Joins two models of one open file likewise, and keeps no joined.bin. Of each the first 8,192 bytes are read.
+pub fn join_streams(a: i32, a_bytes: usize, b: i32, b_bytes: usize) {
+    answer_streams(Asked::Join { keeps: false }, a, a_bytes, b, b_bytes);
+}
+
+// Compares two states of a joined model likewise.
+pub fn alike_streams(
+    pa: i32,
+    pa_bytes: usize,
+    ct: i32,
+    ct_bytes: usize,
+    first_count: u32,
+    first_state: u32,
+    second_state: u32,
+) {
+    answer_streams(
+        Asked::Alike {
+            first_count,
+            first_state,
+            second_state,
+        },
+        pa,
+        pa_bytes,
+        ct,
+        ct_bytes,
+    );
+}
+
+// Answers for two files of the current folder, of the second at most so many bytes. A missing file reads as empty.
+fn answer_files(asked: Asked, first: &[u8], second: &[u8], second_bytes: usize) {
+    let pa = os::open_read(first);
+    let ct = os::open_read(second);
+    answer_streams(asked, pa, usize::MAX, ct, second_bytes);
     libc::close(pa);
     libc::close(ct);
 }
 
 // The judging program.
 pub fn judge_files() {
-    answer_files(Asked::Judge);
+    answer_files(Asked::Judge, b"pa.bin", b"ct.bin", usize::MAX);
 }
 
 // The reducing program: writes merged.bin.
 pub fn reduce_files() {
-    answer_files(Asked::Reduce { keeps: true });
+    answer_files(
+        Asked::Reduce { keeps: true },
+        b"pa.bin",
+        b"ct.bin",
+        usize::MAX,
+    );
+}
+
+// The joining program: writes joined.bin from a.bin and b.bin.
+pub fn join_files() {
+    answer_files(Asked::Join { keeps: true }, b"a.bin", b"b.bin", MODEL);
+}
+
+fn wide(x: u8) -> u32
+    ensures { λ r. ⌜ r < 256 ⌝ }
+{
+    x as u32
+}
+
+// A decimal number with one digit more; the largest where that is far above any state's, or no digit.
+fn with_digit(n: u32, digit: u8) -> u32 {
+    if digit < b'0' {
+        return u32::MAX;
+    }
+    if b'9' < digit {
+        return u32::MAX;
+    }
+    if 400000000 < n {
+        return u32::MAX;
+    }
+    n * 10 + wide(digit - b'0')
+}
+
+fn number_of(text: &[u8]) -> u32 {
+    let mut n = 0;
+    for i in 0..text.len() {
+        n = with_digit(n, text[i]);
+    }
+    n
+}
+
+// An argument of the program as a decimal number.
+fn number_argument(i: usize) -> u32 {
+    let mut text = [0u8; 16];
+    let size = os::arg(i, &mut text);
+    let end = at_most(size, &text);
+    number_of(&text[..end])
+}
+
+// How many states the head of a model file says that it has; 0 where the file has no head.
+fn states_of(path: &[u8]) -> u32 {
+    let mut head = [0u8; 6];
+    let fd = os::open_read(path);
+    let got = io::read_full(fd, &mut head);
+    libc::close(fd);
+    if got < 6 {
+        return 0;
+    }
+    wide(head[2])
+}
+
+// The comparing program: two states of joined.bin, the first's count being that of a.bin, by ct.bin.
+pub fn alike_files() {
+    let first_count = states_of(b"a.bin");
+    let first_state = number_argument(1);
+    let second_state = number_argument(2);
+    answer_files(
+        Asked::Alike {
+            first_count,
+            first_state,
+            second_state,
+        },
+        b"joined.bin",
+        b"ct.bin",
+        usize::MAX,
+    );
 }

@@ -10,13 +10,14 @@ use lib.IntN.{ℤ, pos, _*ℤ_}
 use Rattle.rules.specs.definitions.Limits.{limits}
 use Rattle.limits.specs.Sizes as sizes
 use Rattle.rules.specs.definitions.Model.{Entry, noTransition, automatonOf}
-use Rattle.rules.specs.definitions.Reading.{sound, scanWhole, readWhole, statesOf, countOf, afterTransition, transitionAt, modelAt, placeOf, readingOf}
+use Rattle.rules.specs.definitions.Reading.{sound, scanWhole, readWhole, statesOf, countOf, entryCountAt, afterTransition, transitionAt, modelAt, placeOf, readingOf}
 use Rattle.rules.specs.argument.ReadingLaws.{Sound, Tells, whole-tells}
 use Rattle.rules.specs.definitions.SoundModel.{Bytes, SoundModel, TransitionRules}
 use Rattle.rules.specs.argument.SoundModelLaws.{each-at, from-along}
 use Rattle.rules.specs.argument.ReadSound.{read-whole-sound}
 use Rattle.rules.specs.argument.AnswerLaws.{labels-length}
 use Rattle.rules.specs.argument.ModelAutomaton.{length-transitionsAt, automaton-states, automaton-transitions, automaton-source, automaton-action, automaton-denominator, automaton-weight, transition-is}
+use Rattle.rules.specs.argument.FetchedRun.{length-entriesAt}
 use Rattle.rules.specs.argument.EntryPrices.{priceOfEntries, price-of-entries}
 use Rattle.transition_record.specs.Fields.{FieldsAt}
 use Rattle.model.specs.Scanned.{PlacesHeld}
@@ -108,6 +109,14 @@ module _ {s table : List ℕ} {r : ℕ} (t : KnownTransition s table r) where
         positive = omega (arith, here .denominator, rules-of .positive);
         small = omega (arith, here .denominator, rules-of .fits);
       }
+
+  -- its action and its entry count fit their fields
+  pub fields-small : {f : Fields} → FieldsOf s r f → (f .action < 256) × (f .count < 256)
+  unfolding transitionAt
+  fields-small h = (
+    omega (arith, h .action, automaton-action s r below-count, rules-of .action, t .known .sound .actions),
+    omega (arith, h .count, length-entriesAt s (entryCountAt s (placeOf s r)) (placeOf s r + 7), rules-of .most, t .known .sound .states),
+  )
 
   pub entries-known : EntriesKnown s r
   unfolding transitionAt afterTransition

@@ -1,3 +1,4 @@
 pub mod Known
 pub mod KnownLaws
 pub mod Entries
+pub mod ModelRead

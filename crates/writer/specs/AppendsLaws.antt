@@ -7,8 +7,8 @@ use lib.Seq.{length-take-le, drop-drop, take-all, drop-length, take-append-seam,
 use native.Mathlib.Omega.{arith}
 use borrow.Rule.Slice.PartMut.{midOf, putMid, same-len-mid, post-is, mid-len}
 use Rattle.rules.specs.definitions.Bytes.{twoBytes}
-use Rattle.rules.specs.definitions.Model.{Transition, headBytes, labelsBytes, transitionsBytes, modelBytes}
-use Rattle.writer.specs.Appends.{Appends, headBytesOf, WritesModel}
+use Rattle.rules.specs.definitions.Model.{Entry, Transition, entriesBytes, transitionBytes, headBytes, labelsBytes, transitionsBytes, modelBytes}
+use Rattle.writer.specs.Appends.{Appends, fixedBytes, headBytesOf, WritesModel}
 
 -- one byte
 set-splits : (s : List ℕ) (at x : ℕ) → at < length s → set s at x ≡ take at s ++ (x ∷ drop (suc at) s)
@@ -124,3 +124,17 @@ append-model {m} {count} {n} {next = next} {labels = labels} {records} {a} {d = 
           (ap₂ (λ (x y : ℕ). headBytesOf x m y ++ (labels ++ records)) e g ∙ ap (λ (bytes : List ℕ). headBytesOf (length labels) m (length ts) ++ (labels ++ bytes)) f)
           (append-more h (append-more l r));
     }
+
+-- the fixed fields and then the entries are the record
+pub record-bytes : {source action denominator count : ℕ} {es : List Entry} (t : Transition) → source ≡ t .source → action ≡ t .action → denominator ≡ t .denominator → count ≡ length es → es ≡ t .entries → fixedBytes source action denominator count ++ entriesBytes es ≡ transitionBytes t
+unfolding transitionBytes twoBytes
+record-bytes {source} {action} {denominator} {count} {es} t from by over many e =
+    let all = many ∙ ap length e in
+    λ i. fixedBytes (from i) (by i) (over i) (all i) ++ entriesBytes (e i)
+
+-- records one after the other
+pub transitions-append : (xs ys : List Transition) → transitionsBytes (xs ++ ys) ≡ transitionsBytes xs ++ transitionsBytes ys
+unfolding transitionsBytes
+transitions-append [] ys = refl
+transitions-append (x ∷ xs) ys =
+    ap (λ (l : List ℕ). transitionBytes x ++ l) (transitions-append xs ys) ∙ sym (append-assoc (transitionBytes x) (transitionsBytes xs) (transitionsBytes ys))

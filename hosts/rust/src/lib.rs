@@ -2,7 +2,8 @@
 //!
 //! A model file holds an automaton, a certificate file the reasons for which of its states are weakly bisimilar. [`judge`] accepts
 //! the certificate and names the block of each state, [`reduce`] writes the model with each block merged into one state, [`fetch`]
-//! finds the transitions that leave a state. What is not accepted gets one numbered [`Refusal`].
+//! finds the transitions that leave a state. [`join`] writes two models as one, and [`alike`] says whether a state of the one behaves
+//! as a state of the other. What is not accepted gets one numbered [`Refusal`].
 //!
 //! The small pair S of document 01: state 0 moves to state 2 by action 1, state 1 moves to state 0 internally.
 //!
@@ -30,25 +31,29 @@ pub mod raw;
 /// The most states that a model has. A block buffer of this length is always long enough.
 pub const STATES: usize = 64;
 
-/// The bytes of the longest model. An output buffer of this length is always long enough for [`reduce`].
+/// The bytes of the longest model. An output buffer of this length is always long enough for [`reduce`] and [`join`].
 pub const MODEL: usize = 4936;
 
 /// A file that was handed to a call.
 #[derive(Clone, Copy, Debug, PartialEq, Eq, Hash)]
 #[non_exhaustive]
 pub enum File {
+    /// The model; of two that are joined, the first.
     Model,
     Certificate,
+    /// The second of two models that are joined.
+    SecondModel,
     /// A file that this crate does not know, by the number that the library gives it.
     Unknown(u32),
 }
 
 impl File {
-    /// The library's number of the file: 1 model, 2 certificate.
+    /// The library's number of the file: 1 model, 2 certificate, 3 the second model.
     pub fn number(self) -> u32 {
         match self {
             File::Model => 1,
             File::Certificate => 2,
+            File::SecondModel => 3,
             File::Unknown(number) => number,
         }
     }
@@ -59,6 +64,7 @@ impl fmt::Display for File {
         match self {
             File::Model => out.write_str("model"),
             File::Certificate => out.write_str("certificate"),
+            File::SecondModel => out.write_str("second model"),
             File::Unknown(number) => write!(out, "unknown file {number}"),
         }
     }
@@ -80,7 +86,7 @@ impl fmt::Display for File {
 #[derive(Clone, Copy, PartialEq, Eq)]
 #[non_exhaustive]
 pub struct Refusal<'a> {
-    /// 1 to 24: [`meaning`](Refusal::meaning) says it in words.
+    /// 1 to 27: [`meaning`](Refusal::meaning) says it in words.
     pub number: u32,
     /// The file at fault, if one is.
     pub file: Option<File>,
@@ -90,7 +96,7 @@ pub struct Refusal<'a> {
     pub stretch: &'a [u8],
 }
 
-const MEANINGS: [&str; 25] = [
+const MEANINGS: [&str; 28] = [
     "accepted",
     "the file ends inside a record",
     "a record has a wrong mark",
@@ -116,6 +122,9 @@ const MEANINGS: [&str; 25] = [
     "bytes are left after the last flow",
     "the certificate is accepted, and the buffer is shorter than the merged model's file",
     "the state to fetch is not below the state count",
+    "the joined model has more than 64 states, 256 transitions or 1,024 entries",
+    "the buffer is shorter than the joined model's file",
+    "accepted, and the first's count is above the state count or a state is not in its part",
 ];
 
 impl Refusal<'_> {
@@ -158,16 +167,19 @@ impl fmt::Debug for Refusal<'_> {
 
 impl std::error::Error for Refusal<'_> {}
 
-/// The refusal that an answer tells, or the answer where it tells none.
-fn accepted<'a>(answer: raw::Answer, model: &'a [u8], certificate: &'a [u8]) -> Result<raw::Answer, Refusal<'a>> {
+/// A file that is handed to a call, and its bytes.
+type Handed<'a> = (File, &'a [u8]);
+
+/// The refusal that an answer to a call with these files tells, or the answer where it tells none.
+fn accepted<'a>(answer: raw::Answer, files: &[Handed<'a>]) -> Result<raw::Answer, Refusal<'a>> {
     if answer.number == 0 {
         return Ok(answer);
     }
-    let (file, stretch) = match answer.file {
-        0 => (None, &[][..]),
-        1 => (Some(File::Model), &model[answer.place..]),
-        2 => (Some(File::Certificate), &certificate[answer.place..]),
-        unknown => (Some(File::Unknown(unknown)), &[][..]),
+    let at_fault = files.iter().find(|(file, _)| file.number() == answer.file);
+    let (file, stretch) = match (answer.file, at_fault) {
+        (0, _) => (None, &[][..]),
+        (_, Some((file, bytes))) => (Some(*file), &bytes[answer.place..]),
+        (unknown, None) => (Some(File::Unknown(unknown)), &[][..]),
     };
     Err(Refusal { number: answer.number, file, place: answer.place, stretch })
 }
@@ -184,7 +196,7 @@ fn accepted<'a>(answer: raw::Answer, model: &'a [u8], certificate: &'a [u8]) -> 
 /// ```
 pub fn fetch(model: &[u8], state: u32) -> Result<&[u8], Refusal<'_>> {
     // SAFETY: pointer and length are those of the slice.
-    let answer = accepted(unsafe { raw::zolkirta_fetch(model.as_ptr(), model.len(), state) }, model, &[])?;
+    let answer = accepted(unsafe { raw::zolkirta_fetch(model.as_ptr(), model.len(), state) }, &[(File::Model, model)])?;
     Ok(&model[answer.stretch_start..answer.stretch_start + answer.stretch_length])
 }
 
@@ -215,7 +227,7 @@ pub fn fetch(model: &[u8], state: u32) -> Result<&[u8], Refusal<'_>> {
 /// assert_eq!(refusal.stretch.as_ptr(), certificate[4..].as_ptr());
 /// ```
 pub fn judge<'a, 'b>(model: &'a [u8], certificate: &'a [u8], buffer: &'b mut [u8]) -> Result<&'b [u8], Refusal<'a>> {
-    lend(raw::zolkirta_judge, model, certificate, buffer)
+    lend(raw::zolkirta_judge, [(File::Model, model), (File::Certificate, certificate)], buffer)
 }
 
 /// Judges a certificate for a model and writes the merged model: each block is one state. On acceptance the first bytes of `buffer`
@@ -231,15 +243,61 @@ pub fn judge<'a, 'b>(model: &'a [u8], certificate: &'a [u8], buffer: &'b mut [u8
 /// assert_eq!(zolkirta::reduce(model, certificate, &mut [0; 8]).unwrap_err().number, 23);
 /// ```
 pub fn reduce<'a, 'b>(model: &'a [u8], certificate: &'a [u8], buffer: &'b mut [u8]) -> Result<&'b [u8], Refusal<'a>> {
-    lend(raw::zolkirta_reduce, model, certificate, buffer)
+    lend(raw::zolkirta_reduce, [(File::Model, model), (File::Certificate, certificate)], buffer)
+}
+
+/// Writes two models as one: the second's states and transitions follow the first's, its state numbers raised by the first's state
+/// count. The first bytes of `buffer` are then the joined model's file, and they are what is handed back; the buffer's later bytes stay.
+///
+/// Refusals: 1 to 9 in the first model, then in the second; 25 where the joined model passes a limit; 26 where the buffer is shorter than
+/// the file ([`MODEL`] bytes are always enough).
+///
+/// ```
+/// let (first, second) = (b"PA\x01\x01\0\0LB\x05", b"PA\x02\x01\0\x01LB\0\0TR\x01\0\0\x01\x01\0\0\x01");
+/// let mut buffer = [0; zolkirta::MODEL];
+/// let joined = zolkirta::join(first, second, &mut buffer).unwrap();
+/// assert_eq!(joined, b"PA\x03\x01\0\x01LB\x05\0\0TR\x02\0\0\x01\x01\x01\0\x01");
+///
+/// let refusal = zolkirta::join(first, b"PA\0", &mut buffer).unwrap_err();
+/// assert_eq!((refusal.number, refusal.file), (1, Some(zolkirta::File::SecondModel)));
+/// ```
+pub fn join<'a, 'b>(first: &'a [u8], second: &'a [u8], buffer: &'b mut [u8]) -> Result<&'b [u8], Refusal<'a>> {
+    lend(raw::zolkirta_join, [(File::Model, first), (File::SecondModel, second)], buffer)
 }
 
 /// Makes a call that lends a buffer, and hands back the part of it that was written.
-fn lend<'a, 'b>(call: raw::Lending, model: &'a [u8], certificate: &'a [u8], buffer: &'b mut [u8]) -> Result<&'b [u8], Refusal<'a>> {
+fn lend<'a, 'b>(call: raw::Lending, files: [Handed<'a>; 2], buffer: &'b mut [u8]) -> Result<&'b [u8], Refusal<'a>> {
+    let [(_, one), (_, other)] = files;
     // SAFETY: pointers and lengths are those of the slices, and a `&mut` overlaps no other slice.
-    let answer =
-        unsafe { call(model.as_ptr(), model.len(), certificate.as_ptr(), certificate.len(), buffer.as_mut_ptr(), buffer.len()) };
-    Ok(&buffer[..accepted(answer, model, certificate)?.written])
+    let answer = unsafe { call(one.as_ptr(), one.len(), other.as_ptr(), other.len(), buffer.as_mut_ptr(), buffer.len()) };
+    Ok(&buffer[..accepted(answer, &files)?.written])
+}
+
+/// Judges a certificate for a joined model, and says whether a state of the first part behaves as a state of the second: whether the two
+/// share a block. `first_count` is the first's state count, and both states go by their numbers in the joined model.
+///
+/// Refusals: 1 to 9 in the model, 11 to 22 in the certificate, and 27 where the certificate is accepted, but `first_count` is above the
+/// state count or a state is not in its part.
+///
+/// ```
+/// // A state without transitions, joined with two such states of which the second has another label.
+/// let (model, certificate) = (b"PA\x03\x01\0\0LB\0\0\x01", b"CT\0\0BK\0\0\x01");
+/// assert_eq!(zolkirta::alike(model, 1, certificate, 0, 1), Ok(true));
+/// assert_eq!(zolkirta::alike(model, 1, certificate, 0, 2), Ok(false));
+/// assert_eq!(zolkirta::alike(model, 1, certificate, 1, 2).unwrap_err().number, 27); // state 1 is not of the first
+/// ```
+pub fn alike<'a>(
+    model: &'a [u8],
+    first_count: u32,
+    certificate: &'a [u8],
+    first_state: u32,
+    second_state: u32,
+) -> Result<bool, Refusal<'a>> {
+    let (m, c) = (model.as_ptr(), certificate.as_ptr());
+    // SAFETY: pointers and lengths are those of the slices.
+    let said = unsafe { raw::zolkirta_alike(m, model.len(), first_count, c, certificate.len(), first_state, second_state) };
+    accepted(said.answer, &[(File::Model, model), (File::Certificate, certificate)])?;
+    Ok(said.alike == 1)
 }
 
 #[cfg(test)]
@@ -249,33 +307,35 @@ mod tests {
     const HEADER: &str = include_str!("../../../include/zolkirta.h");
 
     fn refusal(number: u32, file: u32, place: usize) -> Refusal<'static> {
-        accepted(raw::Answer { number, file, place, ..raw::Answer::default() }, b"model", b"certificate").unwrap_err()
+        let files = [(File::Model, &b"model"[..]), (File::Certificate, b"certificate"), (File::SecondModel, b"second")];
+        accepted(raw::Answer { number, file, place, ..raw::Answer::default() }, &files).unwrap_err()
     }
 
     #[test]
     fn each_file_is_named_by_its_number() {
-        let told = [(0, None), (1, Some(File::Model)), (2, Some(File::Certificate))];
-        let unknown = [3, 4, u32::MAX].map(|file| (file, Some(File::Unknown(file))));
+        let told = [(0, None), (1, Some(File::Model)), (2, Some(File::Certificate)), (3, Some(File::SecondModel))];
+        let unknown = [4, 5, u32::MAX].map(|file| (file, Some(File::Unknown(file))));
         for (number, file) in told.into_iter().chain(unknown) {
             assert_eq!(refusal(1, number, 0).file, file);
             assert_eq!(file.map_or(0, File::number), number);
         }
-        assert_eq!([refusal(1, 1, 2).stretch, refusal(11, 2, 4).stretch], [&b"del"[..], b"ificate"]);
+        assert_eq!([refusal(1, 1, 2).stretch, refusal(11, 2, 4).stretch, refusal(1, 3, 3).stretch], [&b"del"[..], b"ificate", b"ond"]);
+        assert_eq!(refusal(1, 3, 3).to_string(), "refusal 1: the file ends inside a record (second model, byte 3)");
     }
 
     #[test]
     fn an_unknown_file_has_no_stretch() {
-        let refusal = refusal(2, 3, 700);
+        let refusal = refusal(2, 4, 700);
         assert_eq!((refusal.place, refusal.stretch), (700, &[][..]));
-        assert_eq!(refusal.to_string(), "refusal 2: a record has a wrong mark (unknown file 3, byte 700)");
+        assert_eq!(refusal.to_string(), "refusal 2: a record has a wrong mark (unknown file 4, byte 700)");
     }
 
     #[test]
     fn an_unknown_number_is_said() {
-        for number in [25, 26, u32::MAX] {
+        for number in [28, 29, u32::MAX] {
             assert_eq!(refusal(number, 0, 0).to_string(), format!("refusal {number}: unknown number"));
         }
-        assert_eq!(refusal(25, 2, 5).to_string(), "refusal 25: unknown number (certificate, byte 5)");
+        assert_eq!(refusal(28, 2, 5).to_string(), "refusal 28: unknown number (certificate, byte 5)");
     }
 
     /// Every number has the words that its line of the C header has.
@@ -293,6 +353,13 @@ mod tests {
             }
         }
         assert_eq!(said, MEANINGS.len() - 1);
+    }
+
+    #[test]
+    fn the_version_is_the_headers() {
+        let version = env!("CARGO_PKG_VERSION");
+        let number = version.split('.').fold(0, |number, part| 100 * number + part.parse::<u32>().unwrap());
+        assert!(HEADER.contains(&format!("#define ZOLKIRTA_VERSION \"{version}\"\n#define ZOLKIRTA_VERSION_NUMBER {number} ")));
     }
 
     #[test]

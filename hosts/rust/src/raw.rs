@@ -5,13 +5,15 @@
 //! Each pointer is to as many readable bytes as the length after it says, for a lent buffer writable ones, and may be null where that
 //! is 0. A lent buffer overlaps no other one and no input. The library keeps no pointer.
 
+use std::mem::{offset_of, size_of};
+
 /// What a call answers.
 #[repr(C)]
 #[derive(Clone, Copy, Debug, Default, PartialEq, Eq)]
 pub struct Answer {
     /// 0, or the number of the refusal.
     pub number: u32,
-    /// The file at fault: 1 model, 2 certificate; 0 where none is.
+    /// The file at fault: 1 model, 2 certificate, 3 the second model; 0 where none is.
     pub file: u32,
     /// The byte of that file where the record at fault begins; for bytes left, the first of them.
     pub place: usize,
@@ -19,11 +21,28 @@ pub struct Answer {
     pub stretch_start: usize,
     /// The length of the stretch or run.
     pub stretch_length: usize,
-    /// Bytes written into the lent buffer, 0 on refusal.
+    /// Bytes written into the lent buffer; 0 on refusal, and where none is lent.
     pub written: usize,
 }
 
-/// A call that lends a buffer: model, certificate and buffer, each a pointer and a length.
+/// What [`zolkirta_alike`] answers.
+#[repr(C)]
+#[derive(Clone, Copy, Debug, Default, PartialEq, Eq)]
+pub struct AlikeAnswer {
+    pub answer: Answer,
+    /// 1 for yes, 0 for no; 0 on refusal.
+    pub alike: u32,
+}
+
+// The library's layout: a build for another one stops here.
+const _: () = {
+    let fields = [offset_of!(Answer, number), offset_of!(Answer, file), offset_of!(Answer, place), offset_of!(Answer, stretch_start)];
+    assert!(matches!(fields, [0, 4, 8, 16]));
+    assert!(offset_of!(Answer, stretch_length) == 24 && offset_of!(Answer, written) == 32 && size_of::<Answer>() == 40);
+    assert!(offset_of!(AlikeAnswer, answer) == 0 && offset_of!(AlikeAnswer, alike) == 40 && size_of::<AlikeAnswer>() == 48);
+};
+
+/// A call that lends a buffer: two files and the buffer, each a pointer and a length.
 pub type Lending = unsafe extern "C" fn(*const u8, usize, *const u8, usize, *mut u8, usize) -> Answer;
 
 extern "C" {
@@ -47,4 +66,23 @@ extern "C" {
         out: *mut u8,
         out_length: usize,
     ) -> Answer;
+    /// [`join`](crate::join)
+    pub fn zolkirta_join(
+        first: *const u8,
+        first_length: usize,
+        second: *const u8,
+        second_length: usize,
+        out: *mut u8,
+        out_length: usize,
+    ) -> Answer;
+    /// [`alike`](crate::alike)
+    pub fn zolkirta_alike(
+        model: *const u8,
+        model_length: usize,
+        first_count: u32,
+        certificate: *const u8,
+        certificate_length: usize,
+        first_state: u32,
+        second_state: u32,
+    ) -> AlikeAnswer;
 }

@@ -3,26 +3,36 @@ mod compare;
 mod maker;
 mod plain;
 
-use compare::{accepted, fetch, judge, reduce, vectors, Counts};
-use maker::families::{bytes, flow_heavy, largest, refutation_heavy};
+use compare::{accepted, alike, fetch, join, judge, reduce, requests, vectors, Counts};
+use maker::families::{bytes, filled, flow_heavy, largest, refutation_heavy};
+use plain::Answer;
 use std::ptr::{null, null_mut};
-use zolkirta::raw::{zolkirta_fetch, zolkirta_judge, zolkirta_reduce};
+use zolkirta::raw::{zolkirta_alike, zolkirta_fetch, zolkirta_join, zolkirta_judge, zolkirta_reduce};
+use zolkirta::MODEL;
+
+/// Makes a call with buffers from none to one byte longer than what it writes, and with these: a shorter one is refused with a number.
+fn every_length(call: impl Fn(usize) -> (Answer, Vec<u8>), shorter: u32, more: &[usize]) {
+    let whole = call(MODEL).1;
+    for length in (0..=whole.len() + 1).chain(more.iter().copied()) {
+        let (answer, written) = call(length);
+        let expected = if length < whole.len() { (shorter, &[][..]) } else { (0, &whole[..]) };
+        assert_eq!((answer.number, &written[..]), expected);
+    }
+}
 
 #[test]
 fn buffers_of_every_length() {
-    for (model, certificate) in accepted() {
-        let n = usize::from(model[2]);
-        for length in (0..=n + 1).chain([64, 65, 255, 256, 257]) {
-            let (answer, blocks) = judge(&model, &certificate, length);
-            let expected = if length < n { (10, 0) } else { (0, n) };
-            assert_eq!((answer.number, blocks.len()), expected);
-        }
-        let merged = reduce(&model, &certificate, model.len()).1;
-        for length in (0..=merged.len() + 1).chain([model.len() + 1]) {
-            let (answer, file) = reduce(&model, &certificate, length);
-            let expected = if length < merged.len() { (23, &[][..]) } else { (0, &merged[..]) };
-            assert_eq!((answer.number, &file[..]), expected);
-        }
+    let pairs = accepted();
+    for (model, certificate) in &pairs {
+        assert_eq!(judge(model, certificate, 64).1.len(), usize::from(model[2]));
+        every_length(|length| judge(model, certificate, length), 10, &[64, 65, 255, 256, 257]);
+        every_length(|length| reduce(model, certificate, length), 23, &[model.len() + 1]);
+    }
+    let half = filled(32).0.bytes();
+    let small = || pairs.iter().map(|(model, _)| model).filter(|model| model[2] <= 32 && model.len() < 1000);
+    for (first, second) in small().zip(small().rev()).chain([(&half, &half)]) {
+        assert_eq!(join(first, second, MODEL).1.len(), first.len() + second.len() - 8); // one head and one mark of labels less
+        every_length(|length| join(first, second, length), 26, &[MODEL, MODEL + 1]);
     }
 }
 
@@ -37,6 +47,14 @@ fn a_refusal_writes_nothing_whatever_the_length() {
         }
     }
     assert!(refused > 10_000);
+    let mut refused = 0;
+    for v in requests("k1").into_iter().filter(|v| v.call == "join" && matches!(v.answer.number, 1..=25)) {
+        for length in 0..=66 {
+            assert_eq!(join(&v.files[0], &v.files[1], length).0, v.answer);
+            refused += 1;
+        }
+    }
+    assert!(refused > 5_000);
 }
 
 #[test]
@@ -56,9 +74,24 @@ fn null_pointers_at_length_0() {
         assert_eq!(zolkirta_reduce(null(), 0, null(), 0, null_mut(), 0), reduce(&[], &[], 0).0);
         assert_eq!(zolkirta_reduce(m, m_length, null(), 0, b, 64), reduce(model, &[], 64).0);
         assert_eq!(zolkirta_reduce(m, m_length, c, c_length, null_mut(), 0), reduce(model, certificate, 0).0);
+        assert_eq!(zolkirta_join(null(), 0, null(), 0, null_mut(), 0), join(&[], &[], 0).0);
+        assert_eq!(zolkirta_join(null(), 0, m, m_length, b, 64), join(&[], model, 64).0);
+        assert_eq!(zolkirta_join(m, m_length, null(), 0, b, 64), join(model, &[], 64).0);
+        assert_eq!(zolkirta_join(m, m_length, m, m_length, null_mut(), 0), join(model, model, 0).0);
+        assert_eq!(zolkirta_alike(null(), 0, 1, null(), 0, 0, 1), alike(&[], &[], [1, 0, 1]));
+        assert_eq!(zolkirta_alike(m, m_length, 1, null(), 0, 0, 1), alike(model, &[], [1, 0, 1]));
+        assert_eq!(zolkirta_alike(null(), 0, 1, c, c_length, 0, 1), alike(&[], certificate, [1, 0, 1]));
     }
     assert_eq!(blocks, [7; 64]);
-    assert_eq!([judge(model, certificate, 0).0.number, reduce(model, certificate, 0).0.number], [10, 23]);
+    let lent = [judge(model, certificate, 0).0, reduce(model, certificate, 0).0, join(model, model, 0).0, join(model, &[], 64).0];
+    assert_eq!(lent.map(|answer| (answer.number, answer.file)), [(10, 0), (23, 0), (26, 0), (1, 3)]);
+}
+
+/// Numbers below 66, and those that are one of them in their lowest bits.
+fn every_size() -> impl Iterator<Item = u32> {
+    let low = 0..66;
+    let wide = low.clone().flat_map(|state| [8, 16, 24, 31].map(|bit| state + (1 << bit)));
+    low.chain([127, 128, 255, 65_535, u32::MAX]).chain(wide)
 }
 
 #[test]
@@ -68,11 +101,27 @@ fn states_of_every_size() {
     models.sort();
     models.dedup();
     for model in models {
-        let low = 0..66;
-        let wide = low.clone().flat_map(|state| [8, 16, 24, 31].map(|bit| state + (1 << bit)));
-        for state in low.chain([127, 128, 255, 65_535, u32::MAX]).chain(wide) {
+        for state in every_size() {
             let answer = fetch(&model, state);
             assert_eq!(answer.number == 24, answer.file == 0 && state >= model[2].into());
+        }
+    }
+}
+
+#[test]
+fn parts_and_states_of_every_size() {
+    let small = accepted().into_iter().filter(|(_, certificate)| certificate.len() < 500);
+    for (model, certificate) in small.chain([bytes(largest())]) {
+        let n = u32::from(model[2]);
+        let in_parts = [n / 2, 0, n - 1];
+        let each = every_size().flat_map(|x| [0, 1, 2].map(|i| (i, x)));
+        let one_changed = each.map(|(i, x)| std::array::from_fn(|j| if i == j { x } else { in_parts[j] }));
+        let edges = [0, 1, n - 1, n, n + 1, 256, u32::MAX];
+        let all_changed = (0..343).map(|i| [edges[i / 49], edges[i / 7 % 7], edges[i % 7]]);
+        for [count, s, t] in one_changed.chain(all_changed) {
+            let said = alike(&model, &certificate, [count, s, t]);
+            let parted = count <= n && s < count && (count..n).contains(&t);
+            assert_eq!(said.answer.number, if parted { 0 } else { 27 });
         }
     }
 }
@@ -111,7 +160,7 @@ fn long_certificates() {
 fn long_models() {
     let mut counts = Counts::default();
     let largest = largest().0.bytes();
-    assert_eq!(largest.len(), zolkirta::MODEL);
+    assert_eq!(largest.len(), MODEL);
     assert_eq!(fetch(&largest, 63).stretch_length, 4 * 19);
     for more in [1, 65_535, 300_000] {
         let long = [&largest[..], &vec![0; more]].concat();

@@ -5,7 +5,7 @@ mod plain;
 mod records;
 
 use compare::{accepted, judge, rounds, vectors, Counts, Numbers};
-use records::{damaged, respelled};
+use records::{crowded, damaged, respelled};
 use std::collections::BTreeSet;
 
 /// Sends every truncation of both files of these pairs through.
@@ -67,17 +67,6 @@ fn respelled_certificates_name_the_same_blocks() {
             assert_eq!((answer.number, &same), (0, &blocks));
         }
     }
-}
-
-/// 64 states, each a block, and 1,024 entries, 40 of them alone in their transition: one of these doubled is one entry too many.
-fn crowded() -> (Vec<u8>, Vec<u8>) {
-    let sizes = [vec![1; 40], vec![8; 27], vec![64; 12]].concat();
-    let mut model = [&b"PA\x40\x01\0\x4fLB"[..], &(0..64).collect::<Vec<u8>>()].concat();
-    for (size, source) in sizes.into_iter().zip(0..) {
-        model.extend([b'T', b'R', source / 2, 0, 0, size, size]);
-        model.extend((0..size).flat_map(|state| [state, 0, 1]));
-    }
-    (model, [&b"CT\0\0BK"[..], &(0..64).collect::<Vec<u8>>()].concat())
 }
 
 #[test]

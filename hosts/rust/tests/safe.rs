@@ -2,8 +2,8 @@
 mod compare;
 mod plain;
 
-use compare::{accepted, fetch, judge, reduce, vectors, Counts, Numbers};
-use plain::Answer;
+use compare::{accepted, alike, fetch, join, judge, reduce, requests, vectors, Counts, Numbers};
+use plain::{AlikeAnswer, Answer};
 use zolkirta::{File, Refusal};
 
 /// The slice lies in this file from this place on: the same bytes at the same address.
@@ -12,11 +12,13 @@ fn same_bytes(slice: &[u8], file: &[u8], from: usize, length: usize) {
     assert!(length == 0 || std::ptr::eq(slice, &file[from..from + length]));
 }
 
-fn same_refusal(refusal: Refusal, answer: Answer, model: &[u8], certificate: &[u8]) {
+/// The refusal of a call with a model and another file is what the answer says.
+fn same_refusal(refusal: Refusal, answer: Answer, model: &[u8], other: &[u8]) {
     let (file, name, bytes) = match answer.file {
         0 => (None, "", &[][..]),
         1 => (Some(File::Model), "model", model),
-        _ => (Some(File::Certificate), "certificate", certificate),
+        2 => (Some(File::Certificate), "certificate", other),
+        _ => (Some(File::SecondModel), "second model", other),
     };
     assert_eq!((refusal.number, refusal.file, refusal.place), (answer.number, file, answer.place));
     same_bytes(refusal.stretch, bytes, answer.stretch_start, answer.stretch_length);
@@ -26,21 +28,35 @@ fn same_refusal(refusal: Refusal, answer: Answer, model: &[u8], certificate: &[u
 
 type Call = for<'a, 'b> fn(&'a [u8], &'a [u8], &'b mut [u8]) -> Result<&'b [u8], Refusal<'a>>;
 
-/// Makes a safe call that lends a buffer and compares it with the answer of the raw one.
-fn same_lent(call: Call, told: (Answer, Vec<u8>), model: &[u8], certificate: &[u8], length: usize) {
+/// Makes a safe call that lends a buffer and compares it with the answer of the raw one, which it hands back.
+fn same_lent(call: Call, told: (Answer, Vec<u8>), model: &[u8], other: &[u8], length: usize) -> (Answer, Vec<u8>) {
     let mut buffer = vec![0x3c; length];
     let start = buffer.as_ptr();
-    match call(model, certificate, &mut buffer) {
+    match call(model, other, &mut buffer) {
         Ok(written) => {
             assert!(told.0.number == 0 && written == told.1 && written.as_ptr() == start);
             let size = written.len();
             assert!(buffer[size..].iter().all(|&byte| byte == 0x3c));
         }
         Err(refusal) => {
-            same_refusal(refusal, told.0, model, certificate);
+            same_refusal(refusal, told.0, model, other);
             assert!(buffer.iter().all(|&byte| byte == 0x3c));
         }
     }
+    told
+}
+
+fn same_join(first: &[u8], second: &[u8], length: usize) -> (Answer, Vec<u8>) {
+    same_lent(zolkirta::join, join(first, second, length), first, second, length)
+}
+
+fn same_alike(model: &[u8], certificate: &[u8], [count, s, t]: [u32; 3]) -> AlikeAnswer {
+    let said = alike(model, certificate, [count, s, t]);
+    match zolkirta::alike(model, count, certificate, s, t) {
+        Ok(yes) => assert_eq!((said.answer.number, said.alike), (0, yes.into())),
+        Err(refusal) => same_refusal(refusal, said.answer, model, certificate),
+    }
+    said
 }
 
 fn same(counts: &mut Counts, model: &[u8], certificate: &[u8], state: u32, blocks: usize, out: usize) {
@@ -52,12 +68,8 @@ fn same(counts: &mut Counts, model: &[u8], certificate: &[u8], state: u32, block
         }
         Err(refusal) => same_refusal(refusal, answer, model, &[]),
     }
-    let judged = judge(model, certificate, blocks);
-    counts.count(judged.0);
-    same_lent(zolkirta::judge, judged, model, certificate, blocks);
-    let reduced = reduce(model, certificate, out);
-    counts.count(reduced.0);
-    same_lent(zolkirta::reduce, reduced, model, certificate, out);
+    counts.count(same_lent(zolkirta::judge, judge(model, certificate, blocks), model, certificate, blocks).0);
+    counts.count(same_lent(zolkirta::reduce, reduce(model, certificate, out), model, certificate, out).0);
 }
 
 #[test]
@@ -78,6 +90,13 @@ fn safe_calls_say_what_the_raw_ones_say() {
     for (number, count) in counts.answers.iter().enumerate() {
         assert!(*count > 0, "no safe call was answered with {number}");
     }
+}
+
+#[test]
+fn safe_joins_and_comparisons_say_what_the_raw_ones_say() {
+    let all = requests("k1");
+    all.iter().for_each(|v| v.holds_for(same_join, same_alike));
+    assert!((1..=3).all(|file| all.iter().any(|v| v.answer.file == file)));
 }
 
 #[test]

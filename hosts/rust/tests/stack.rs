@@ -4,24 +4,27 @@ mod maker;
 mod plain;
 
 use compare::{accepted, Counts};
-use maker::families::{bytes, flow_heavy, internal_chain, largest, one_source, refutation_heavy};
+use maker::families::{bytes, filled, flow_heavy, internal_chain, largest, one_source, refutation_heavy};
 use std::arch::asm;
-use zolkirta::raw::{zolkirta_fetch, zolkirta_judge, zolkirta_reduce, Answer};
+use zolkirta::raw::{zolkirta_alike, zolkirta_fetch, zolkirta_join, zolkirta_judge, zolkirta_reduce, AlikeAnswer};
 
 /// Several times what a call uses.
 #[repr(align(16))]
 struct Stack([u8; 1 << 16]);
 
 /// The words that a call takes, in the order of the System V calling convention: after the place of its answer five in registers and
-/// the sixth on the stack. A call that takes fewer looks at no others.
-type Words = [usize; 6];
+/// two on the stack. A call that takes fewer looks at no others.
+type Words = [usize; 7];
 
 /// Makes a call on a stack painted with a byte, and hands back how many bytes it touched, its return address among them.
 fn touched(call: *const (), words: Words, paint: u8) -> usize {
     let mut stack = Box::new(Stack([paint; 1 << 16]));
     let start = stack.0.len() - 16;
     stack.0[start..start + 8].copy_from_slice(&words[5].to_ne_bytes());
-    let mut answer = Answer { number: u32::MAX, ..Answer::default() };
+    stack.0[start + 8..].copy_from_slice(&words[6].to_ne_bytes());
+    // The longest answer; the others are its beginning.
+    let mut said = AlikeAnswer::default();
+    said.answer.number = u32::MAX;
     // SAFETY: the call is one of the library's, with words that it takes. r12, which it preserves, keeps the test's stack pointer.
     unsafe {
         asm!(
@@ -30,7 +33,7 @@ fn touched(call: *const (), words: Words, paint: u8) -> usize {
             "mov rsp, r12",
             call = in(reg) call,
             inout("r12") stack.0.as_mut_ptr().add(start) => _,
-            in("rdi") &mut answer,
+            in("rdi") &mut said,
             in("rsi") words[0],
             in("rdx") words[1],
             in("rcx") words[2],
@@ -39,7 +42,7 @@ fn touched(call: *const (), words: Words, paint: u8) -> usize {
             clobber_abi("C"),
         );
     }
-    assert_eq!(answer.number, 0);
+    assert_eq!(said.answer.number, 0);
     start - stack.0.iter().take_while(|&&byte| byte == paint).count()
 }
 
@@ -61,23 +64,32 @@ fn calls_use_the_stack_that_the_header_states() {
     for (model, certificate) in &pairs {
         assert_eq!(Counts::default().pair(model, certificate).number, 0);
     }
+    let half = filled(32).0.bytes();
+    let joins = [(half.clone(), half)];
     let mut buffer = vec![0u8; 8192];
-    let calls = [
-        ("zolkirta_fetch", zolkirta_fetch as *const ()),
-        ("zolkirta_judge", zolkirta_judge as *const ()),
-        ("zolkirta_reduce", zolkirta_reduce as *const ()),
+    let [lent, room] = [buffer.as_mut_ptr() as usize, buffer.len()];
+    let words = |file: &Vec<u8>| (file.as_ptr() as usize, file.len());
+    let lending = |(one, other): &(Vec<u8>, Vec<u8>)| -> Words {
+        let ((one, size), (other, other_size)) = (words(one), words(other));
+        [one, size, other, other_size, lent, room, 0]
+    };
+    // State 0 is fetched, and compared with the last one.
+    let fetching = |(model, _): &(Vec<u8>, Vec<u8>)| -> Words { [words(model).0, words(model).1, 0, 0, 0, 0, 0] };
+    let comparing = |(model, certificate): &(Vec<u8>, Vec<u8>)| -> Words {
+        let last = usize::from(model[2]) - 1;
+        [words(model).0, words(model).1, last, words(certificate).0, words(certificate).1, 0, last]
+    };
+    let several_states = pairs.iter().filter(|(model, _)| model[2] > 1);
+    let calls: [(&str, *const (), Vec<Words>); 5] = [
+        ("zolkirta_fetch", zolkirta_fetch as *const (), pairs.iter().map(fetching).collect()),
+        ("zolkirta_judge", zolkirta_judge as *const (), pairs.iter().map(lending).collect()),
+        ("zolkirta_reduce", zolkirta_reduce as *const (), pairs.iter().map(lending).collect()),
+        ("zolkirta_join", zolkirta_join as *const (), joins.iter().map(lending).collect()),
+        ("zolkirta_alike", zolkirta_alike as *const (), several_states.map(comparing).collect()),
     ];
-    for (name, call) in calls {
-        let mut used = 0;
-        for (model, certificate) in &pairs {
-            let mut words = [model.as_ptr() as usize, model.len(), 0, 0, 0, 0]; // fetches state 0
-            if name != "zolkirta_fetch" {
-                let lent = buffer.as_mut_ptr() as usize;
-                words[2..].copy_from_slice(&[certificate.as_ptr() as usize, certificate.len(), lent, buffer.len()]);
-            }
-            // A byte that is written in the colour of one paint shows in the other.
-            used = used.max(touched(call, words, 0xa5)).max(touched(call, words, 0x5a));
-        }
+    for (name, call, asked) in calls {
+        // A byte that is written in the colour of one paint shows in the other.
+        let used = asked.into_iter().flat_map(|words| [0xa5, 0x5a].map(|paint| touched(call, words, paint))).max().unwrap();
         let stated = stated(name);
         println!("{name}: {used} bytes of stack used, {stated} stated");
         assert!(used <= stated, "{name} uses {used} bytes of stack, more than the {stated} that include/zolkirta.h states");

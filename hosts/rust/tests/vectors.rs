@@ -2,7 +2,7 @@
 mod compare;
 mod plain;
 
-use compare::{fetch, judge, reduce, vectors};
+use compare::{alike, fetch, join, judge, reduce, requests, vectors};
 
 #[test]
 fn vectors_get_their_answers() {
@@ -27,4 +27,11 @@ fn vectors_get_their_answers() {
     }
     println!("vectors: {fetches} fetch, {judges} judge, {reduces} reduce");
     assert!(fetches > 100 && judges > 400 && reduces > 100);
+}
+
+#[test]
+fn joins_and_comparisons_get_their_answers() {
+    let all = requests("k1");
+    all.iter().for_each(|v| v.holds_for(join, alike));
+    assert!(["join", "alike"].iter().all(|call| all.iter().filter(|v| v.call == *call).count() > 150));
 }

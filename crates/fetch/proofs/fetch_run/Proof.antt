@@ -2,15 +2,12 @@
 use Rattle.rules.specs.definitions.SoundModel.{Bytes}
 use Rattle.rules.specs.definitions.Bytes.{byteAt}
 use Rattle.transition.specs.KnownLaws.{known, known-own, few-states}
-use Rattle.model.specs.Scanned.{scanOf, PlacesOf}
+use Rattle.model.specs.Scanned.{scanOf, PlacesOf, head-refused}
 use Rattle.model.specs.declared.Scanned.{Scanned}
 use Rattle.rules.specs.argument.AnswerLaws.{fetch-refused, fetch-no-state, fetch-runs}
-use Rattle.rules.specs.argument.ReadingLaws.{head-stops}
 use Rattle.rules.specs.definitions.Answers.{runAnswer}
 use Rattle.rules.specs.definitions.Limits.{limits}
 use Rattle.rules.specs.definitions.Faults.{Fault}
-use Rattle.rules.specs.definitions.Reading.{refused}
-use Rattle.fault.specs.Faults.{faultOf}
 use denote.Ref.{now}
 use mathlib.Core.Path.{sym, _∙_, ap, ap₂, subst}
 use native.Mathlib.Omega.{arith}
@@ -23,7 +20,8 @@ head-fault-requires c κs = search needs
 
 returns : tie.Need-returns
 returns c =
-    let s = now (c .before .before .before .before .args .s) in fetch-refused limits s _ _ _ (ap (refused (faultOf (c .before .before .head-fault .result))) (c .before .before .head-fault .ensures .at) ∙ head-stops limits s (c .before .before .head-fault .ensures .is) (c .if1 .taken))
+    let head = c .before .before in
+    fetch-refused limits _ _ _ _ (head-refused _ (head .head-fault .result) (head .head-fault .ensures) (c .if1 .taken))
 
 no-places-requires : tie.Need-no-places-requires
 no-places-requires c κs = search needs

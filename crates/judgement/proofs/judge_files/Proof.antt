@@ -2,8 +2,9 @@
 use native.Mathlib.Omega.{arith}
 use Rattle.rules.specs.definitions.Bytes.{byteAt}
 use Rattle.rules.specs.definitions.SoundModel.{Bytes}
+use Rattle.transition.specs.ModelRead.{sound-known, refused-told}
 use Rattle.answer.specs.AnsweredLaws.{refusal-as}
-use Rattle.judgement.specs.VerdictLaws.{refused-as, sound-known, refused-told}
+use Rattle.judgement.specs.VerdictLaws.{refused-as}
 use borrow.Author.Needs.{needs}
 use Rattle.judgement.proofs.judge_files.Statement.{statement}
 use Rattle.judgement.proofs.judge_files.Tie as tie

@@ -1,8 +1,8 @@
 -- `write_merged` meets its contract: the fixed fields are those of the transition, and the entries those of the blocks with a weight.
 use native.Mathlib.Omega.{arith}
 use mathlib.Core.Path.{_∙_}
-use Rattle.transition.specs.KnownLaws.{few-states}
-use Rattle.merged_transition.specs.MergedTransitionLaws.{action-small, merging-adds, count-small, merging-writes, merged-done}
+use Rattle.transition.specs.KnownLaws.{few-states, fields-small}
+use Rattle.merged_transition.specs.MergedTransitionLaws.{merging-adds, count-small, merging-writes, merged-done}
 use borrow.Author.Needs.{needs}
 use Rattle.merged_transition.proofs.write_merged.Statement.{statement}
 use Rattle.merged_transition.proofs.write_merged.Tie as tie
@@ -26,7 +26,7 @@ fixed-requires c κs =
     let m = at-fields .before .before .before .before .pre in
     let t = at-fields .fields-of .ensures in
     let few = count-small m (at-add .add-weights .ensures) (c .before .some-weights .ensures) in
-    (omega arith, omega (arith, t .from, few-states (m .transition .known)), omega (arith, action-small (m .transition) t), omega (arith, t .small, few), omega (arith, few))
+    (omega arith, omega (arith, t .from, few-states (m .transition .known)), omega (arith, fields-small (m .transition) t), omega (arith, t .small, few), omega (arith, few))
 
 write-entries-requires : tie.Need-write-entries-requires
 write-entries-requires c κs =

@@ -1,9 +1,10 @@
--- Laws of what a fetch answers.
+-- Laws of what a fetch answers, and of a call that writes a file.
 use Prim.Native.Nat.{ℕ, zero, suc, _+_, _-_, _≤_, _<_}
 use mathlib.Core.Path.{_≡_, refl, sym, _∙_, ap, subst}
 use mathlib.Core.Logic.{inl, inr, ⊎-elim}
 use mathlib.Core.List.{List}
 use lib.ListN.{length, length-take, length-drop}
+use native.Mathlib.Decide.{decLt}
 use native.Mathlib.Omega.{arith}
 use Rattle.bisimulation.specs.argument.ChoiceLaws.{via, less, notLess, eitherLess}
 use Rattle.rules.specs.definitions.Limits.{Limits}
@@ -11,7 +12,7 @@ use Rattle.rules.specs.definitions.Model.{Model}
 use Rattle.rules.specs.definitions.Faults.{Fault}
 use Rattle.rules.specs.definitions.Reading.{model, Scan, sound, refused, scanWhole, statesOf, countOf, modelAt, readingOf, readWhole, placeOf, sourceAt, firstNotBelow, runFirst, runPast, runStart, runEnd}
 use Rattle.rules.specs.argument.ReadingLaws.{Sound, Tells, whole-tells}
-use Rattle.rules.specs.definitions.Answers.{Answer, refusalIn, answerWithoutPlace, runAnswer, fetchReading, fetchAnswer, FetchNumber}
+use Rattle.rules.specs.definitions.Answers.{Answer, refusalIn, answerWithoutPlace, runAnswer, fetchReading, fetchAnswer, Outcome, unwritten, filled, fileOutcome, FetchNumber}
 
 -- the labels of a sound model are n
 pub labels-length : (s : List ℕ) → 8 + statesOf s ≤ length s → length (modelAt s .labels) ≡ statesOf s
@@ -126,3 +127,30 @@ read-states L s {N} {end} e = go (scanWhole L s) (whole-tells L s) e
         let same : modelAt s ≡ N = cc in
         ap (λ (x : Model). length (x .labels)) (sym same) ∙ labels-length s (omega (arith, t .states, t .labels))
     go (refused f place) t q = let z : _≡_ {A = ℕ} 0 1 = cc in absurd (omega arith)
+
+-- a file is written, or there is no room for it
+module _ (short : ℕ) (file buffer : List ℕ) where
+  pub file-short : length buffer < length file → unwritten (answerWithoutPlace short 0) buffer ≡ fileOutcome short file buffer
+  unfolding fileOutcome
+  file-short h = less _ h refl
+
+  pub file-whole : length file ≤ length buffer → filled file buffer ≡ fileOutcome short file buffer
+  unfolding fileOutcome
+  file-whole h = notLess _ h refl
+
+  -- it answers 0 or that number, and writes on 0 alone
+  pub file-number {κ} : (P : ℕ → Type κ) → P 0 → P short → P (fileOutcome short file buffer .answer .number)
+  unfolding fileOutcome unwritten filled answerWithoutPlace
+  file-number P z s = eitherLess (λ (o : Outcome). P (o .answer .number)) (length buffer) (length file) s z
+
+  pub file-unwritten : (fileOutcome short file buffer .answer .number ≡ 0 → ⊥) → fileOutcome short file buffer .buffer ≡ buffer
+  unfolding fileOutcome unwritten filled answerWithoutPlace
+  file-unwritten = eitherLess (λ (o : Outcome). (o .answer .number ≡ 0 → ⊥) → o .buffer ≡ buffer) (length buffer) (length file) (λ n. refl) (λ n. absurd (n refl))
+
+  pub file-fits : (short ≡ 0 → ⊥) → fileOutcome short file buffer .answer .number ≡ 0 → length file ≤ length buffer
+  unfolding unwritten answerWithoutPlace
+  file-fits some z = go (decLt (length buffer) (length file))
+    where
+      go : Dec (length buffer < length file) → length file ≤ length buffer
+      go (yes h) = absurd (some (ap (λ (o : Outcome). o .answer .number) (file-short h) ∙ z))
+      go (no h) = omega arith

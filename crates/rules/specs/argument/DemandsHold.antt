@@ -6,16 +6,17 @@ use mathlib.Core.List.{List, _++_}
 use lib.ListN.{length, take, drop}
 use lib.Seq.{take-append-seam}
 use native.Mathlib.Omega.{arith}
-use Rattle.bisimulation.specs.argument.ChoiceLaws.{eitherLess}
 use Rattle.rules.specs.definitions.Model.{Model, automatonOf}
 use Rattle.rules.specs.definitions.JudgedBy.{plainPairs}
 use Rattle.rules.specs.definitions.SoundModel.{Bytes}
 use Rattle.rules.specs.definitions.Judging.{accepted, NameSameBlocks}
 use Rattle.rules.specs.argument.AnyRule.{PairRules, RefusalOf, pairsOf}
-use Rattle.rules.specs.definitions.Answers.{Outcome, answerWithoutPlace, unwritten, filled, Follows, writesBlocks, mergedOutcome, writesMerged, JudgeNumber, ReduceNumber}
+use Rattle.rules.specs.definitions.Answers.{Outcome, answerWithoutPlace, filled, Follows, writesBlocks, writesMerged, JudgeNumber, ReduceNumber}
 use Rattle.rules.specs.definitions.Demand3.{HoldsModel, LargestBlocks}
 use Rattle.rules.specs.definitions.Demands.{AcceptedBy, KeepsRulesOn, LargestOf, outcomeBy, Accepting, Demands}
 use Rattle.rules.specs.argument.AnyRule.{AnyCertificateNumber}
+use Rattle.rules.specs.definitions.Quotient.{mergedFile}
+use Rattle.rules.specs.argument.AnswerLaws.{file-number, file-unwritten}
 use Rattle.rules.specs.argument.AcceptedExactly.{AcceptedAs, accepted-exactly}
 use Rattle.rules.specs.argument.Demand3Holds.{itself, holds, one-model, holds-read, demand3, largest-of}
 use Rattle.rules.specs.argument.PairOutcome.{FollowsLaws, Followed, outcome-number, outcome-unwritten, outcome-found, outcome-followed}
@@ -95,11 +96,11 @@ blocks-follow =
     }
 
 pub merged-follow : FollowsLaws plainRules writesMerged
-unfolding mergedOutcome unwritten filled answerWithoutPlace Accepting RefusalOf AnyCertificateNumber PlainNumber ModelNumber
+unfolding Accepting RefusalOf AnyCertificateNumber PlainNumber ModelNumber
 merged-follow =
     record {
-      numbered = λ N blocks buffer. eitherLess (λ (o : Outcome). (o .answer .number ≡ 0) ⊎ (o .answer .number ≡ 23)) _ _ (inr refl) (inl refl);
-      unwritten = λ N blocks buffer. eitherLess (λ (o : Outcome). (o .answer .number ≡ 0 → ⊥) → o .buffer ≡ buffer) _ _ (λ n. refl) (λ n. absurd (n refl));
+      numbered = λ N blocks buffer. file-number 23 (mergedFile N blocks) buffer (λ (k : ℕ). (k ≡ 0) ⊎ (k ≡ 23)) (inl refl) (inr refl);
+      unwritten = λ N blocks buffer. file-unwritten 23 (mergedFile N blocks) buffer;
       late = λ k h n z.
           ⊎-elim (λ x. omega (arith, x, z))
           (λ y. ⊎-elim (λ x. ⊎-elim (λ w. omega (arith, w, z)) (λ w. ⊎-elim (λ v. omega (arith, v, z)) (λ v. omega (arith, v, z)) w) x) (λ x. ⊎-elim (λ w. omega (arith, w, z)) (λ w. omega (arith, w, z)) x) y)

@@ -154,7 +154,7 @@ module _ (L : Limits) (s : List ℕ) (rules : SoundModel L (modelAt s)) (inside 
   unfolding headBytes labelsBytes twoBytes
   size-before = length-append (headBytes (modelAt s)) (labelsBytes (modelAt s)) ∙ omega (arith, labels-length s inside)
 
-  before-records : drop (8 + statesOf s) s ≡ transitionsBytes (transitionsAt s (countOf s) (8 + statesOf s))
+  pub before-records : drop (8 + statesOf s) s ≡ transitionsBytes (transitionsAt s (countOf s) (8 + statesOf s))
   unfolding modelBytes modelAt
   before-records =
       ap (drop (8 + statesOf s)) bytes

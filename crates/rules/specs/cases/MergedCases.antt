@@ -20,7 +20,7 @@ use Rattle.rules.specs.definitions.Quotient.{blockCount, labelOfBlock, b
 use Rattle.rules.specs.definitions.SoundModel.{Each}
 use Rattle.rules.specs.cases.Cases.{modelS, certificateS}
 use Rattle.rules.specs.cases.MoreCases.{OutcomeCase, outcomeOf}
-use Rattle.rules.specs.definitions.Answers.{refusalIn, answerWithoutPlace, fileOf, judgementAnswer, unwritten, filled, judgedOutcome, readOutcome, pairOutcome, mergedOutcome, writesMerged}
+use Rattle.rules.specs.definitions.Answers.{refusalIn, answerWithoutPlace, fileOf, judgementAnswer, unwritten, filled, judgedOutcome, readOutcome, pairOutcome, fileOutcome, writesMerged}
 
 -- S merged: states 0 and 1 are one
 unfoldable pub mergedS : List ℕ
@@ -70,5 +70,5 @@ fourMerged =
     ∷ 0x54 ∷ 0x52 ∷ 1 ∷ 1 ∷ 0 ∷ 2 ∷ 1 ∷ 1 ∷ 0 ∷ 2 ∷ []
 
 pub merged-cases : (mergedFile fourStates (0 ∷ 1 ∷ 0 ∷ 1 ∷ []) ≡ fourMerged) × Each (λ (c : OutcomeCase). pairOutcome limits (readWhole limits) plainRule writesMerged modelS (c .certificate) (c .before) ≡ c .expected) reduceCases
-unfolding ifLess ifSame ifTrue allBelow sum sumℤ arriving leaving overTargets overSources beforeMove afterMove internalMove atTarget priceAt priceOfTargets byteAt twoAt threeAt fourAt signedAt weightOf automatonOf openFault statesOf actionsOf countOf rangeFault headFault labelFault labelsFault sourceAt actionAt denominatorAt entryCountAt afterTransition fixedFault fixedFaultAt entriesFault transitionFault refuseAt scanTransitions scanModel refuseBytesLeft scanWhole entriesAt transitionAt transitionsAt modelAt readingOf readWhole firstOf both equalLabels isPair removed refutationCount certificateHeadFault challengerAt defenderAt pricesAt afterRefutation pairFault refutationFault pairsAfter blocksAt numberedFault sameBlock agree pairsFault blocksFault kCountAt afterK wCountAt afterFlow kOf wOf flowAt kFault wFault flowFault byKind plainPriceCount priceCondition allWithAction allRelated below internalPricesFault externalPricesFault plainPricesFault plainInQuestion allHold internalEquationsFault externalEquationsFault plainEquationsFault rejectAt questionsOfPair questionsOfState questionsFrom questions judgeFlows judgeBlocks judgeRefutations judgeCertificate judgeReading judge modelS certificateS refusalIn answerWithoutPlace fileOf judgementAnswer unwritten filled judgedOutcome readOutcome pairOutcome Each twoBytes headBytes labelsBytes entriesBytes transitionBytes transitionsBytes modelBytes blockCount labelOfBlock blockLabels weightToBlock blockEntries mergedTransition fromBlock sameEntries sameTransition isAmong distinct byBlock quotient mergedFile mergedOutcome mergedS reduceCases fourStates fourMerged
+unfolding ifLess ifSame ifTrue allBelow sum sumℤ arriving leaving overTargets overSources beforeMove afterMove internalMove atTarget priceAt priceOfTargets byteAt twoAt threeAt fourAt signedAt weightOf automatonOf openFault statesOf actionsOf countOf rangeFault headFault labelFault labelsFault sourceAt actionAt denominatorAt entryCountAt afterTransition fixedFault fixedFaultAt entriesFault transitionFault refuseAt scanTransitions scanModel refuseBytesLeft scanWhole entriesAt transitionAt transitionsAt modelAt readingOf readWhole firstOf both equalLabels isPair removed refutationCount certificateHeadFault challengerAt defenderAt pricesAt afterRefutation pairFault refutationFault pairsAfter blocksAt numberedFault sameBlock agree pairsFault blocksFault kCountAt afterK wCountAt afterFlow kOf wOf flowAt kFault wFault flowFault byKind plainPriceCount priceCondition allWithAction allRelated below internalPricesFault externalPricesFault plainPricesFault plainInQuestion allHold internalEquationsFault externalEquationsFault plainEquationsFault rejectAt questionsOfPair questionsOfState questionsFrom questions judgeFlows judgeBlocks judgeRefutations judgeCertificate judgeReading judge modelS certificateS refusalIn answerWithoutPlace fileOf judgementAnswer unwritten filled judgedOutcome readOutcome pairOutcome Each twoBytes headBytes labelsBytes entriesBytes transitionBytes transitionsBytes modelBytes blockCount labelOfBlock blockLabels weightToBlock blockEntries mergedTransition fromBlock sameEntries sameTransition isAmong distinct byBlock quotient mergedFile fileOutcome mergedS reduceCases fourStates fourMerged
 merged-cases = (refl, (refl, (refl, (refl, (refl, tt)))))

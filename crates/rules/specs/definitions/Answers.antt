@@ -13,7 +13,7 @@ use Rattle.rules.specs.definitions.Certificate.{FileRule}
 use Rattle.rules.specs.definitions.Judging.{Judgement, accepted, rejected, Reader, judge}
 use Rattle.rules.specs.definitions.Quotient.{mergedFile}
 
--- 'its number, the file (1 model, 2 certificate) and the byte place'; the stretch, or the run of a fetch, by where it starts and how
+-- 'its number, the file (1 model, 2 certificate) and the byte place', file 3 being a second model; the stretch, or the run of a fetch, by where it starts and how
 -- long it is in its file; and how many bytes were written into the lent buffer
 pub record Answer : Type 0 where
   pub number : ℕ
@@ -38,7 +38,8 @@ unfoldable pub scanAnswer : ℕ → Scan → Answer
 scanAnswer size (sound n m count end) = answerWithoutPlace 0 0
 scanAnswer size (refused f place) = refusalIn f 1 place size
 
--- a file by its number, 'the file (1 model, 2 certificate)', of the files that a call was given; the first where an answer names none
+-- a file by its number, 'the file (1 model, 2 certificate)', 3 for a second model, of the files that a call was given; the first where an
+-- answer names none
 unfoldable pub fileOf : List (List ℕ) → ℕ → List ℕ
 fileOf files k = getD files (k - 1) []
 
@@ -51,7 +52,7 @@ judgementAnswer files (rejected f file place) = refusalIn f file place (length (
 unfoldable pub stretchIn : List ℕ → Answer → List ℕ
 stretchIn s a = take (a .stretchLength) (drop (a .stretchStart) s)
 
--- 'The stretch handed back lies in the model or in the certificate'
+-- 'The stretch handed back lies in the model or in the certificate'; 'a fault in a file 3 has its stretch in that file'
 unfoldable pub stretchOf : List (List ℕ) → Answer → List ℕ
 stretchOf files a = stretchIn (fileOf files (a .file)) a
 
@@ -77,7 +78,7 @@ pub record Outcome : Type 0 where
   pub answer : Answer
   pub buffer : List ℕ
 
--- 'A refusal writes no byte of any lent buffer'
+-- nothing is written: 'A refusal writes no byte of any lent buffer', and a call may lend none
 unfoldable pub unwritten : Answer → List ℕ → Outcome
 unwritten a buffer = record { answer = a; buffer = buffer }
 
@@ -113,13 +114,13 @@ pairOutcome L read rule follows M C buffer = readOutcome follows M C buffer (rea
 abbrev pub writesBlocks : Follows
 writesBlocks = record { blockRoom = λ N. length (N .labels); outcome = λ N blocks buffer. filled blocks buffer; late = 0 }
 
--- 'merged model': 23, 'buffer shorter than the file'; else the file is written
-unfoldable pub mergedOutcome : (file buffer : List ℕ) → Outcome
-mergedOutcome file buffer = ifLess (length buffer) (length file) (unwritten (answerWithoutPlace 23 0) buffer) (filled file buffer)
+-- 'buffer shorter than the file', with the number that the call has for it; else the file is written
+unfoldable pub fileOutcome : (short : ℕ) → (file buffer : List ℕ) → Outcome
+fileOutcome short file buffer = ifLess (length buffer) (length file) (unwritten (answerWithoutPlace short 0) buffer) (filled file buffer)
 
--- 'The call that writes it lends this buffer and no block buffer'
+-- 'merged model': 23. 'The call that writes it lends this buffer and no block buffer'
 abbrev pub writesMerged : Follows
-writesMerged = record { blockRoom = λ N. 0; outcome = λ N blocks buffer. mergedOutcome (mergedFile N blocks) buffer; late = 23 }
+writesMerged = record { blockRoom = λ N. 0; outcome = λ N blocks buffer. fileOutcome 23 (mergedFile N blocks) buffer; late = 23 }
 
 -- the numbers that document 01 gives for a fetch
 unfoldable pub FetchNumber : ℕ → Type 0

@@ -40,6 +40,10 @@ pub record TransitionRules (n m : ℕ) (t : Transition) : Type 0 where
   pub weights : Each (λ (e : Entry). 1 ≤ e .weight) (t .entries)
   pub whole : sumOver (λ (e : Entry). e .weight) (t .entries) ≡ t .denominator
 
+-- how many entries the transitions of a model have
+abbrev pub entryCount : Model → ℕ
+entryCount M = sumOver (λ (t : Transition). length (t .entries)) (M .transitions)
+
 -- the rows 'head' and 'labels'; each transition; 'Sources never descend along the file'; the most entries in a file
 pub record SoundModel (L : Limits) (M : Model) : Type 0 where
   pub someState : 1 ≤ length (M .labels)
@@ -50,7 +54,7 @@ pub record SoundModel (L : Limits) (M : Model) : Type 0 where
   pub labels : Each (λ (b : ℕ). b ≤ L .label) (M .labels)
   pub transitions : Each (TransitionRules (length (M .labels)) (M .actions)) (M .transitions)
   pub sources : Along (λ (t u : Transition). t .source ≤ u .source) (M .transitions)
-  pub entries : sumOver (λ (t : Transition). length (t .entries)) (M .transitions) ≤ L .entries
+  pub entries : entryCount M ≤ L .entries
 
 -- limits that the fields of a model's records have room for: n, m and labels 1 byte, the transition count 2
 pub record FitsWidths (L : Limits) : Type 0 where

@@ -10,7 +10,7 @@ mod plain;
 mod report;
 
 use compare::Numbers;
-use maker::families::{bytes, flow_heavy, largest, one_source, refutation_heavy};
+use maker::families::{bytes, filled, flow_heavy, largest, one_source, refutation_heavy};
 use maker::files::{Certificate, Model};
 use maker::random::random_model;
 use std::hint::black_box;
@@ -54,7 +54,7 @@ fn measured(length: Duration, mut library: impl FnMut() -> u32, mut plain: impl 
     least
 }
 
-/// Model and certificate.
+/// Model and certificate, or two models.
 type Files = (Vec<u8>, Vec<u8>);
 
 fn fetching(length: Duration, model: &[u8], state: u32) -> Times {
@@ -62,15 +62,14 @@ fn fetching(length: Duration, model: &[u8], state: u32) -> Times {
     measured(length, library, || plain::fetch(black_box(model), state).number)
 }
 
-/// The sum over the pairs of a judging or reducing call, with a buffer that is long enough.
+/// The sum over the pairs of a call that lends a buffer, one that is long enough.
 fn lending(length: Duration, library: raw::Lending, plain: compare::PlainLending, pairs: &[Files]) -> Times {
-    let longest = pairs.iter().map(|(model, _)| model.len()).max().unwrap().max(64);
-    let (mut lent, mut other) = (vec![0; longest], vec![0; longest]);
-    let mut proved = |(model, certificate): &Files| {
-        let (pa, ct) = (black_box(model), black_box(certificate));
-        unsafe { library(pa.as_ptr(), pa.len(), ct.as_ptr(), ct.len(), lent.as_mut_ptr(), lent.len()) }.number
+    let (mut lent, mut lent_plain) = (vec![0; zolkirta::MODEL], vec![0; zolkirta::MODEL]);
+    let mut proved = |(one, other): &Files| {
+        let (one, other) = (black_box(one), black_box(other));
+        unsafe { library(one.as_ptr(), one.len(), other.as_ptr(), other.len(), lent.as_mut_ptr(), lent.len()) }.number
     };
-    let mut by_hand = |(model, certificate): &Files| plain(black_box(model), black_box(certificate), &mut other).number;
+    let mut by_hand = |(one, other): &Files| plain(black_box(one), black_box(other), &mut lent_plain).number;
     measured(length, || pairs.iter().map(&mut proved).sum(), || pairs.iter().map(&mut by_hand).sum())
 }
 
@@ -80,6 +79,21 @@ fn judging(length: Duration, pairs: &[Files]) -> Times {
 
 fn reducing(length: Duration, pairs: &[Files]) -> Times {
     lending(length, raw::zolkirta_reduce, plain::reduce, pairs)
+}
+
+fn joining(length: Duration, pairs: &[Files]) -> Times {
+    lending(length, raw::zolkirta_join, plain::join, pairs)
+}
+
+/// State 0 compared with the last one.
+fn comparing(length: Duration, (model, certificate): &Files) -> Times {
+    let last = u32::from(model[2]) - 1;
+    let said = |said: raw::AlikeAnswer| said.answer.number + said.alike;
+    let library = || {
+        let (pa, ct) = (black_box(model), black_box(certificate));
+        said(unsafe { raw::zolkirta_alike(pa.as_ptr(), pa.len(), last, ct.as_ptr(), ct.len(), 0, last) })
+    };
+    measured(length, library, || said(plain::alike(black_box(model), last, black_box(certificate), 0, last)))
 }
 
 /// Accepted pairs of 1 to 10 states, always the same ones.
@@ -117,18 +131,22 @@ pub type Growth = (&'static str, Vec<(usize, Times)>);
 fn cases(random: &[Files]) -> Vec<Case> {
     let (length, no_slower, by_a_third) = (Duration::from_millis(400), 1.0, 2.0 / 3.0);
     let (largest, one_source) = (bytes(largest()), bytes(one_source()));
-    let (refutations, flows) = (bytes(refutation_heavy(64)), bytes(flow_heavy(64, 0)));
+    let (refutations, flows) = ([bytes(refutation_heavy(64))], [bytes(flow_heavy(64, 0))]);
+    let half = filled(32).0.bytes();
     let cut = (largest.0[..1].to_vec(), largest.1.clone());
     let case = |name, times, goal, reason| Case { name, times, goal, reason };
     vec![
         case("largest model read: fetch, 256 transitions, 1,024 entries; no state 64", fetching(length, &largest.0, 64), no_slower, ""),
         case("refusal at the first byte: judge, the model cut after it", judging(length, &[cut]), no_slower, ""),
-        case("refutation-heavy: judge, 64 states, 2,016 refutations of 192 prices", judging(length, &[refutations]), by_a_third, ""),
-        case("flow-heavy: judge, 64 states, 16,128 flows of one w entry", judging(length, &[flows.clone()]), by_a_third, ""),
+        case("refutation-heavy: judge, 64 states, 2,016 refutations of 192 prices", judging(length, &refutations), by_a_third, ""),
+        case("flow-heavy: judge, 64 states, 16,128 flows of one w entry", judging(length, &flows), by_a_third, ""),
         case("random accepted pairs: judge, 300 pairs of 1 to 10 states, sum", judging(length, random), no_slower, ""),
         case("reduce, the largest model, every state a block", reducing(length, &[largest]), no_slower, ""),
         case("reduce, 256 different transitions of one state", reducing(length, &[one_source]), no_slower, COMPARED),
-        case("reduce, flow-heavy", reducing(length, &[flows]), no_slower, ""),
+        case("reduce, flow-heavy", reducing(length, &flows), no_slower, ""),
+        case("join, two models of 32 states, 128 transitions, 512 entries", joining(length, &[(half.clone(), half)]), no_slower, ""),
+        case("alike, refutation-heavy: no", comparing(length, &refutations[0]), by_a_third, ""),
+        case("alike, flow-heavy: yes", comparing(length, &flows[0]), by_a_third, ""),
     ]
 }
 

@@ -76,9 +76,8 @@ pub fn page(tables: &str) -> String {
     format!(
         "# Benchmarks
 
-The static library beside a judge, reducer and reader written plainly in Rust from document 01 (`hosts/rust/tests/plain`), which the tests
-compare it with. `cd hosts/rust && cargo bench --offline` prints the tables; `cargo bench --offline -- --write` also writes this page and
-the picture.
+The static library beside the same calls written plainly in Rust from the documents (`hosts/rust/tests/plain`), which the tests compare it
+with. `cd hosts/rust && cargo bench --offline` prints the tables; `cargo bench --offline -- --write` also writes this page and the picture.
 
 Measured on {}, with {}, bench profile.
 Each of {PASSES} passes runs every case for 0.4 seconds and every size of the growth tables for 0.2, in rounds that alternate between the

@@ -1,7 +1,7 @@
 //! The library beside the plain judge: the same answer and the same bytes in every lent buffer and around it, or the pair in hex.
 #![allow(dead_code)] // each test file uses its own part
 
-use crate::plain::{self, Answer};
+use crate::plain::{self, AlikeAnswer, Answer};
 use std::fmt;
 use zolkirta::raw;
 
@@ -33,21 +33,20 @@ pub fn fetch(model: &[u8], state: u32) -> Answer {
 
 pub type PlainLending = fn(&[u8], &[u8], &mut [u8]) -> Answer;
 
-/// Calls both with a lent buffer of this length and compares answers, buffers and guard bytes. Hands back what was written.
-fn lent(name: &str, call: raw::Lending, plain_call: PlainLending, model: &[u8], certificate: &[u8], length: usize) -> (Answer, Vec<u8>) {
+/// Calls both with two files and a lent buffer of this length and compares answers, buffers and guard bytes. Hands back what was written.
+fn lent(name: &str, call: raw::Lending, plain_call: PlainLending, one: &[u8], other: &[u8], length: usize) -> (Answer, Vec<u8>) {
     let before: Vec<u8> = (0..length + 2 * GUARD).map(|i| (i * 89 + 165) as u8).collect();
     let (mut left, mut right) = (before.clone(), before.clone());
-    let library =
-        unsafe { call(model.as_ptr(), model.len(), certificate.as_ptr(), certificate.len(), left[GUARD..].as_mut_ptr(), length) };
-    let plain = plain_call(model, certificate, &mut right[GUARD..GUARD + length]);
+    let library = unsafe { call(one.as_ptr(), one.len(), other.as_ptr(), other.len(), left[GUARD..].as_mut_ptr(), length) };
+    let plain = plain_call(one, other, &mut right[GUARD..GUARD + length]);
     let silent = plain.number == 0 || right == before;
     assert!(
         library == plain && left == right && silent,
-        "{name} with {length} bytes lent\nlibrary {library:?}\nplain   {plain:?}\nlibrary's buffer {}\nplain's buffer   {}\nmodel {}\ncertificate {}",
+        "{name} with {length} bytes lent\nlibrary {library:?}\nplain   {plain:?}\nlibrary's buffer {}\nplain's buffer   {}\nfiles {} {}",
         hex(&left),
         hex(&right),
-        hex(model),
-        hex(certificate)
+        hex(one),
+        hex(other)
     );
     right.truncate(GUARD + plain.written);
     (plain, right.split_off(GUARD))
@@ -63,7 +62,22 @@ pub fn reduce(model: &[u8], certificate: &[u8], length: usize) -> (Answer, Vec<u
     lent("reduce", raw::zolkirta_reduce, plain::reduce, model, certificate, length)
 }
 
-/// How many answers had each number, and how many pairs were sent through.
+/// Joins by both and compares.
+pub fn join(first: &[u8], second: &[u8], length: usize) -> (Answer, Vec<u8>) {
+    lent("join", raw::zolkirta_join, plain::join, first, second, length)
+}
+
+/// Asks both for a first count and two states, and compares.
+pub fn alike(model: &[u8], certificate: &[u8], [count, s, t]: [u32; 3]) -> AlikeAnswer {
+    let (m, c) = (model.as_ptr(), certificate.as_ptr());
+    let library = unsafe { raw::zolkirta_alike(m, model.len(), count, c, certificate.len(), s, t) };
+    let plain = plain::alike(model, count, certificate, s, t);
+    let files = || [model, certificate].map(hex).join(" ");
+    assert!(library == plain, "alike of {s} and {t}, first count {count}\nlibrary {library:?}\nplain   {plain:?}\nfiles {}", files());
+    plain
+}
+
+/// How many answers of document 01's three calls had each number, and how many pairs were sent through.
 #[derive(Default)]
 pub struct Counts {
     pub answers: [u64; 25],
@@ -107,7 +121,7 @@ impl Counts {
 }
 
 /// Hands out every change of one byte of a file.
-fn changes(file: &[u8], mut each: impl FnMut(&[u8])) {
+pub fn changes(file: &[u8], mut each: impl FnMut(&[u8])) {
     let mut damaged = file.to_vec();
     for at in 0..file.len() {
         for change in 1..=255 {
@@ -136,33 +150,85 @@ pub struct Vector {
     pub out: Vec<u8>,
 }
 
+/// The fields of every line of a file of vectors.
+fn lines(name: &str) -> Vec<(String, Vec<String>)> {
+    let text = std::fs::read_to_string(format!("{}/../../vectors/{name}.txt", env!("CARGO_MANIFEST_DIR"))).unwrap();
+    text.lines().map(|line| (line.into(), line.split(' ').map(String::from).collect())).collect()
+}
+
+/// The answer of a line: five fields from its number to the start of a run, and the bytes written.
+fn answer(fields: &[String], fetched: bool, out: &[u8]) -> Answer {
+    let [number, file, place, stretch_length, run] = [0, 1, 2, 3, 4].map(|i| fields[i].parse().unwrap());
+    // A run's start stands in its own field; a stretch starts at its place, and one without a file at 0.
+    let stretch_start = if fetched && number == 0 { run } else { place };
+    Answer { number: number as u32, file: file as u32, place, stretch_start, stretch_length, written: out.len() }
+}
+
 pub fn vectors() -> Vec<Vector> {
-    let text = std::fs::read_to_string(concat!(env!("CARGO_MANIFEST_DIR"), "/../../vectors/base.txt")).unwrap();
-    text.lines()
-        .map(|line| {
-            let field: Vec<&str> = line.split(' ').collect();
-            let number = |i: usize| field[i].parse::<usize>().unwrap();
-            let out = bytes(field[9]);
-            // A run's start stands in its own field; a stretch starts at its place, and one without a file at 0.
-            let stretch_start = if field[0] == "fetch" && number(4) == 0 { number(8) } else { number(6) };
+    lines("base")
+        .into_iter()
+        .map(|(line, field)| {
+            let out = bytes(&field[9]);
             Vector {
-                line: line.into(),
-                call: field[0].into(),
-                argument: number(1),
-                model: bytes(field[2]),
-                certificate: bytes(field[3]),
-                answer: Answer {
-                    number: number(4) as u32,
-                    file: number(5) as u32,
-                    place: number(6),
-                    stretch_start,
-                    stretch_length: number(7),
-                    written: out.len(),
-                },
+                line,
+                argument: field[1].parse().unwrap(),
+                model: bytes(&field[2]),
+                certificate: bytes(&field[3]),
+                answer: answer(&field[4..9], field[0] == "fetch", &out),
+                call: field[0].clone(),
                 out,
             }
         })
         .collect()
+}
+
+/// One line of the vectors of a request of document 02.
+pub struct Request {
+    pub line: String,
+    pub call: String,
+    pub numbers: Vec<u32>,
+    pub files: Vec<Vec<u8>>,
+    pub answer: Answer,
+    pub yes: u32,
+    pub outs: Vec<Vec<u8>>,
+}
+
+pub fn requests(name: &str) -> Vec<Request> {
+    lines(name)
+        .into_iter()
+        .map(|(line, field)| {
+            let outs: Vec<Vec<u8>> = field[11].split(',').map(bytes).collect();
+            assert_eq!(field[8..10], ["0", "0"], "no call answers with a state and a remainder");
+            Request {
+                line,
+                numbers: field[1].split(',').map(|number| number.parse().unwrap()).collect(),
+                files: field[2].split(',').map(bytes).collect(),
+                answer: answer(&field[3..8], false, &outs[0]),
+                yes: field[10].parse().unwrap(),
+                call: field[0].clone(),
+                outs,
+            }
+        })
+        .collect()
+}
+
+impl Request {
+    /// Makes the line's call by one of these, and compares what it says with the line.
+    pub fn holds_for(
+        &self,
+        join: impl FnOnce(&[u8], &[u8], usize) -> (Answer, Vec<u8>),
+        alike: impl FnOnce(&[u8], &[u8], [u32; 3]) -> AlikeAnswer,
+    ) {
+        let (told, out) = match (self.call.as_str(), &self.numbers[..], &self.files[..]) {
+            ("join", &[length], [first, second]) => {
+                let (answer, out) = join(first, second, length as usize);
+                (AlikeAnswer { answer, alike: 0 }, out)
+            }
+            ("alike", &[count, s, t], [model, certificate]) => (alike(model, certificate, [count, s, t]), Vec::new()),
+            _ => panic!("no such call: {}", self.line),
+        };
+        assert_eq!((told.answer, told.alike, vec![out]), (self.answer, self.yes, self.outs.clone()), "{}", self.line);
+    }
 }
 
 /// The accepted pairs of the vectors, shorter ones first, each once and at most three for one model.

@@ -9,19 +9,24 @@ pub fn bytes((model, certificate): (Model, Certificate)) -> (Vec<u8>, Vec<u8>) {
 
 /// The most that a model may have: 64 states, 256 transitions, 1,024 entries. Every label is another, so every state is a block.
 pub fn largest() -> (Model, Certificate) {
-    let weights = |q: usize| (0..4).map(|e| (q / 4 % 16 * 4 + e, 1)).collect();
-    let transitions = (0..256).map(|q| Transition { source: q / 4, action: q % 32, d: 4, weights: weights(q) }).collect();
-    labelled_apart(32, transitions)
+    filled(64)
+}
+
+/// States with another label each, and four transitions of four entries from each of them.
+pub fn filled(n: usize) -> (Model, Certificate) {
+    let weights = |q: usize| (0..4).map(|e| (q / 4 % (n / 4) * 4 + e, 1)).collect();
+    let transitions = (0..4 * n).map(|q| Transition { source: q / 4, action: q % 32, d: 4, weights: weights(q) }).collect();
+    labelled_apart(n, 32, transitions)
 }
 
 /// 64 states of which one has 256 transitions, no two the same, that differ in their last two weights alone.
 pub fn one_source() -> (Model, Certificate) {
     let weights = |q: i64| vec![(0, 1), (1, 1), (2, 1 + q), (3, 300 - q)];
-    labelled_apart(1, (0..256).map(|q| Transition { source: 0, action: 0, d: 303, weights: weights(q) }).collect())
+    labelled_apart(64, 1, (0..256).map(|q| Transition { source: 0, action: 0, d: 303, weights: weights(q) }).collect())
 }
 
-fn labelled_apart(m: usize, transitions: Vec<Transition>) -> (Model, Certificate) {
-    let states: Vec<u8> = (0..64).collect();
+fn labelled_apart(n: usize, m: usize, transitions: Vec<Transition>) -> (Model, Certificate) {
+    let states: Vec<u8> = (0..n as u8).collect();
     (Model { labels: states.clone(), m, transitions }, Certificate { refutations: Vec::new(), blocks: states, flows: Vec::new() })
 }
 

@@ -1,10 +1,11 @@
-//! Document 01's judge, reduce and fetch in plain Rust, written from the document alone: what the library is compared with.
+//! Document 01's judge, reduce and fetch and document 02's join and alike (K1) in plain Rust, written from the documents alone: what the
+//! library is compared with.
 //!
 //! Every sum fits an i64. Weights of a transition add up to at most 65,535, so weights times prices stay below 2^47 and a difference
 //! of two such sums below 2^48. k times d is below 2^48, and a state's equation has at most 768 of them (each layer and transition
 //! once), 64 w and one D: below 2^58. d0 times the at most 64 w onto a state is below 2^54.
 
-pub use zolkirta::raw::Answer;
+pub use zolkirta::raw::{AlikeAnswer, Answer};
 
 /// A refusal's number and the place of the record at fault.
 type Fault = (u32, usize);
@@ -19,7 +20,7 @@ pub struct Transition<'a> {
 
 impl Transition<'_> {
     /// The states that the transition leads to, with their weights.
-    pub fn weights(&self) -> impl Iterator<Item = (usize, i64)> + '_ {
+    pub fn weights(&self) -> impl Iterator<Item = (usize, i64)> + Clone + '_ {
         self.entries.chunks_exact(3).map(|e| (usize::from(e[0]), i64::from(two(e, 1))))
     }
 
@@ -304,14 +305,28 @@ fn certificate<'a>(model: &Model, file: &'a [u8]) -> Result<&'a [u8], Fault> {
     Ok(blocks)
 }
 
+/// A model's file without its transitions.
+fn head_and_labels(labels: &[u8], m: u8, transitions: usize) -> Vec<u8> {
+    [&b"PA"[..], &[labels.len() as u8, m], &(transitions as u16).to_be_bytes(), b"LB", labels].concat()
+}
+
+/// Appends a transition's record.
+fn append(out: &mut Vec<u8>, source: usize, r: &Transition, weights: impl Iterator<Item = (usize, u16)> + Clone) {
+    out.extend([b'T', b'R', source as u8, r.action]);
+    out.extend((r.d as u16).to_be_bytes());
+    out.push(weights.clone().count() as u8);
+    for (v, p) in weights {
+        out.push(v as u8);
+        out.extend(p.to_be_bytes());
+    }
+}
+
 /// The merged model's file.
 fn merged(model: &Model, blocks: &[u8]) -> Vec<u8> {
     let count = usize::from(*blocks.iter().max().unwrap()) + 1;
-    let mut out = vec![b'P', b'A', count as u8, model.m, 0, 0, b'L', b'B'];
-    for block in 0..count {
-        let member = blocks.iter().position(|&b| usize::from(b) == block).unwrap();
-        out.push(model.labels[member]);
-    }
+    let member = |block: usize| blocks.iter().position(|&b| usize::from(b) == block).unwrap();
+    let labels: Vec<u8> = (0..count).map(|block| model.labels[member(block)]).collect();
+    let mut out = head_and_labels(&labels, model.m, 0);
     let mut places = Vec::with_capacity(model.transitions.len());
     for block in 0..count {
         let of_block = places.len();
@@ -321,13 +336,7 @@ fn merged(model: &Model, blocks: &[u8]) -> Vec<u8> {
                 weights[usize::from(blocks[v])] += p as u16;
             }
             let at = out.len();
-            out.extend([b'T', b'R', block as u8, r.action]);
-            out.extend((r.d as u16).to_be_bytes());
-            out.push(weights.iter().filter(|&&p| p > 0).count() as u8);
-            for (target, p) in weights.iter().enumerate().filter(|(_, &p)| p > 0) {
-                out.push(target as u8);
-                out.extend(p.to_be_bytes());
-            }
+            append(&mut out, block, r, weights.iter().copied().enumerate().filter(|&(_, p)| p > 0));
             // Two records of one block are the same bytes where action, d and weights are equal.
             let size = out.len() - at;
             if places[of_block..].iter().any(|&earlier: &usize| out[earlier..earlier + size] == out[at..]) {
@@ -341,9 +350,31 @@ fn merged(model: &Model, blocks: &[u8]) -> Vec<u8> {
     out
 }
 
+/// The file of two models written as one; none where it passes a limit.
+fn joined(first: &Model, second: &Model) -> Option<Vec<u8>> {
+    let labels = [first.labels, second.labels].concat();
+    let count = first.transitions.len() + second.transitions.len();
+    let entries: usize = [first, second].iter().flat_map(|model| &model.transitions).map(|r| r.entries.len() / 3).sum();
+    if labels.len() > 64 || count > 256 || entries > 1024 {
+        return None;
+    }
+    let mut out = head_and_labels(&labels, first.m.max(second.m), count);
+    for (model, raised) in [(first, 0), (second, first.n())] {
+        for r in &model.transitions {
+            append(&mut out, r.source + raised, r, r.weights().map(|(v, p)| (v + raised, p as u16)));
+        }
+    }
+    Some(out)
+}
+
 /// A refusal in a file, with the stretch from its place to the file's end.
 fn refused(file: u32, bytes: &[u8], (number, place): Fault) -> Answer {
     Answer { number, file, place, stretch_start: place, stretch_length: bytes.len() - place, written: 0 }
+}
+
+/// An answer without a file.
+fn numbered(number: u32) -> Answer {
+    Answer { number, ..Answer::default() }
 }
 
 /// The transitions that leave a state, as a run of the model's bytes.
@@ -353,7 +384,7 @@ pub fn fetch(model: &[u8], state: u32) -> Answer {
         Err(fault) => return refused(1, model, fault),
     };
     if state as usize >= sound.n() {
-        return Answer { number: 24, ..Answer::default() };
+        return numbered(24);
     }
     let run = sound.leaving(state as usize);
     let (Some(first), Some(last)) = (run.first(), run.last()) else {
@@ -367,7 +398,7 @@ pub fn fetch(model: &[u8], state: u32) -> Answer {
 fn judged<'a>(model: &'a [u8], certificate_file: &'a [u8], room: usize) -> Result<(Model<'a>, &'a [u8]), Answer> {
     let sound = read(model).map_err(|fault| refused(1, model, fault))?;
     if room < sound.n() {
-        return Err(Answer { number: 10, ..Answer::default() });
+        return Err(numbered(10));
     }
     let blocks = certificate(&sound, certificate_file).map_err(|fault| refused(2, certificate_file, fault))?;
     Ok((sound, blocks))
@@ -384,16 +415,44 @@ pub fn judge(model: &[u8], certificate: &[u8], buffer: &mut [u8]) -> Answer {
     }
 }
 
+/// Writes a file first into the buffer, or refuses with this number where the buffer is shorter.
+fn write(file: &[u8], buffer: &mut [u8], shorter: u32) -> Answer {
+    if buffer.len() < file.len() {
+        return numbered(shorter);
+    }
+    buffer[..file.len()].copy_from_slice(file);
+    Answer { written: file.len(), ..Answer::default() }
+}
+
 /// Judges a certificate for a model; on acceptance the merged model's file stands first in the buffer.
 pub fn reduce(model: &[u8], certificate: &[u8], buffer: &mut [u8]) -> Answer {
-    let (model, blocks) = match judged(model, certificate, usize::MAX) {
-        Ok(both) => both,
-        Err(answer) => return answer,
-    };
-    let file = merged(&model, blocks);
-    if buffer.len() < file.len() {
-        return Answer { number: 23, ..Answer::default() };
+    match judged(model, certificate, usize::MAX) {
+        Ok((model, blocks)) => write(&merged(&model, blocks), buffer, 23),
+        Err(answer) => answer,
     }
-    buffer[..file.len()].copy_from_slice(&file);
-    Answer { written: file.len(), ..Answer::default() }
+}
+
+/// Reads two models and writes them as one.
+pub fn join(first: &[u8], second: &[u8], buffer: &mut [u8]) -> Answer {
+    let one = match read(first) {
+        Ok(model) => model,
+        Err(fault) => return refused(1, first, fault),
+    };
+    match read(second) {
+        Ok(other) => joined(&one, &other).map_or(numbered(25), |file| write(&file, buffer, 26)),
+        Err(fault) => refused(3, second, fault),
+    }
+}
+
+/// Judges a certificate for a joined model; on acceptance says whether a state of each part share a block.
+pub fn alike(model: &[u8], first_count: u32, certificate: &[u8], first_state: u32, second_state: u32) -> AlikeAnswer {
+    let blocks = match judged(model, certificate, usize::MAX) {
+        Ok((_, blocks)) => blocks,
+        Err(answer) => return AlikeAnswer { answer, alike: 0 },
+    };
+    let [count, s, t] = [first_count, first_state, second_state].map(|number| number as usize);
+    if count > blocks.len() || s >= count || t < count || t >= blocks.len() {
+        return AlikeAnswer { answer: numbered(27), alike: 0 };
+    }
+    AlikeAnswer { answer: Answer::default(), alike: u32::from(blocks[s] == blocks[t]) }
 }

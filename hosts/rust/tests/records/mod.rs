@@ -1,10 +1,12 @@
 //! Damage by records and fields: a sound pair is split into its records, some are changed, and the rest stays right.
+#![allow(dead_code)] // each test file uses its own part
+
 use crate::compare::{Counts, Numbers};
 use std::iter::once;
 use std::ops::Range;
 
-/// The records of model and certificate.
-type Records = [Vec<Vec<u8>>; 2];
+/// The records of two files: a model and its certificate, or two models.
+pub type Records = [Vec<Vec<u8>>; 2];
 
 fn value(record: &[u8], field: Range<usize>) -> u64 {
     record[field].iter().fold(0, |value, &byte| value << 8 | u64::from(byte))
@@ -15,24 +17,36 @@ fn put(record: &mut [u8], field: Range<usize>, value: u64) {
     record[field.clone()].copy_from_slice(&bytes[8 - field.len()..]);
 }
 
-/// A sound pair as its records.
-fn split((model, certificate): &(Vec<u8>, Vec<u8>)) -> Records {
-    let n = usize::from(model[2]);
-    let cut = |mut file: &[u8], size: &dyn Fn(&[u8]) -> usize| {
-        let mut records = Vec::new();
-        while !file.is_empty() {
-            let (record, rest) = file.split_at(size(file));
-            records.push(record.to_vec());
-            file = rest;
-        }
-        records
-    };
-    let model = cut(model, &|r| match &r[..2] {
+/// A file as its records, by the size of the record that a part of it begins with.
+fn cut(mut file: &[u8], size: impl Fn(&[u8]) -> usize) -> Vec<Vec<u8>> {
+    let mut records = Vec::new();
+    while !file.is_empty() {
+        let (record, rest) = file.split_at(size(file));
+        records.push(record.to_vec());
+        file = rest;
+    }
+    records
+}
+
+/// A sound model as its records.
+fn cut_model(model: &[u8]) -> Vec<Vec<u8>> {
+    cut(model, |r| match &r[..2] {
         b"PA" => 6,
-        b"LB" => 2 + n,
+        b"LB" => 2 + usize::from(model[2]),
         _ => 7 + 3 * usize::from(r[6]),
-    });
-    let certificate = cut(certificate, &|r| match &r[..2] {
+    })
+}
+
+/// Two sound models as their records.
+pub fn split_models(first: &[u8], second: &[u8]) -> Records {
+    [cut_model(first), cut_model(second)]
+}
+
+/// A sound pair as its records.
+pub fn split((model, certificate): &(Vec<u8>, Vec<u8>)) -> Records {
+    let n = usize::from(model[2]);
+    let model = cut_model(model);
+    let certificate = cut(certificate, |r| match &r[..2] {
         b"CT" => 4,
         b"BK" => 2 + n,
         b"PX" if model[2 + value(r, 2..4) as usize][3] == 0 => 5 + 8 * n,
@@ -146,7 +160,7 @@ fn respell(record: &mut [u8], numbers: &mut Numbers) {
     }
 }
 
-/// One damage to one file; `other` is another pair, which lends a record or a whole file.
+/// One damage to one file; `other` is another sound pair, which lends a record or a whole file.
 fn damage(pair: &mut Records, other: &Records, n: u64, numbers: &mut Numbers) {
     let which = usize::from(numbers.below(4) > 0);
     let file = &mut pair[which];
@@ -201,7 +215,7 @@ fn damage(pair: &mut Records, other: &Records, n: u64, numbers: &mut Numbers) {
     }
     // Half of the time the head's count follows.
     if numbers.below(2) == 0 {
-        let (mark, field) = [(b"TR", 4..6), (b"PX", 2..4)][which].clone();
+        let (mark, field) = if other[which][0].starts_with(b"PA") { (b"TR", 4..6) } else { (b"PX", 2..4) };
         let count = pair[which].iter().filter(|record| record.starts_with(mark)).count();
         if pair[which][0].len() >= field.end {
             put(&mut pair[which][0], field, count as u64);
@@ -225,29 +239,48 @@ pub fn respelled(pair: &(Vec<u8>, Vec<u8>), numbers: &mut Numbers) -> Vec<u8> {
     certificate.concat()
 }
 
-/// Sends so many damaged pairs through the three calls: each is one of these pairs, respelled and then damaged.
-pub fn damaged(pairs: &[(Vec<u8>, Vec<u8>)], times: u64, seed: u64) -> Counts {
-    let pairs: Vec<Records> = pairs.iter().map(split).collect();
-    let mut counts = Counts::default();
+/// Hands out so many damaged pairs of files: each is one of these pairs, respelled and then damaged. With it come the state count of
+/// its model, the first of two, as it was, and the numbers for further choices.
+pub fn each_damaged(pairs: &[Records], times: u64, seed: u64, mut each: impl FnMut(&[u8], &[u8], usize, &mut Numbers)) {
     let mut numbers = Numbers::new(seed);
     for _ in 0..times {
-        let mut pair = numbers.of(&pairs).clone();
+        let mut pair = numbers.of(pairs).clone();
         let n = pair[0][1].len() - 2;
         respell_some(&mut pair[1], &mut numbers);
         for _ in 0..1 + numbers.below(4) / 2 + numbers.below(8) / 7 {
-            damage(&mut pair, numbers.of(&pairs), n as u64, &mut numbers);
+            damage(&mut pair, numbers.of(pairs), n as u64, &mut numbers);
         }
-        let [mut model, mut certificate] = pair.map(|records| records.concat());
+        let [mut one, mut other] = pair.map(|records| records.concat());
         match numbers.below(24) {
-            0 => model.truncate(numbers.below(model.len() + 1)),
-            1 => certificate.truncate(numbers.below(certificate.len() + 1)),
+            0 => one.truncate(numbers.below(one.len() + 1)),
+            1 => other.truncate(numbers.below(other.len() + 1)),
             _ => {}
         }
+        each(&one, &other, n, &mut numbers);
+    }
+}
+
+/// Sends so many damaged pairs through the three calls of document 01.
+pub fn damaged(pairs: &[(Vec<u8>, Vec<u8>)], times: u64, seed: u64) -> Counts {
+    let pairs: Vec<Records> = pairs.iter().map(split).collect();
+    let mut counts = Counts::default();
+    each_damaged(&pairs, times, seed, |model, certificate, n, numbers| {
         let (blocks, out, state) = match numbers.below(4) {
             0 => (numbers.below(n + 2), numbers.below(model.len() + 2), numbers.below(n + 2)),
             _ => (64, model.len(), numbers.below(n)),
         };
-        counts.pair_with(&model, &certificate, blocks, out, state as u32);
-    }
+        counts.pair_with(model, certificate, blocks, out, state as u32);
+    });
     counts
+}
+
+/// 64 states, each a block, and 1,024 entries, 40 of them alone in their transition: one of these doubled is one entry too many.
+pub fn crowded() -> (Vec<u8>, Vec<u8>) {
+    let sizes = [vec![1; 40], vec![8; 27], vec![64; 12]].concat();
+    let mut model = [&b"PA\x40\x01\0\x4fLB"[..], &(0..64).collect::<Vec<u8>>()].concat();
+    for (size, source) in sizes.into_iter().zip(0..) {
+        model.extend([b'T', b'R', source / 2, 0, 0, size, size]);
+        model.extend((0..size).flat_map(|state| [state, 0, 1]));
+    }
+    (model, [&b"CT\0\0BK"[..], &(0..64).collect::<Vec<u8>>()].concat())
 }

@@ -1,0 +1,4 @@
+// Joins a.bin and b.bin into joined.bin.
+fn main() {
+    programs::join_files();
+}

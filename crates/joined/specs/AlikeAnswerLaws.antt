@@ -1,0 +1,302 @@
+-- What the call that compares two states answers and says, and that it keeps its demands.
+use Prim.Native.Nat.{ℕ, _+_, _≤_, _<_}
+use mathlib.Core.Path.{_≡_, refl, sym, _∙_, ap, ap₂, subst}
+use mathlib.Core.Logic.{_↔_, _⊎_, inl, inr, ⊎-elim}
+use mathlib.Core.Bool.{Bool, true}
+use mathlib.Core.List.{List, [], _∷_, _++_}
+use lib.Dec.{eqb}
+use lib.ListN.{length, drop, getD, length-append, List·getD-append}
+use borrow.Author.Tests.{eq-eqb, eqb-true}
+use native.Mathlib.Decide.{ℕ-discrete}
+use native.Mathlib.Omega.{arith}
+use Rattle.bisimulation.specs.definitions.Choice.{ifLess, ifSame, ifTrue}
+use Rattle.bisimulation.specs.argument.ChoiceLaws.{less, notLess, eitherLess, same, notSame, pastLess, keptLess, keptSame}
+use Rattle.bisimulation.specs.definitions.Largest.{Bisimilar, BisimilarByPairs}
+use Rattle.bisimulation.specs.definitions.StepRule.{Met}
+use Rattle.rules.specs.definitions.Limits.{limits}
+use Rattle.rules.specs.definitions.Model.{Model, automatonOf}
+use Rattle.rules.specs.definitions.Faults.{Fault}
+use Rattle.rules.specs.definitions.Reading.{Reading, model, noModel, readWhole}
+use Rattle.rules.specs.definitions.SoundModel.{Bytes}
+use Rattle.rules.specs.definitions.Certificate.{sameBlock}
+use Rattle.rules.specs.definitions.Judging.{Judgement, accepted, rejected, judgeCertificate, judgeReading, judge}
+use Rattle.rules.specs.definitions.Answers as rules
+use Rattle.rules.specs.definitions.Answers.{Outcome, refusalIn, answerWithoutPlace, judgementAnswer, judgedOutcome, unwritten, filled, Follows, writesBlocks}
+use Rattle.rules.specs.definitions.Accepted.{Kept, FileOf}
+use Rattle.rules.specs.definitions.PlainSays.{plainSays}
+use Rattle.rules.specs.definitions.JudgedBy.{plainPairs}
+use Rattle.rules.specs.argument.SoundModelLaws.{limits-fit, sound-bytes}
+use Rattle.rules.specs.definitions.Demand3.{InOneBlock, HoldsModel}
+use Rattle.rules.specs.definitions.Demands.{outcomeBy, Accepting}
+use Rattle.rules.specs.argument.AnyRule.{PairRules, RefusalOf, pairsOf}
+use Rattle.rules.specs.argument.Numbers.{RefusedWith, JudgementNumber, certificate-numbered, unread-number}
+use Rattle.rules.specs.argument.PairOutcome.{AcceptedModel, FollowsLaws, outcome-refused, outcome-judged, outcome-accepted, outcome-followed, outcome-number, outcome-found}
+use Rattle.rules.specs.argument.AcceptedExactly.{accepted-exactly}
+use Rattle.rules.specs.argument.Demand3Holds.{one-model, holds-read, facts-of, demand3, largest-block-pairs}
+use Rattle.rules.specs.argument.DemandsHold.{blocks-follow, plain-refusal}
+use Rattle.rules.specs.argument.PlainRules.{plainRules}
+use Rattle.joined.specs.Joined.{joined, joinedFile}
+use Rattle.joined.specs.JoinAnswer.{JoinDemands}
+use Rattle.joined.specs.JoinedLaws.{joined-states}
+use Rattle.joined.specs.AlikeAnswer.{Named, InParts, partsNumber, testsParts, alikeJudged, alikeRead, alikeSays, AlikeNumber, SaysAlike}
+
+-- 27 or 0
+pub parts-number : (n : ℕ) (x : Named) → (partsNumber n x ≡ 0) ⊎ (partsNumber n x ≡ 27)
+unfolding partsNumber
+parts-number n x = or _ _ (inr refl) (or _ _ (or _ _ (inr refl) (or _ _ (inl refl) (inr refl))) (inr refl))
+  where
+    or : (a b : ℕ) {f g : ℕ} → (f ≡ 0) ⊎ (f ≡ 27) → (g ≡ 0) ⊎ (g ≡ 27) → (ifLess a b f g ≡ 0) ⊎ (ifLess a b f g ≡ 27)
+    or a b p q = eitherLess (λ (f : ℕ). (f ≡ 0) ⊎ (f ≡ 27)) a b p q
+
+-- 0 exactly where each state is in its part
+pub parts-exactly : (n : ℕ) (x : Named) → (partsNumber n x ≡ 0) ↔ InParts n x
+unfolding partsNumber
+parts-exactly n x = (
+  λ z.
+      let some : _≡_ {A = ℕ} 0 27 → ⊥ = λ w. omega (arith, w) in
+      let a = pastLess 27 _ n (x .firstCount) some (sym z) in
+      let b = keptLess _ 27 (x .firstState) (x .firstCount) some (a .1) in
+      let c = pastLess 27 _ (x .secondState) (x .firstCount) some (b .1) in
+      let d = keptLess _ 27 (x .secondState) n some (c .1) in
+      record { count = a .0; first = b .0; second = c .0; inside = d .0 },
+  λ p. sym (notLess _ (p .count) (less _ (p .first) (notLess _ (p .second) (less _ (p .inside) refl)))),
+)
+
+-- where 27 does not refuse, the states are the model's
+pub parts-named : (n : ℕ) (x : Named) → partsNumber n x ≡ 0 → (x .firstState < n) × (x .secondState < n)
+parts-named n x z = let p = parts-exactly n x .0 z in (omega (arith, p .count, p .first), p .inside)
+
+-- what follows acceptance
+pub parts-follow : (x : Named) → FollowsLaws plainRules (testsParts x)
+unfolding unwritten answerWithoutPlace Accepting
+parts-follow x =
+    record {
+      numbered = λ N blocks buffer. parts-number (length (N .labels)) x;
+      unwritten = λ N blocks buffer n. refl;
+      late = λ k h n z. ⊎-elim (λ w. omega (arith, w, z)) (λ w. omega (arith, w, z)) (plain-refusal k h);
+      notTen = omega arith;
+    }
+
+pub alike-numbered : (x : Named) (M C : List ℕ) → AlikeNumber (outcomeBy (pairsOf plainRules) (testsParts x) M C [] .answer .number)
+unfolding AlikeNumber
+alike-numbered x M C =
+    outcome-number plainRules (testsParts x) (parts-follow x) M C [] (λ k. (k ≤ 9) ⊎ (((11 ≤ k) × (k ≤ 22)) ⊎ (k ≡ 27))) (inl (omega arith)) (inr (inr refl))
+    (λ k h. ⊎-elim (λ w. inl w) (λ w. inr (inl w)) (plain-refusal k h)) (λ N h. absurd (omega arith))
+
+module _ (by : PairRules) (M C : List ℕ) where
+  -- whatever follows acceptance finds room for the model's blocks
+  abbrev Roomy : Follows → List ℕ → Type 0
+  Roomy follows buffer = (N : Model) (end : ℕ) → by .models .read M ≡ model N end → follows .blockRoom N ≤ length buffer
+
+  -- the pair is refused, whatever would follow acceptance, and so no is said
+  record Refused : Type 0 where
+    answer : rules.Answer
+    some : answer .number ≡ 0 → ⊥
+    wrote : answer .written ≡ 0
+    refuses : (follows : Follows) (buffer : List ℕ) → Roomy follows buffer → unwritten answer buffer ≡ outcomeBy (pairsOf by) follows M C buffer
+    no-said : (x : Named) → 0 ≡ alikeSays (pairsOf by) x M C
+
+  abbrev Found : Type 0
+  Found = AcceptedModel (by .limits) (by .models .read) (by .rule .file) M C
+
+  -- or it is accepted
+  refused-or-found : Refused ⊎ Found
+  unfolding judge judgeReading judgedOutcome judgementAnswer unwritten refusalIn alikeSays alikeRead alikeJudged
+  refused-or-found = by-model (by .models .read M) refl
+    where
+      judged : {r : Reading} → by .models .read M ≡ r → judge (by .limits) (by .models .read) (by .rule .file) M C ≡ judgeReading (by .limits) (by .rule .file) r C
+      judged e = ap (λ (x : Reading). judgeReading (by .limits) (by .rule .file) x C) e
+
+      by-judgement : (N : Model) (end : ℕ) → by .models .read M ≡ model N end → (j : Judgement) → j ≡ judgeCertificate (by .limits) (by .rule .file) (automatonOf N) C → JudgementNumber by j → Refused ⊎ Found
+      by-judgement N end e (accepted blocks) q h = inr (record { N = N; end = end; reads = e; blocks = blocks; judged = judged e ∙ sym q })
+      by-judgement N end e (rejected f file place) q h =
+          inl
+          (record {
+            answer = judgementAnswer (M ∷ C ∷ []) (rejected f file place);
+            some = h .some;
+            wrote = refl;
+            refuses = λ follows buffer room. ap (judgedOutcome follows M C buffer N) q ∙ outcome-judged (by .limits) (by .models .read) (by .rule .file) follows M C buffer e (room N end e);
+            no-said = λ x. sym (ap₂ (alikeRead x) e (judged e ∙ sym q));
+          })
+
+      by-model : (r : Reading) → by .models .read M ≡ r → Refused ⊎ Found
+      by-model (model N end) e = by-judgement N end e _ refl (certificate-numbered by (automatonOf N) C)
+      by-model (noModel f place) e =
+          inl
+          (record {
+            answer = refusalIn f 1 place (length M);
+            some = unread-number by M f place e .some;
+            wrote = refl;
+            refuses = λ follows buffer room. outcome-refused (by .limits) (by .models .read) (by .rule .file) follows M C buffer f place e;
+            no-said = λ x. sym (ap₂ (alikeRead x) e (judged e));
+          })
+
+  certificate-accepted : (a : Found) → accepted (a .blocks) ≡ judgeCertificate (by .limits) (by .rule .file) (automatonOf (a .N)) C
+  unfolding judge judgeReading
+  certificate-accepted a = sym (a .judged) ∙ ap (λ (r : Reading). judgeReading (by .limits) (by .rule .file) r C) (a .reads)
+
+  -- what the call answers and says of an accepted certificate
+  module _ (x : Named) (a : Found) where
+    abbrev parts : ℕ
+    parts = partsNumber (length (a .N .labels)) x
+
+    found-outcome : unwritten (answerWithoutPlace parts 0) [] ≡ outcomeBy (pairsOf by) (testsParts x) M C []
+    found-outcome = outcome-accepted (by .limits) (by .models .read) (by .rule .file) (testsParts x) M C [] (a .reads) (a .blocks) (omega arith) (certificate-accepted a)
+
+    found-answer : answerWithoutPlace parts 0 ≡ outcomeBy (pairsOf by) (testsParts x) M C [] .answer
+    unfolding unwritten
+    found-answer = ap (λ (o : Outcome). o .answer) found-outcome
+
+    found-says : ifSame parts 0 (ifTrue (sameBlock (a .blocks) (x .firstState) (x .secondState)) 1 0) 0 ≡ alikeSays (pairsOf by) x M C
+    unfolding alikeSays alikeRead alikeJudged
+    found-says = sym (ap₂ (alikeRead x) (a .reads) (a .judged))
+
+    found-parted : (parts ≡ 0 → ⊥) → 0 ≡ alikeSays (pairsOf by) x M C
+    found-parted n = notSame _ n refl ∙ found-says
+
+    found-said : parts ≡ 0 → ifSame (getD (a .blocks) (x .firstState) 0) (getD (a .blocks) (x .secondState) 0) 1 0 ≡ alikeSays (pairsOf by) x M C
+    unfolding sameBlock ifSame ifTrue
+    found-said z = same _ z refl ∙ found-says
+
+  -- refused: no is said
+  pub alike-refused : (x : Named) → (outcomeBy (pairsOf by) (testsParts x) M C [] .answer .number ≡ 0 → ⊥) → 0 ≡ alikeSays (pairsOf by) x M C
+  unfolding answerWithoutPlace
+  alike-refused x n =
+      ⊎-elim (λ r. r .no-said x) (λ a. found-parted x a (λ z. n (ap (λ (y : rules.Answer). y .number) (sym (found-answer x a)) ∙ z))) refused-or-found
+
+  -- no buffer is lent, and nothing is written
+  pub alike-written : (x : Named) → 0 ≡ outcomeBy (pairsOf by) (testsParts x) M C [] .answer .written
+  unfolding unwritten answerWithoutPlace
+  alike-written x =
+      ⊎-elim (λ r. sym (r .wrote) ∙ ap (λ (o : Outcome). o .answer .written) (r .refuses (testsParts x) [] (λ N end e. omega arith))) (λ a. ap (λ (o : Outcome). o .answer .written) (found-outcome x a)) refused-or-found
+
+  pub alike-buffer : (x : Named) → outcomeBy (pairsOf by) (testsParts x) M C [] .buffer ≡ []
+  unfolding unwritten
+  alike-buffer x =
+      ⊎-elim (λ r. ap (λ (o : Outcome). o .buffer) (sym (r .refuses (testsParts x) [] (λ N end e. omega arith)))) (λ a. ap (λ (o : Outcome). o .buffer) (sym (found-outcome x a))) refused-or-found
+
+  module _ (b : Bytes M) (c : Bytes C) (x : Named) where
+    -- said of an accepted certificate where 27 does not refuse: whether the two states share a block
+    shares : (a : Found) → partsNumber (length (a .N .labels)) x ≡ 0 → (alikeSays (pairsOf by) x M C ≡ 1) ↔ InOneBlock (a .blocks) (x .firstState) (x .secondState)
+    shares a z =
+        let named = parts-named (length (a .N .labels)) x z in
+        let whole = facts-of by M C (a .blocks) b c (record { answers = a .judged }) (a .N) (holds-read by M b (a .reads)) .whole in
+        let said = found-said x a z in (
+          λ e. record { first = omega (arith, named .0, whole); second = omega (arith, named .1, whole); same = keptSame 1 0 _ _ (λ w. omega (arith, w)) (sym (said ∙ e)) .0 },
+          λ h. sym said ∙ sym (same 0 (h .same) refl),
+        )
+
+    -- 0 tells that the certificate is accepted and 27 does not refuse
+    found-of : outcomeBy (pairsOf by) (testsParts x) M C [] .answer .number ≡ 0 → (a : Found) × (partsNumber (length (a .N .labels)) x ≡ 0)
+    unfolding unwritten answerWithoutPlace
+    found-of z =
+        ⊎-elim (λ r. absurd (r .some (ap (λ (o : Outcome). o .answer .number) (r .refuses (testsParts x) [] (λ N end e. omega arith)) ∙ z)))
+        (λ a. (a, ap (λ (y : rules.Answer). y .number) (found-answer x a) ∙ z)) refused-or-found
+
+    module _ (z : outcomeBy (pairsOf by) (testsParts x) M C [] .answer .number ≡ 0) (N : Model) (f : by .models .isFile M N) where
+      holds : HoldsModel (by .models .read) M N
+      holds = record { reads = by .models .exactly M N b .1 f }
+
+      -- 'yes is said exactly when some symmetric relation that keeps labels and meets the step rule links the two', for sets of pairs
+      alike-pairs : (alikeSays (pairsOf by) x M C ≡ 1) ↔ BisimilarByPairs (by .rule .theory .met) (automatonOf N) (x .firstState) (x .secondState)
+      alike-pairs =
+          let a = found-of z .0 in
+          let s = shares a (found-of z .1) in
+          let l = largest-block-pairs by M C (a .blocks) b c (record { answers = a .judged }) in
+          let e = subst (λ (J : Model). InOneBlock (a .blocks) (x .firstState) (x .secondState) ↔ BisimilarByPairs (by .rule .theory .met) (automatonOf J) (x .firstState) (x .secondState)) (one-model by M (l .M) N (l .holds) holds) (l .largest .exactly (x .firstState) (x .secondState)) in
+          (λ h. e .0 (s .0 h), λ h. s .1 (e .1 h))
+
+      -- and for relations of any kind
+      pub alike-bisimilar : (alikeSays (pairsOf by) x M C ≡ 1) ↔ Bisimilar (by .rule .theory .met) (automatonOf N) (x .firstState) (x .secondState)
+      alike-bisimilar =
+          let a = found-of z .0 in
+          let s = shares a (found-of z .1) in
+          let e = facts-of by M C (a .blocks) b c (record { answers = a .judged }) N holds .largest .exactly (x .firstState) (x .secondState) in
+          (λ h. e .0 (s .0 h), λ h. s .1 (e .1 h))
+
+    -- what the call says is what the request asks
+    pub says-alike : (number : ℕ) → number ≡ outcomeBy (pairsOf by) (testsParts x) M C [] .answer .number → SaysAlike (pairsOf by) x M C number (alikeSays (pairsOf by) x M C)
+    unfolding answerWithoutPlace
+    says-alike number e =
+        record {
+          says = refl;
+          parted = λ N blocks k.
+              let a = accepted-exactly by M C blocks b c .1 (record { M = N; file = k .file; kept = k .kept }) in
+              let f = found-answer x (record { N = N; end = length M; reads = by .models .exactly M N b .1 (k .file); blocks = blocks; judged = a .answers }) in
+              let q = e ∙ ap (λ (y : rules.Answer). y .number) (sym f) in
+              (λ z. parts-exactly (length (N .labels)) x .0 (sym q ∙ z), λ p. q ∙ parts-exactly (length (N .labels)) x .1 p);
+          refused = λ n. sym (alike-refused x (λ z. n (e ∙ z)));
+          exactly = λ z N f. alike-pairs (sym e ∙ z) N f;
+        }
+
+    -- the same by what the call that judges answers and leaves in a block buffer that is long enough for every model
+    module _ (before : List ℕ) (room : by .limits .states ≤ length before) where
+      abbrev judged : Outcome
+      judged = outcomeBy (pairsOf by) writesBlocks M C before
+
+      roomy : Roomy writesBlocks before
+      roomy N end e = omega (arith, by .models .sound M N (by .models .exactly M N b .0 (holds-read by M b e .reads)) .states, room)
+
+      found-judged : (a : Found) → filled (a .blocks) before ≡ judged
+      found-judged a =
+          outcome-accepted (by .limits) (by .models .read) (by .rule .file) writesBlocks M C before (a .reads) (a .blocks) (roomy (a .N) (a .end) (a .reads)) (certificate-accepted a)
+
+      -- it refuses: with the same answer, and no is said
+      pub judged-refused : (judged .answer .number ≡ 0 → ⊥) → (judged .answer ≡ outcomeBy (pairsOf by) (testsParts x) M C [] .answer) × (0 ≡ alikeSays (pairsOf by) x M C)
+      unfolding unwritten filled answerWithoutPlace
+      judged-refused n =
+          ⊎-elim
+          (λ r. (ap (λ (o : Outcome). o .answer) (sym (r .refuses writesBlocks before roomy)) ∙ ap (λ (o : Outcome). o .answer) (r .refuses (testsParts x) [] (λ N end e. omega arith)), r .no-said x))
+          (λ a. absurd (n (ap (λ (o : Outcome). o .answer .number) (sym (found-judged a))))) refused-or-found
+
+      -- it accepts: so many blocks stand in the buffer, and they decide
+      pub record Compared (n : ℕ) (buffer : List ℕ) : Type 0 where
+        pub inside : n ≤ length buffer
+        pub answer : answerWithoutPlace (partsNumber n x) 0 ≡ outcomeBy (pairsOf by) (testsParts x) M C [] .answer
+        pub parted : (partsNumber n x ≡ 0 → ⊥) → 0 ≡ alikeSays (pairsOf by) x M C
+        pub said : partsNumber n x ≡ 0 → ifSame (getD buffer (x .firstState) 0) (getD buffer (x .secondState) 0) 1 0 ≡ alikeSays (pairsOf by) x M C
+
+      pub judged-compared : judged .answer .number ≡ 0 → Compared (judged .answer .written) (judged .buffer)
+      unfolding unwritten filled answerWithoutPlace
+      judged-compared z =
+          ⊎-elim (λ r. absurd (r .some (ap (λ (o : Outcome). o .answer .number) (r .refuses writesBlocks before roomy) ∙ z))) compared refused-or-found
+        where
+          compared : Found → Compared (judged .answer .written) (judged .buffer)
+          compared a =
+              let e = found-judged a in
+              let whole = facts-of by M C (a .blocks) b c (record { answers = a .judged }) (a .N) (holds-read by M b (a .reads)) .whole in
+              let n : length (a .N .labels) ≡ judged .answer .written = sym whole ∙ ap (λ (o : Outcome). o .answer .written) e in
+              let block : (v : ℕ) → v < length (a .N .labels) → getD (judged .buffer) v 0 ≡ getD (a .blocks) v 0 =
+              λ v h. ap (λ (o : Outcome). getD (o .buffer) v 0) (sym e) ∙ List·getD-append (a .blocks) (drop (length (a .blocks)) before) 0 v (omega (arith, h, whole)) in
+              record {
+                inside = omega (arith, ap (λ (o : Outcome). length (o .buffer)) e, length-append (a .blocks) (drop (length (a .blocks)) before), whole, n);
+                answer = ap (λ (k : ℕ). answerWithoutPlace (partsNumber k x) 0) (sym n) ∙ found-answer x a;
+                parted = λ m. found-parted x a (λ z. m (ap (λ (k : ℕ). partsNumber k x) (sym n) ∙ z));
+                said = λ z.
+                    let q = ap (λ (k : ℕ). partsNumber k x) n ∙ z in
+                    let named = parts-named (length (a .N .labels)) x q in
+                    ap₂ (λ (p r : ℕ). ifSame p r 1 0) (block (x .firstState) (named .0)) (block (x .secondState) (named .1)) ∙ found-said x a q;
+              }
+
+-- two designs in one question: where joining two models answers 0 and a certificate is accepted for the file that it wrote, a state of the
+-- first and one of the second are in their parts, and yes is said exactly when they are bisimilar in the joined model
+module _ (first second before after : List ℕ) (joins : JoinDemands limits (readWhole limits) (FileOf limits) first second before after 0) (M N : Model) (f : FileOf limits first M) (g : FileOf limits second N) (C blocks : List ℕ) (c : Bytes C) (kept : Kept limits plainSays 0x4354 (automatonOf (joined M N)) C blocks) (s t : ℕ) (inFirst : s < length (M .labels)) (inSecond : t < length (N .labels)) where
+  abbrev two : Named
+  two = record { firstCount = length (M .labels); firstState = s; secondState = length (M .labels) + t }
+
+  abbrev answer : rules.Answer
+  answer = outcomeBy plainPairs (testsParts two) (joinedFile M N) C [] .answer
+
+  joined-bytes : Bytes (joinedFile M N)
+  joined-bytes = sound-bytes limits (joined M N) limits-fit (joins .holds refl M N f g .sound)
+
+  said : SaysAlike plainPairs two (joinedFile M N) C (answer .number) (alikeSays plainPairs two (joinedFile M N) C)
+  said = says-alike plainRules (joinedFile M N) C joined-bytes c two (answer .number) refl
+
+  pub designs-parted : answer .number ≡ 0
+  designs-parted =
+      said .parted (joined M N) blocks (record { file = joins .holds refl M N f g; kept = kept }) .1
+      (record { count = omega (arith, joined-states M N); first = inFirst; second = omega arith; inside = omega (arith, joined-states M N) })
+
+  pub designs-alike : (alikeSays plainPairs two (joinedFile M N) C ≡ 1) ↔ Bisimilar Met (automatonOf (joined M N)) s (length (M .labels) + t)
+  designs-alike = alike-bisimilar plainRules (joinedFile M N) C joined-bytes c two designs-parted (joined M N) (joins .holds refl M N f g)

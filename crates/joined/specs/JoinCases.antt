@@ -1,0 +1,66 @@
+-- What the call that joins answers, case by case: each number, each file, and the bytes of the lent buffer.
+use Prim.Native.Nat.{ℕ}
+use mathlib.Core.Path.{_≡_, refl}
+use mathlib.Core.List.{List, [], _∷_, _++_}
+use lib.ListN.{length, take, drop, replicate}
+use Rattle.bisimulation.specs.definitions.Choice.{ifLess, ifSame}
+use Rattle.rules.specs.definitions.Limits.{Limits, limits}
+use Rattle.rules.specs.definitions.Bytes.{byteAt, twoAt, twoBytes}
+use Rattle.rules.specs.definitions.Model.{Model, headBytes, labelsBytes, entriesBytes, transitionBytes, transitionsBytes, modelBytes}
+use Rattle.rules.specs.definitions.Faults.{fault, firstOf, openFault}
+use Rattle.rules.specs.definitions.Reading.{statesOf, actionsOf, countOf, rangeFault, headFault, labelFault, labelsFault, sourceAt, actionAt, denominatorAt, entryCountAt, afterTransition, fixedFault, fixedFaultAt, entriesFault, transitionFault, refuseAt, scanTransitions, scanModel, refuseBytesLeft, scanWhole, entriesAt, transitionAt, transitionsAt, modelAt, readingOf, readWhole}
+use Rattle.rules.specs.definitions.SoundModel.{Each, sumOver}
+use Rattle.rules.specs.definitions.Answers.{Outcome, refusalIn, answerWithoutPlace, unwritten, filled, fileOutcome}
+use Rattle.rules.specs.cases.MoreCases.{outcomeOf}
+use Rattle.joined.specs.Joined.{raisedEntry, raisedTransition, larger, joined, joinedFile}
+use Rattle.joined.specs.JoinAnswer.{joinedOutcome, readingsOutcome, joinOutcome}
+use Rattle.joined.specs.JoinedCases.{firstModel, secondModel}
+
+-- limits, two files, the lent buffer before, and what joining answers and leaves in the buffer
+pub record JoinCase : Type 0 where
+  pub within : Limits
+  pub first : List ℕ
+  pub second : List ℕ
+  pub before : List ℕ
+  pub expected : Outcome
+
+-- the two small models of `JoinedCases`, 20 and 23 bytes, and what both are as one, 35
+abbrev firstFile : List ℕ
+firstFile = modelBytes firstModel
+
+abbrev secondFile : List ℕ
+secondFile = modelBytes secondModel
+
+abbrev both : List ℕ
+both = joinedFile firstModel secondModel
+
+-- so many states with label 0 and no transitions
+unfoldable pub still : ℕ → List ℕ
+still n = modelBytes (record { actions = 1; labels = replicate n 0; transitions = [] })
+
+abbrev few : (transitions entries : ℕ) → Limits
+few transitions entries = record { states = 64; actions = 32; transitions = transitions; entries = entries; refutations = 2016; label = 63 }
+
+unfoldable pub joinCases : List JoinCase
+joinCases =
+    -- a buffer of 37 bytes: the first 35 are the file, and the last 2 stay
+    record { within = limits; first = firstFile; second = secondFile; before = replicate 35 7 ++ (9 ∷ 8 ∷ []); expected = outcomeOf 0 0 0 0 0 35 (both ++ (9 ∷ 8 ∷ [])) }
+    -- an exact fit, and one byte less: 26, without a place, and nothing written
+    ∷ record { within = limits; first = firstFile; second = secondFile; before = replicate 35 7; expected = outcomeOf 0 0 0 0 0 35 both }
+    ∷ record { within = limits; first = firstFile; second = secondFile; before = replicate 34 7; expected = outcomeOf 26 0 0 0 0 0 (replicate 34 7) }
+    -- both files cut in their last record: the first is at fault
+    ∷ record { within = limits; first = take 19 firstFile; second = take 22 secondFile; before = 7 ∷ []; expected = outcomeOf 1 1 10 10 9 0 (7 ∷ []) }
+    -- the second alone: file 3, with place and stretch in it
+    ∷ record { within = limits; first = firstFile; second = take 22 secondFile; before = 7 ∷ []; expected = outcomeOf 1 3 10 10 12 0 (7 ∷ []) }
+    -- 64 states and 1 more, and no buffer: 25 comes before 26; 63 and 1 are 26
+    ∷ record { within = limits; first = still 64; second = still 1; before = []; expected = outcomeOf 25 0 0 0 0 0 [] }
+    ∷ record { within = limits; first = still 63; second = still 1; before = []; expected = outcomeOf 26 0 0 0 0 0 [] }
+    -- two transitions and three entries, at their limits and past them
+    ∷ record { within = few 2 3; first = firstFile; second = secondFile; before = []; expected = outcomeOf 26 0 0 0 0 0 [] }
+    ∷ record { within = few 1 3; first = firstFile; second = secondFile; before = []; expected = outcomeOf 25 0 0 0 0 0 [] }
+    ∷ record { within = few 2 2; first = firstFile; second = secondFile; before = []; expected = outcomeOf 25 0 0 0 0 0 [] }
+    ∷ []
+
+pub join-cases : Each (λ (c : JoinCase). joinOutcome (c .within) (readWhole (c .within)) (c .first) (c .second) (c .before) ≡ c .expected) joinCases
+unfolding ifLess ifSame byteAt twoAt twoBytes headBytes labelsBytes entriesBytes transitionBytes transitionsBytes modelBytes firstOf openFault statesOf actionsOf countOf rangeFault headFault labelFault labelsFault sourceAt actionAt denominatorAt entryCountAt afterTransition fixedFault fixedFaultAt entriesFault transitionFault refuseAt scanTransitions scanModel refuseBytesLeft scanWhole entriesAt transitionAt transitionsAt modelAt readingOf readWhole Each sumOver refusalIn answerWithoutPlace unwritten filled fileOutcome raisedEntry raisedTransition larger joined joinedOutcome readingsOutcome joinOutcome firstModel secondModel still joinCases
+join-cases = (refl, (refl, (refl, (refl, (refl, (refl, (refl, (refl, (refl, (refl, tt))))))))))

@@ -1,0 +1,2 @@
+pub mod JoinedFile
+pub mod JoinedFileLaws

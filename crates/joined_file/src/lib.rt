@@ -1,0 +1,83 @@
+// The file of two models written as one.
+ghost use Prim.Native.Nat.{_+_, _≤_};
+ghost use mathlib.Core.Path.{_≡_};
+ghost use mathlib.Core.List.{_++_};
+ghost use lib.ListN.{length, drop};
+ghost use Rattle.rules.specs.definitions.Reading.{modelAt};
+ghost use Rattle.joined.specs.Joined as joined;
+ghost use Rattle.writer.specs.Appends.{Appends};
+ghost use Rattle.raised.specs.Raised.{raisedTransitions};
+ghost use Rattle.joined_file.specs.JoinedFile.{labelsOf, CanWriteRecords, CanWriteJoined};
+use model::Model;
+use model::Places;
+
+fn larger(a: usize, b: usize) -> usize
+    ensures { λ r. ⌜ r ≡ joined.larger a b ⌝ }
+{
+    if a < b {
+        return b;
+    }
+    a
+}
+
+// The labels of two files, of so many states each. Hands back the place after them.
+fn write_labels(first: &[u8], k: usize, second: &[u8], n: usize, out: &mut [u8], at: usize) -> usize
+    requires { ⌜ (8 + k ≤ length (now first)) × (8 + n ≤ length (now second)) × (at + (k + n) ≤ length (now out)) ⌝ }
+    ensures { λ r. ⌜ Appends (labelsOf k (now (first .entry)) ++ labelsOf n (now (second .entry))) at (now (out .entry)) (now (out .exit)) r ⌝ }
+{
+    let first_end = 8 + k;
+    let second_end = 8 + n;
+    let next = writer::part(out, at, &first[8..first_end]);
+    writer::part(out, next, &second[8..second_end])
+}
+
+// The records of the first file as they stand from a place on, and those of the second raised by k.
+fn write_records(
+    first: &[u8],
+    start: usize,
+    second: &[u8],
+    count: usize,
+    places: &Places,
+    k: usize,
+    out: &mut [u8],
+    at: usize,
+) -> usize
+    requires { ⌜ CanWriteRecords (now first) start (now second) count (now places) k (now out) at ⌝ }
+    ensures { λ r. ⌜ Appends (drop start (now (first .entry)) ++ raisedTransitions k (modelAt (now (second .entry)) .transitions)) at (now (out .entry)) (now (out .exit)) r ⌝ }
+{
+    let records = &first[start..];
+    let next = writer::part(out, at, records);
+    raised::write_transitions(second, count, places, k, out, next)
+}
+
+// The joined file, and its length.
+pub fn write_joined(
+    first: &[u8],
+    m: Model,
+    second: &[u8],
+    n: Model,
+    places: &Places,
+    out: &mut [u8],
+) -> usize
+    requires { ⌜ CanWriteJoined (now first) m (now second) n (now places) (now out) ⌝ }
+    ensures { λ r. ⌜ Appends (joined.joinedFile (modelAt (now (first .entry))) (modelAt (now (second .entry)))) 0 (now (out .entry)) (now (out .exit)) r ⌝ }
+{
+    let actions = larger(m.actions, n.actions);
+    let labels = writer::head(
+        out,
+        m.states + n.states,
+        actions,
+        m.transitions + n.transitions,
+    );
+    let records = write_labels(first, m.states, second, n.states, out, labels);
+    write_records(
+        first,
+        8 + m.states,
+        second,
+        n.transitions,
+        places,
+        m.states,
+        out,
+        records,
+    )
+}

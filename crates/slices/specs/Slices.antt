@@ -1,0 +1,40 @@
+-- What the calls promise that hand a stretch back as a slice, in the definitions of documents 01 and 02. The slices are where the files lie,
+-- `lying` where the part does.
+use Prim.Native.Nat.{ℕ}
+use mathlib.Core.Path.{_≡_}
+use mathlib.Core.List.{List, [], _∷_}
+use Rattle.rules.specs.definitions.Limits.{limits}
+use Rattle.rules.specs.definitions.JudgedBy.{plainPairs}
+use Rattle.rules.specs.definitions.Answers.{fetchAnswer, stretchIn, FetchNumber, Follows}
+use Rattle.rules.specs.definitions.Demands.{outcomeBy, Demands}
+use Rattle.rules.specs.definitions.Reading.{readWhole}
+use Rattle.rules.specs.definitions.Accepted.{FileOf}
+use Rattle.joined.specs.JoinAnswer.{joinOutcome, joinFiles, JoinDemands}
+use Rattle.joined.specs.AlikeAnswer.{Named, testsParts, AlikeNumber, SaysAlike}
+use Rattle.answer.specs.Handing.{partFrom, Handed}
+
+-- a fetch: the run or stretch as a part of the model
+pub record FetchHandedBack (model : List ℕ) (slice : ℕ × ℕ) (state : ℕ) (number file place : ℕ) (part : List ℕ) (lying : ℕ × ℕ) : Type 0 where
+  pub numbered : number ≡ fetchAnswer limits model state .number
+  pub filed : file ≡ fetchAnswer limits model state .file
+  pub placed : place ≡ fetchAnswer limits model state .place
+  pub handed : part ≡ stretchIn model (fetchAnswer limits model state)
+  pub lies : lying ≡ partFrom slice (fetchAnswer limits model state .stretchStart)
+  pub known : FetchNumber number
+
+-- a call that judges (`PairAnswered`)
+pub record PairHandedBack (follows : Follows) (numbers : ℕ → Type 0) (model certificate before after : List ℕ) (modelSlice certificateSlice : ℕ × ℕ) (number file place written : ℕ) (part : List ℕ) (lying : ℕ × ℕ) : Type 0 where
+  pub outcome : Handed (outcomeBy plainPairs follows model certificate before) (model ∷ certificate ∷ []) (modelSlice ∷ certificateSlice ∷ []) after number file place written part lying
+  pub demands : Demands plainPairs follows numbers model certificate before after number
+
+-- the call that joins two models (`JoinAnswered`): the first is file 1, the second file 3, and an empty part of the first stands for file 2,
+-- which no answer names
+pub record JoinHandedBack (first second before after : List ℕ) (firstSlice secondSlice : ℕ × ℕ) (number file place written : ℕ) (part : List ℕ) (lying : ℕ × ℕ) : Type 0 where
+  pub outcome : Handed (joinOutcome limits (readWhole limits) first second before) (joinFiles first second) (firstSlice ∷ partFrom firstSlice 0 ∷ secondSlice ∷ []) after number file place written part lying
+  pub demands : JoinDemands limits (readWhole limits) (FileOf limits) first second before after number
+
+-- the call that compares two states (`AlikeAnswered`): it lends no buffer
+pub record AlikeHandedBack (model certificate : List ℕ) (x : Named) (modelSlice certificateSlice : ℕ × ℕ) (number file place said : ℕ) (part : List ℕ) (lying : ℕ × ℕ) : Type 0 where
+  pub outcome : Handed (outcomeBy plainPairs (testsParts x) model certificate []) (model ∷ certificate ∷ []) (modelSlice ∷ certificateSlice ∷ []) [] number file place 0 part lying
+  pub demands : Demands plainPairs (testsParts x) AlikeNumber model certificate [] [] number
+  pub says : SaysAlike plainPairs x model certificate number said

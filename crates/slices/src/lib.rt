@@ -1,0 +1,142 @@
+// The calls for Rattle, with a stretch as the slice itself: the tail of the file that holds the record at fault, empty where none does. Number,
+// file and place stand beside it. No public entry has a `requires`.
+ghost use denote.Ref.{ptr};
+ghost use Rattle.rules.specs.definitions.Answers.{writesBlocks, writesMerged, JudgeNumber, ReduceNumber};
+ghost use Rattle.acceptance.specs.Tasks.{followsOf, numbersOf};
+ghost use Rattle.alike.specs.Alike.{named};
+ghost use Rattle.slices.specs.Slices.{FetchHandedBack, PairHandedBack, JoinHandedBack, AlikeHandedBack};
+use acceptance::Task;
+
+// The part of the model that holds the transitions that leave a state, empty where none leave, or the stretch of a refusal.
+pub fn fetch<'a>(
+    model: &'a [u8],
+    state: u32,
+    number: &mut u32,
+    file: &mut u32,
+    place: &mut usize,
+) -> &'a [u8]
+    ensures { λ r. ⌜ FetchHandedBack (now (model .entry)) (ptr (model .entry)) state (now (number .exit)) (now (file .exit)) (now (place .exit)) (now r) (ptr r) ⌝ }
+{
+    let answer = fetch::fetch_answer(model, state);
+    answer::hand_back(model, model, model, answer, number, file, place)
+}
+
+// The answer of a call that judges, with its stretch handed back.
+fn hand_back_pair<'a>(
+    task: Task,
+    model: &'a [u8],
+    certificate: &'a [u8],
+    out: &mut [u8],
+    number: &mut u32,
+    file: &mut u32,
+    place: &mut usize,
+    written: &mut usize,
+) -> &'a [u8]
+    ensures { λ r. ⌜ PairHandedBack (followsOf task) (numbersOf task) (now (model .entry)) (now (certificate .entry)) (now (out .entry)) (now (out .exit)) (ptr (model .entry)) (ptr (certificate .entry)) (now (number .exit)) (now (file .exit)) (now (place .exit)) (now (written .exit)) (now r) (ptr r) ⌝ }
+{
+    let answer = pair::answer_pair(task, model, certificate, out);
+    *written = answer.written;
+    answer::hand_back(
+        model,
+        certificate,
+        &model[0..0],
+        answer,
+        number,
+        file,
+        place,
+    )
+}
+
+// Judges a certificate for a model. Acceptance writes the blocks, one byte a state; the written length, 0 on refusal, stands beside the slice.
+pub fn judge<'a>(
+    model: &'a [u8],
+    certificate: &'a [u8],
+    blocks: &mut [u8],
+    number: &mut u32,
+    file: &mut u32,
+    place: &mut usize,
+    written: &mut usize,
+) -> &'a [u8]
+    ensures { λ r. ⌜ PairHandedBack writesBlocks JudgeNumber (now (model .entry)) (now (certificate .entry)) (now (blocks .entry)) (now (blocks .exit)) (ptr (model .entry)) (ptr (certificate .entry)) (now (number .exit)) (now (file .exit)) (now (place .exit)) (now (written .exit)) (now r) (ptr r) ⌝ }
+{
+    hand_back_pair(
+        Task::Blocks,
+        model,
+        certificate,
+        blocks,
+        number,
+        file,
+        place,
+        written,
+    )
+}
+
+// Judges a certificate for a model and writes the model with each block merged into one state.
+pub fn reduce<'a>(
+    model: &'a [u8],
+    certificate: &'a [u8],
+    out: &mut [u8],
+    number: &mut u32,
+    file: &mut u32,
+    place: &mut usize,
+    written: &mut usize,
+) -> &'a [u8]
+    ensures { λ r. ⌜ PairHandedBack writesMerged ReduceNumber (now (model .entry)) (now (certificate .entry)) (now (out .entry)) (now (out .exit)) (ptr (model .entry)) (ptr (certificate .entry)) (now (number .exit)) (now (file .exit)) (now (place .exit)) (now (written .exit)) (now r) (ptr r) ⌝ }
+{
+    hand_back_pair(
+        Task::Merged,
+        model,
+        certificate,
+        out,
+        number,
+        file,
+        place,
+        written,
+    )
+}
+
+// Writes two models as one. A fault in the second has its stretch in the second.
+pub fn join<'a>(
+    first: &'a [u8],
+    second: &'a [u8],
+    out: &mut [u8],
+    number: &mut u32,
+    file: &mut u32,
+    place: &mut usize,
+    written: &mut usize,
+) -> &'a [u8]
+    ensures { λ r. ⌜ JoinHandedBack (now (first .entry)) (now (second .entry)) (now (out .entry)) (now (out .exit)) (ptr (first .entry)) (ptr (second .entry)) (now (number .exit)) (now (file .exit)) (now (place .exit)) (now (written .exit)) (now r) (ptr r) ⌝ }
+{
+    let joined = join::join_answer(first, second, out);
+    *written = joined.written;
+    answer::hand_back(first, &first[0..0], second, joined, number, file, place)
+}
+
+// Whether a state of the first part of a joined model behaves as one of the second, both by joined numbers: 1 for yes, 0 for no and on
+// refusal, stands beside the slice.
+pub fn alike<'a>(
+    model: &'a [u8],
+    first_count: u32,
+    certificate: &'a [u8],
+    first_state: u32,
+    second_state: u32,
+    number: &mut u32,
+    file: &mut u32,
+    place: &mut usize,
+    said: &mut u32,
+) -> &'a [u8]
+    ensures { λ r. ⌜ AlikeHandedBack (now (model .entry)) (now (certificate .entry)) (named «first_count» «first_state» «second_state») (ptr (model .entry)) (ptr (certificate .entry)) (now (number .exit)) (now (file .exit)) (now (place .exit)) (now (said .exit)) (now r) (ptr r) ⌝ }
+{
+    let found = alike::alike_answer(model, first_count, certificate, first_state, second_state);
+    let answer = found.answer;
+    *said = found.alike;
+    answer::hand_back(
+        model,
+        certificate,
+        &model[0..0],
+        answer,
+        number,
+        file,
+        place,
+    )
+}

@@ -1,0 +1,53 @@
+#include <stdio.h>
+#include <stdlib.h>
+
+#include "common.h"
+
+/* The library's layout: a build for another one stops here. */
+#define ASSERT(name, condition) typedef char name[(condition) ? 1 : -1]
+ASSERT(answer_fields, offsetof(zolkirta_answer, number) == 0 && offsetof(zolkirta_answer, file) == 4 &&
+                          offsetof(zolkirta_answer, place) == 8 && offsetof(zolkirta_answer, stretch_start) == 16 &&
+                          offsetof(zolkirta_answer, stretch_length) == 24 && offsetof(zolkirta_answer, written) == 32);
+ASSERT(answer_size, sizeof(zolkirta_answer) == 40);
+ASSERT(alike_fields, offsetof(zolkirta_alike_answer, answer) == 0 && offsetof(zolkirta_alike_answer, alike) == 40);
+ASSERT(alike_size, sizeof(zolkirta_alike_answer) == 48);
+
+/* Far more bytes than any model has, and more than a certificate is likely to have. */
+#define ROOM ((size_t)16 << 20)
+
+uint8_t *read_file(const char *path, size_t *length)
+{
+    FILE *file = fopen(path, "rb");
+    uint8_t *bytes = malloc(ROOM);
+    if (!file || !bytes) {
+        perror(path);
+        exit(2);
+    }
+    *length = fread(bytes, 1, ROOM, file);
+    if (ferror(file) || (*length == ROOM && fgetc(file) != EOF)) {
+        fprintf(stderr, "%s: cannot be read, or is longer than %zu bytes\n", path, ROOM);
+        exit(2);
+    }
+    fclose(file);
+    return bytes;
+}
+
+void write_file(const char *path, const uint8_t *bytes, size_t length)
+{
+    FILE *file = fopen(path, "wb");
+    if (!file || fwrite(bytes, 1, length, file) != length || fclose(file)) {
+        perror(path);
+        exit(2);
+    }
+}
+
+void print_answer(zolkirta_answer answer)
+{
+    static const char *const files[] = {"no file", "the model", "the certificate", "the second model", "an unknown file"};
+    if (answer.number == ZOLKIRTA_ACCEPTED)
+        printf("accepted, %zu bytes\n", answer.written);
+    else if (answer.file)
+        printf("refused %u in %s, at byte %zu\n", (unsigned)answer.number, files[answer.file < 4 ? answer.file : 4], answer.place);
+    else
+        printf("refused %u\n", (unsigned)answer.number);
+}

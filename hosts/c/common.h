@@ -1,0 +1,8 @@
+/* What the examples share. A file that cannot be read or written ends the program with status 2. */
+#include <zolkirta.h>
+
+/* The bytes of a file, to be freed. */
+uint8_t *read_file(const char *path, size_t *length);
+void write_file(const char *path, const uint8_t *bytes, size_t length);
+
+void print_answer(zolkirta_answer answer);

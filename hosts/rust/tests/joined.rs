@@ -1,0 +1,181 @@
+//! Two models as one, and whether a state of one behaves as a state of the other: the library and the plain judge answer alike, for
+//! damaged files and for certificates made for random automata.
+mod compare;
+mod maker;
+mod plain;
+mod records;
+
+use compare::{accepted, alike, changes, join, judge, reduce, rounds, Numbers};
+use maker::families::filled;
+use maker::files::{Certificate, Model, Transition};
+use maker::random::random_model;
+use records::{crowded, each_damaged, split, split_models, Records};
+use std::collections::BTreeSet;
+use zolkirta::MODEL;
+
+/// A joined model with a certificate, and the first's state count.
+struct Joined {
+    model: Vec<u8>,
+    certificate: Certificate,
+    count: usize,
+}
+
+impl Joined {
+    /// None where the maker finds no certificate.
+    fn new(first: &Model, second: &Model, numbers: &mut Numbers) -> Option<Joined> {
+        let (answer, model) = join(&first.bytes(), &second.bytes(), MODEL);
+        assert_eq!(answer.number, 0);
+        let certificate = maker::certificate(&Model::read(&model), numbers)?;
+        assert_eq!(judge(&model, &certificate.bytes(), 64).1, certificate.blocks);
+        Some(Joined { model, certificate, count: first.n() })
+    }
+
+    /// Asks for every state of the first and every state of the second, each by its own number: the blocks decide.
+    fn asked(&self) -> Vec<Vec<bool>> {
+        let (certificate, blocks) = (self.certificate.bytes(), &self.certificate.blocks);
+        let second = self.count..blocks.len();
+        let yes = |s: usize, t: usize| {
+            let said = alike(&self.model, &certificate, [self.count, s, t].map(|x| x as u32));
+            assert_eq!((said.answer.number, said.alike), (0, u32::from(blocks[s] == blocks[t])));
+            said.alike == 1
+        };
+        (0..self.count).map(|s| second.clone().map(|t| yes(s, t)).collect()).collect()
+    }
+}
+
+fn turned(rows: &[Vec<bool>]) -> Vec<Vec<bool>> {
+    (0..rows[0].len()).map(|t| rows.iter().map(|row| row[t]).collect()).collect()
+}
+
+#[test]
+fn states_are_alike_in_either_order_of_joining() {
+    let mut numbers = Numbers::new(31);
+    let (mut yes, mut no) = (0, 0);
+    for _ in 0..rounds(150) {
+        let first = random_model(&mut numbers, 5);
+        let second = random_model(&mut numbers, 5);
+        let both = Joined::new(&first, &second, &mut numbers).zip(Joined::new(&second, &first, &mut numbers));
+        let Some((one, other)) = both else { continue };
+        let rows = one.asked();
+        assert_eq!(other.asked(), turned(&rows), "{first:?} {second:?}");
+        yes += rows.iter().flatten().filter(|&&yes| yes).count() as u64;
+        no += rows.iter().flatten().filter(|&&yes| !yes).count() as u64;
+    }
+    println!("{yes} times yes, {no} times no");
+    assert!(yes > rounds(50) && no > rounds(500));
+}
+
+#[test]
+fn a_model_is_alike_to_itself_as_its_blocks_say() {
+    let mut numbers = Numbers::new(32);
+    let mut split = 0;
+    for _ in 0..rounds(100) {
+        let model = random_model(&mut numbers, 5);
+        let Some(own) = maker::certificate(&model, &mut numbers) else { continue };
+        let merged = Model::read(&reduce(&model.bytes(), &own.bytes(), MODEL).1);
+        // The same automaton in other terms, and the one that has a state for each block.
+        let respelled = (model.respelled(3), own.blocks.clone());
+        for (second, blocks) in [respelled, (merged.clone(), (0..merged.n() as u8).collect())] {
+            let Some(joined) = Joined::new(&model, &second, &mut numbers) else { continue };
+            let expected: Vec<Vec<bool>> = own.blocks.iter().map(|s| blocks.iter().map(|t| s == t).collect()).collect();
+            assert_eq!(joined.asked(), expected, "{model:?}");
+            split += u64::from(merged.n() > 1);
+        }
+    }
+    println!("{split} joined models whose first has more blocks than one");
+    assert!(split > rounds(100));
+}
+
+#[test]
+fn damaged_models_are_joined_alike() {
+    let mut models: Vec<Vec<u8>> = accepted().into_iter().map(|(model, _)| model).collect();
+    models.dedup();
+    let mut pairs: Vec<Records> = models.iter().zip(models.iter().rev()).map(|(first, second)| split_models(first, second)).collect();
+    let crowded = crowded().0;
+    pairs.extend(models.iter().take(10).flat_map(|small| [split_models(small, &crowded), split_models(&crowded, small)]));
+    let mut told = BTreeSet::new();
+    each_damaged(&pairs, rounds(60_000), 33, |first, second, _, numbers| {
+        let whole = first.len() + second.len();
+        let length = if numbers.below(4) == 0 { numbers.below(whole + 2) } else { whole };
+        let (answer, _) = join(first, second, length);
+        told.insert((answer.number, answer.file));
+    });
+    let all = (1..=9).flat_map(|number| [(number, 1), (number, 3)]).chain([(0, 0), (25, 0), (26, 0)]);
+    assert_eq!(told, all.collect());
+}
+
+#[test]
+fn damaged_pairs_are_compared_alike() {
+    let mut numbers = Numbers::new(34);
+    let mut pairs = accepted();
+    pairs.push(crowded());
+    while pairs.len() < 200 {
+        let [first, second] = [(); 2].map(|_| random_model(&mut numbers, 4));
+        pairs.extend(Joined::new(&first, &second, &mut numbers).map(|joined| (joined.model, joined.certificate.bytes())));
+    }
+    let pairs: Vec<Records> = pairs.iter().map(split).collect();
+    let mut told = BTreeSet::new();
+    each_damaged(&pairs, rounds(60_000), 35, |model, certificate, n, numbers| {
+        let count = numbers.below(n) + 1;
+        let named = match numbers.below(4) {
+            0 => [count, numbers.below(n + 2), numbers.below(n + 2)],
+            _ => [count, numbers.below(count), numbers.below(n - count + 1) + count],
+        };
+        let said = alike(model, certificate, named.map(|x| x as u32));
+        told.insert((said.answer.number, said.answer.file, said.alike));
+    });
+    let refused = (1..=9).map(|number| (number, 1, 0)).chain((11..=22).map(|number| (number, 2, 0)));
+    assert_eq!(told, refused.chain([(0, 0, 0), (0, 0, 1), (27, 0, 0)]).collect());
+}
+
+/// Joins with every truncation and every change of one byte of either model, and compares two states of the joined pair likewise.
+#[test]
+fn every_truncation_and_change_of_one_byte_of_small_models() {
+    let mut numbers = Numbers::new(36);
+    let mut pairs = 0;
+    while pairs < rounds(3) {
+        let [first, second] = [(); 2].map(|_| random_model(&mut numbers, 2));
+        let Some(joined) = Joined::new(&first, &second, &mut numbers) else { continue };
+        if first.transitions.is_empty() || second.transitions.is_empty() {
+            continue;
+        }
+        pairs += 1;
+        let (first, second, certificate) = (first.bytes(), second.bytes(), joined.certificate.bytes());
+        let named = [joined.count, 0, joined.count].map(|x| x as u32);
+        for size in 0..first.len() {
+            assert_eq!(join(&first[..size], &second, MODEL).0.file, 1);
+        }
+        for size in 0..second.len() {
+            let answer = join(&first, &second[..size], MODEL).0;
+            assert_eq!((answer.number, answer.file, answer.place + answer.stretch_length), (1, 3, size));
+        }
+        for size in 0..certificate.len() {
+            assert_eq!(alike(&joined.model, &certificate[..size], named).answer.number, 11);
+        }
+        changes(&first, |damaged| _ = join(damaged, &second, MODEL));
+        changes(&second, |damaged| _ = join(&first, damaged, MODEL));
+        changes(&joined.model, |damaged| _ = alike(damaged, &certificate, named));
+        changes(&certificate, |damaged| _ = alike(&joined.model, damaged, named));
+    }
+}
+
+/// Two models that fill the limits together, and what one state, transition or entry more does.
+#[test]
+fn a_joined_model_keeps_the_limits() {
+    let half = filled(32).0;
+    assert_eq!(join(&half.bytes(), &half.bytes(), MODEL).1.len(), MODEL);
+    let state = Model { labels: [&half.labels[..], &[63]].concat(), ..half.clone() };
+    let (mut transition, mut entry) = (half.clone(), half.clone());
+    let weights = transition.transitions[0].weights.split_off(2);
+    transition.transitions[0].d = 2;
+    transition.transitions.insert(0, Transition { source: 0, action: 31, d: 2, weights });
+    entry.transitions[127].weights.insert(0, (0, 9));
+    entry.transitions[127].d += 9;
+    for larger in [state, transition, entry].map(|model| model.bytes()) {
+        assert_eq!(join(&larger, b"PA\x01\x01\0\0LB\0", MODEL).0.number, 0, "sound by itself");
+        for length in [0, MODEL, 2 * MODEL] {
+            assert_eq!(join(&half.bytes(), &larger, length).0.number, 25);
+            assert_eq!(join(&larger, &half.bytes(), length).0.number, 25);
+        }
+    }
+}

@@ -19,8 +19,8 @@
 #include <stddef.h>
 #include <stdint.h>
 
-#define ZOLKIRTA_VERSION "0.2.0"
-#define ZOLKIRTA_VERSION_NUMBER 200 /* major * 10000 + minor * 100 + patch */
+#define ZOLKIRTA_VERSION "0.3.0"
+#define ZOLKIRTA_VERSION_NUMBER 300 /* major * 10000 + minor * 100 + patch */
 
 /* The most states that a model has: a block buffer of this length is always long enough. */
 #define ZOLKIRTA_STATES 64
@@ -68,7 +68,18 @@ enum zolkirta_number {
     ZOLKIRTA_PARTS = 27                 /* accepted, and the first's count is above the state count or a state is not in its part */
 };
 
-/* What a call answers. */
+/* What a call answers.
+ *
+ * Off by how much. Where 16, 20 or 21 refuses, state and remainder save a solver's writer from adding up terms: look at the condition or
+ * equation of that state in the record at `place`, and lessen its left side, or raise its right one, by the remainder (the other way
+ * where it is negative). Names are those of document 01.
+ *   16: state is the refutation's t, remainder is d0 A(t) less the sum of p0(u) G(u). It is never negative, and as the left side must be
+ *       below the right, one more than the remainder is to be made up for.
+ *   20: state is the first v where an equation breaks, remainder is its left side, what arrives at v, less its right, what leaves v; never
+ *       0. An external challenger has two equations at v: it is the one before the move, or where that one holds the one after it, since
+ *       none after the move is looked at until all before it hold.
+ *   21: state is the first u where an equation breaks, remainder is d0 times the sum of w(v,u) over v, less p0(u) D; never 0. Where d0
+ *       divides it, the quotient is by how much the w onto u are too many. */
 typedef struct zolkirta_answer {
     uint32_t number;       /* 0, or the number of the refusal */
     uint32_t file;         /* the file at fault: 1 model, 2 certificate, 3 the second model; 0 where none is */
@@ -76,6 +87,8 @@ typedef struct zolkirta_answer {
     size_t stretch_start;  /* the stretch from that place to the file's end, or the run that was fetched: */
     size_t stretch_length; /* where it starts in its file and how long it is; both 0 where it is empty and has no file */
     size_t written;        /* bytes written into the lent buffer; 0 on refusal, and where none is lent */
+    uint32_t state;        /* for 16, 20 and 21 the state whose condition or equation breaks; else 0 */
+    int64_t remainder;     /* for 16, 20 and 21 its left side less its right one; else 0 */
 } zolkirta_answer;
 
 /* What zolkirta_alike answers. */

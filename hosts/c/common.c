@@ -1,3 +1,4 @@
+#include <inttypes.h>
 #include <stdio.h>
 #include <stdlib.h>
 
@@ -7,10 +8,11 @@
 #define ASSERT(name, condition) typedef char name[(condition) ? 1 : -1]
 ASSERT(answer_fields, offsetof(zolkirta_answer, number) == 0 && offsetof(zolkirta_answer, file) == 4 &&
                           offsetof(zolkirta_answer, place) == 8 && offsetof(zolkirta_answer, stretch_start) == 16 &&
-                          offsetof(zolkirta_answer, stretch_length) == 24 && offsetof(zolkirta_answer, written) == 32);
-ASSERT(answer_size, sizeof(zolkirta_answer) == 40);
-ASSERT(alike_fields, offsetof(zolkirta_alike_answer, answer) == 0 && offsetof(zolkirta_alike_answer, alike) == 40);
-ASSERT(alike_size, sizeof(zolkirta_alike_answer) == 48);
+                          offsetof(zolkirta_answer, stretch_length) == 24 && offsetof(zolkirta_answer, written) == 32 &&
+                          offsetof(zolkirta_answer, state) == 40 && offsetof(zolkirta_answer, remainder) == 48);
+ASSERT(answer_size, sizeof(zolkirta_answer) == 56);
+ASSERT(alike_fields, offsetof(zolkirta_alike_answer, answer) == 0 && offsetof(zolkirta_alike_answer, alike) == 56);
+ASSERT(alike_size, sizeof(zolkirta_alike_answer) == 64);
 
 /* Far more bytes than any model has, and more than a certificate is likely to have. */
 #define ROOM ((size_t)16 << 20)
@@ -45,9 +47,12 @@ void print_answer(zolkirta_answer answer)
 {
     static const char *const files[] = {"no file", "the model", "the certificate", "the second model", "an unknown file"};
     if (answer.number == ZOLKIRTA_ACCEPTED)
-        printf("accepted, %zu bytes\n", answer.written);
-    else if (answer.file)
-        printf("refused %u in %s, at byte %zu\n", (unsigned)answer.number, files[answer.file < 4 ? answer.file : 4], answer.place);
+        printf("accepted, %zu bytes", answer.written);
     else
-        printf("refused %u\n", (unsigned)answer.number);
+        printf("refused %u", (unsigned)answer.number);
+    if (answer.file)
+        printf(" in %s, at byte %zu", files[answer.file < 4 ? answer.file : 4], answer.place);
+    if (answer.number == ZOLKIRTA_LAST_PRICES || answer.number == ZOLKIRTA_FLOW_EQUATION || answer.number == ZOLKIRTA_TARGET_EQUATION)
+        printf(": state %" PRIu32 ", remainder %" PRId64, answer.state, answer.remainder);
+    puts("");
 }

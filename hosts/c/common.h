@@ -5,4 +5,5 @@
 uint8_t *read_file(const char *path, size_t *length);
 void write_file(const char *path, const uint8_t *bytes, size_t length);
 
+/* A line with the number, file and place, for 16, 20 and 21 also state and remainder. */
 void print_answer(zolkirta_answer answer);

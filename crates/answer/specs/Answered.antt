@@ -17,6 +17,8 @@ answered a =
       stretchStart = a .«stretch_start»;
       stretchLength = a .«stretch_length»;
       written = a .written;
+      state = a .state;
+      remainder = a .remainder;
     }
 
 -- an answer names one of the call's files or none, and its stretch lies in it

@@ -3,6 +3,7 @@ use Prim.Native.Nat.{ℕ, _+_, _-_}
 use mathlib.Core.Path.{_≡_}
 use mathlib.Core.List.{List}
 use lib.ListN.{getD}
+use lib.IntN.{ℤ}
 use Rattle.rules.specs.definitions.Answers.{Outcome, stretchOf}
 use Rattle.answer.specs.declared.Answer.{Answer}
 use Rattle.answer.specs.Answered.{answered}
@@ -16,19 +17,23 @@ abbrev pub sliceOf : List (ℕ × ℕ) → ℕ → ℕ × ℕ
 sliceOf slices file = getD slices (file - 1) (0, 0)
 
 -- its numbers, and its stretch as a part of its file
-pub record HandsBack (files : List (List ℕ)) (slices : List (ℕ × ℕ)) (r : Answer) (number file place : ℕ) (part : List ℕ) (lying : ℕ × ℕ) : Type 0 where
+pub record HandsBack (files : List (List ℕ)) (slices : List (ℕ × ℕ)) (r : Answer) (number file place state : ℕ) (remainder : ℤ) (part : List ℕ) (lying : ℕ × ℕ) : Type 0 where
   pub numbered : number ≡ r .number
   pub filed : file ≡ r .file
   pub placed : place ≡ r .place
+  pub stated : state ≡ r .state
+  pub off : remainder ≡ r .remainder
   pub handed : part ≡ stretchOf files (answered r)
   pub lies : lying ≡ partFrom (sliceOf slices (r .file)) (r .«stretch_start»)
 
 -- an outcome of a call that was given these files, which lie in these slices: its numbers stand beside its stretch, a part of the file that
 -- it names, and the lent buffer is as it says
-pub record Handed (o : Outcome) (files : List (List ℕ)) (slices : List (ℕ × ℕ)) (after : List ℕ) (number file place written : ℕ) (part : List ℕ) (lying : ℕ × ℕ) : Type 0 where
+pub record Handed (o : Outcome) (files : List (List ℕ)) (slices : List (ℕ × ℕ)) (after : List ℕ) (number file place state : ℕ) (remainder : ℤ) (written : ℕ) (part : List ℕ) (lying : ℕ × ℕ) : Type 0 where
   pub numbered : number ≡ o .answer .number
   pub filed : file ≡ o .answer .file
   pub placed : place ≡ o .answer .place
+  pub stated : state ≡ o .answer .state
+  pub off : remainder ≡ o .answer .remainder
   pub wrote : written ≡ o .answer .written
   pub handed : part ≡ stretchOf files (o .answer)
   pub lies : lying ≡ partFrom (sliceOf slices (o .answer .file)) (o .answer .stretchStart)

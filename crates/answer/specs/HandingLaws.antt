@@ -3,6 +3,7 @@ use Prim.Native.Nat.{ℕ, _+_, _-_, _≤_}
 use mathlib.Core.Path.{_≡_, refl, sym, _∙_, ap}
 use mathlib.Core.List.{List, [], _∷_}
 use lib.ListN.{length, take, drop, getD}
+use lib.IntN.{ℤ}
 use native.Mathlib.Nat.{add-sub-cancel-left}
 use native.Mathlib.Decide.{decLe}
 use native.Mathlib.Omega.{arith}
@@ -56,20 +57,22 @@ unfolding stretchIn
 part-of r s = ap (λ (k : ℕ). take k (drop (r .«stretch_start») s)) (add-sub-cancel-left (r .«stretch_start») (r .«stretch_length»))
 
 -- a part of the file that it names is what is handed back
-from-file : (files : List (List ℕ)) (slices : List (ℕ × ℕ)) (r : Answer) (s : List ℕ) (slice : ℕ × ℕ) → fileOf files (r .file) ≡ s → sliceOf slices (r .file) ≡ slice → HandsBack files slices r (r .number) (r .file) (r .place) (take (endOf r - r .«stretch_start») (drop (r .«stretch_start») s)) (partFrom slice (r .«stretch_start»))
+from-file : (files : List (List ℕ)) (slices : List (ℕ × ℕ)) (r : Answer) (s : List ℕ) (slice : ℕ × ℕ) → fileOf files (r .file) ≡ s → sliceOf slices (r .file) ≡ slice → HandsBack files slices r (r .number) (r .file) (r .place) (r .state) (r .remainder) (take (endOf r - r .«stretch_start») (drop (r .«stretch_start») s)) (partFrom slice (r .«stretch_start»))
 unfolding stretchOf
 from-file files slices r s slice e f =
     record {
       numbered = refl;
       filed = refl;
       placed = refl;
+      stated = refl;
+      off = refl;
       handed = part-of r s ∙ ap (λ (l : List ℕ). stretchIn l (answered r)) (sym e);
       lies = ap (λ (p : ℕ × ℕ). partFrom p (r .«stretch_start»)) (sym f);
     }
 
 module _ (a b c : List ℕ) (x y z : ℕ × ℕ) (r : Answer) where
   abbrev HandsPart : List ℕ → ℕ × ℕ → Type 0
-  HandsPart s slice = HandsBack (a ∷ b ∷ c ∷ []) (x ∷ y ∷ z ∷ []) r (r .number) (r .file) (r .place) (take (endOf r - r .«stretch_start») (drop (r .«stretch_start») s)) (partFrom slice (r .«stretch_start»))
+  HandsPart s slice = HandsBack (a ∷ b ∷ c ∷ []) (x ∷ y ∷ z ∷ []) r (r .number) (r .file) (r .place) (r .state) (r .remainder) (take (endOf r - r .«stretch_start») (drop (r .«stretch_start») s)) (partFrom slice (r .«stretch_start»))
 
   pub from-second : r .file ≡ 2 → HandsPart b y
   unfolding fileOf
@@ -83,8 +86,12 @@ module _ (a b c : List ℕ) (x y z : ℕ × ℕ) (r : Answer) where
   unfolding fileOf
   from-first h = from-file _ _ r a x (first-of a b c [] (r .file) h) (first-of x y z (0, 0) (r .file) h)
 
+-- a remainder as the machine's number
+pub off-as : {files : List (List ℕ)} {slices : List (ℕ × ℕ)} {r : Answer} {number file place state : ℕ} {remainder other : ℤ} {part : List ℕ} {lying : ℕ × ℕ} → HandsBack files slices r number file place state remainder part lying → other ≡ remainder → HandsBack files slices r number file place state other part lying
+off-as h e = record { numbered = h .numbered; filed = h .filed; placed = h .placed; stated = h .stated; off = e ∙ h .off; handed = h .handed; lies = h .lies }
+
 -- an outcome whose answer was handed back from these files, among which are the call's own
-pub handed-back : {o : Outcome} {files : List (List ℕ)} {slices : List (ℕ × ℕ)} {after : List ℕ} {r : Answer} {number file place written : ℕ} {part : List ℕ} {lying : ℕ × ℕ} (all : List (List ℕ)) (places : List (ℕ × ℕ)) → OutcomeIs o files after r → HandsBack all places r number file place part lying → written ≡ r .written → fileOf all (r .file) ≡ fileOf files (r .file) → sliceOf places (r .file) ≡ sliceOf slices (r .file) → Handed o files slices after number file place written part lying
+pub handed-back : {o : Outcome} {files : List (List ℕ)} {slices : List (ℕ × ℕ)} {after : List ℕ} {r : Answer} {number file place state : ℕ} {remainder : ℤ} {written : ℕ} {part : List ℕ} {lying : ℕ × ℕ} (all : List (List ℕ)) (places : List (ℕ × ℕ)) → OutcomeIs o files after r → HandsBack all places r number file place state remainder part lying → written ≡ r .written → fileOf all (r .file) ≡ fileOf files (r .file) → sliceOf places (r .file) ≡ sliceOf slices (r .file) → Handed o files slices after number file place state remainder written part lying
 unfolding stretchOf
 handed-back {files = files} {slices} {r = r} all places is h w e f =
     let a = is .answer in
@@ -92,6 +99,8 @@ handed-back {files = files} {slices} {r = r} all places is h w e f =
       numbered = h .numbered ∙ ap (λ (x : rules.Answer). x .number) a;
       filed = h .filed ∙ ap (λ (x : rules.Answer). x .file) a;
       placed = h .placed ∙ ap (λ (x : rules.Answer). x .place) a;
+      stated = h .stated ∙ ap (λ (x : rules.Answer). x .state) a;
+      off = h .off ∙ ap (λ (x : rules.Answer). x .remainder) a;
       wrote = w ∙ ap (λ (x : rules.Answer). x .written) a;
       handed = h .handed ∙ ap (λ (l : List ℕ). stretchIn l (answered r)) e ∙ ap (stretchOf files) a;
       lies = h .lies ∙ ap (λ (p : ℕ × ℕ). partFrom p (r .«stretch_start»)) f ∙ ap (λ (x : rules.Answer). partFrom (sliceOf slices (x .file)) (x .stretchStart)) a;

@@ -10,7 +10,8 @@ ghost use Rattle.answer.specs.Handing.{HandsBack};
 use fault::Fault;
 
 // What a call answers: the papers' number, file (1 model, 2 certificate, 3 second model) and place; where the stretch, or the run of a
-// fetch, starts in its file and how long it is; and how many bytes were written into the lent buffer.
+// fetch, starts in its file and how long it is; how many bytes were written into the lent buffer; and for 16, 20 and 21 the state at which
+// an equation or the last price condition breaks, with its left side less its right.
 #[repr(C)]
 pub struct Answer {
     pub number: u32,
@@ -19,6 +20,8 @@ pub struct Answer {
     pub stretch_start: usize,
     pub stretch_length: usize,
     pub written: usize,
+    pub state: u32,
+    pub remainder: i64,
 }
 
 pub fn without_place(number: u32, written: usize) -> Answer
@@ -31,6 +34,8 @@ pub fn without_place(number: u32, written: usize) -> Answer
         stretch_start: 0,
         stretch_length: 0,
         written,
+        state: 0,
+        remainder: 0,
     }
 }
 
@@ -46,6 +51,8 @@ pub fn refusal_in(fault: Fault, file: u32, size: usize) -> Answer
         stretch_start: fault.place,
         stretch_length: size - fault.place,
         written: 0,
+        state: fault.state,
+        remainder: fault.remainder,
     }
 }
 
@@ -59,15 +66,20 @@ pub fn hand_back<'a>(
     number: &mut u32,
     file: &mut u32,
     place: &mut usize,
+    state: &mut u32,
+    remainder: &mut i64,
 ) -> &'a [u8]
     requires { ⌜ StretchInside (now first ∷ now second ∷ now third ∷ []) answer ⌝ }
-    ensures { λ r. ⌜ HandsBack (now (first .entry) ∷ now (second .entry) ∷ now (third .entry) ∷ []) (ptr (first .entry) ∷ ptr (second .entry) ∷ ptr (third .entry) ∷ []) answer (now (number .exit)) (now (file .exit)) (now (place .exit)) (now r) (ptr r) ⌝ }
+    ensures { λ r. ⌜ HandsBack (now (first .entry) ∷ now (second .entry) ∷ now (third .entry) ∷ []) (ptr (first .entry) ∷ ptr (second .entry) ∷ ptr (third .entry) ∷ []) answer (now (number .exit)) (now (file .exit)) (now (place .exit)) (now (state .exit)) (now (remainder .exit)) (now r) (ptr r) ⌝ }
 {
     let start = answer.stretch_start;
     let size = answer.stretch_length;
+    let off = answer.remainder;
     *number = answer.number;
     *file = answer.file;
     *place = answer.place;
+    *state = answer.state;
+    *remainder = off;
     if answer.file == 2 {
         return &second[start..start + size];
     }

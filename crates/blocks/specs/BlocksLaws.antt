@@ -7,15 +7,15 @@ use lib.ListN.{length, take, drop, getD}
 use lib.Seq.{getD-take, getD-drop}
 use native.Mathlib.Omega.{arith}
 use Rattle.bisimulation.specs.definitions.Choice.{ifLess, ifSame, ifTrue, allBelow}
-use Rattle.bisimulation.specs.argument.ChoiceLaws.{pastLess, eitherSame, less, notLess, via}
+use Rattle.bisimulation.specs.argument.ChoiceLaws.{eitherSame, via}
 use Rattle.bisimulation.specs.definitions.Automaton.{Automaton}
 use Rattle.bisimulation.specs.definitions.Pairs.{Pairs}
 use Rattle.rules.specs.definitions.Limits.{limits}
 use Rattle.rules.specs.definitions.Bytes.{byteAt, twoAt}
 use Rattle.rules.specs.definitions.Certificate.{numberedFault, pairsFault, blocksAt, blocksFault}
 use Rattle.rules.specs.definitions.Faults as rules
-use Rattle.rules.specs.definitions.Faults.{fault, noFault, certificateRecord, openFault}
-use Rattle.rules.specs.argument.FaultLaws.{no-fault, first-stops, first-passes, certificate-refuses, opened}
+use Rattle.rules.specs.definitions.Faults.{fault, noFault, Passes, certificateRecord, openFault}
+use Rattle.rules.specs.argument.FaultLaws.{first-stops, first-passes, certificate-refuses, opened, pass-ifLess}
 use Rattle.fault.specs.declared.Fault.{Fault}
 use Rattle.fault.specs.Faults.{faultOf, Placed}
 use Rattle.fault.specs.FaultsLaws.{none-is, placed-some}
@@ -40,11 +40,11 @@ pub numbered-of : {x : rules.Fault} (A : Automaton) (C : List ℕ) (n at : ℕ) 
 numbered-of A C n at e h = h ∙ ap (λ (k : ℕ). numberedFault C k at 0) (sym e)
 
 -- blocks numbered by first appearance are small
-pub numbered-small : (C : List ℕ) (left at seen : ℕ) → noFault ≡ numberedFault C left at seen → (i : ℕ) → i < left → byteAt C (at + i) ≤ seen + i
+pub numbered-small : (C : List ℕ) (left at seen : ℕ) → Passes (numberedFault C left at seen) → (i : ℕ) → i < left → byteAt C (at + i) ≤ seen + i
 unfolding numberedFault
 numbered-small C zero at seen e i h = absurd (omega arith)
 numbered-small C (suc left) at seen e i h =
-    let a = pastLess (fault 17) _ seen (byteAt C at) (no-fault 16) e in
+    let a = pass-ifLess _ _ _ _ e (omega arith) in
     go (a .0) (λ k l. numbered-small C left (at + 1) (ifSame (byteAt C at) seen (seen + 1) seen) (a .1) k l) i h
   where
     most : ifSame (byteAt C at) seen (seen + 1) seen ≤ seen + 1
@@ -57,7 +57,7 @@ numbered-small C (suc left) at seen e i h =
         omega (arith, most, ap (byteAt C) place, later i (omega arith))
 
 -- so they are numbers of rows, as a part of the file
-pub small-part : (C : List ℕ) (at n m k : ℕ) → n ≤ limits .states → m ≤ n → k ≡ n → noFault ≡ numberedFault C n at 0 → SmallBytes m (take k (drop at C))
+pub small-part : (C : List ℕ) (at n m k : ℕ) → n ≤ limits .states → m ≤ n → k ≡ n → Passes (numberedFault C n at 0) → SmallBytes m (take k (drop at C))
 unfolding byteAt
 small-part C at n m k few most e f =
     record {

@@ -1,30 +1,35 @@
 -- Laws of the price conditions as they are tested.
-use Prim.Native.Nat.{ℕ, _^_, _<_}
+use Prim.Native.Nat.{ℕ, _*_, _^_, _≤_, _<_}
 use mathlib.Core.Path.{_≡_, refl, sym, _∙_, ap, ap₂}
 use mathlib.Core.Bool.{Bool, true, false, cond, not}
 use mathlib.Core.List.{List}
 use lib.Dec.{leb, ltb, leb→le, nleb→lt}
-use lib.IntN.{ℤ, pos, negsuc, _*ℤ_}
+use lib.IntN.{ℤ, pos, negsuc, natAbs, _-ℤ_, _*ℤ_}
 use lib.Signed.{mag, leZ, ltZ}
 use mir.Syntax.{w64}
 use mir.Val.{toZ, ofZ}
+use mir.Facts.{toZ-ofZ}
 use borrow.Author.Tests.{lt-ltb, le-ltb}
 use native.Mathlib.Omega.{arith}
 use native.Mathlib.Decide.{ℕ-discrete}
 use Rattle.bisimulation.specs.definitions.Choice.{ifSame, both, allBelow}
 use Rattle.bisimulation.specs.argument.ChoiceLaws.{same, notSame, allBelowCong, all-both}
 use Rattle.bisimulation.specs.definitions.Automaton.{Automaton}
-use Rattle.bisimulation.specs.definitions.Prices.{priceAt}
+use Rattle.bisimulation.specs.definitions.Prices.{priceAt, priceOfTargets}
 use Rattle.rules.specs.definitions.Limits.{limits}
+use Rattle.rules.specs.definitions.Model.{Entry}
 use Rattle.rules.specs.definitions.Reading.{statesOf, entriesAt}
-use Rattle.rules.specs.definitions.PlainRule.{priceCondition, allWithAction, below}
+use Rattle.rules.specs.definitions.Faults.{Fault}
+use Rattle.rules.specs.definitions.PlainRule.{priceCondition, allWithAction, below, lastFault}
 use Rattle.rules.specs.argument.PlainDecides.{holds-T}
+use Rattle.rules.specs.argument.BreakLaws.{by-test}
+use Rattle.signed.specs.TermsLaws.{abs-less, abs-term, mag-abs}
 use Rattle.transition_record.specs.declared.Fields.{Fields}
 use Rattle.transition.specs.Known.{automatonIn, Known, KnownTransition, FieldsOf}
-use Rattle.transition.specs.KnownLaws.{few-states, known-transitions}
+use Rattle.transition.specs.KnownLaws.{few-states, known-transitions, entries-known}
 use Rattle.prices.specs.Prices.{priceIn, SmallPrices, IsSum}
-use Rattle.prices.specs.PricesLaws.{sum-back, sum-is}
-use Rattle.conditions.specs.Conditions.{fairTwice, fairTo, allFair}
+use Rattle.prices.specs.PricesLaws.{sum-back, targets-small, sum-is}
+use Rattle.conditions.specs.Conditions.{fairTwice, fairTo, allFair, lastOff, LastAsked}
 
 -- a state has a price, and d is small
 pub state-price : {s places : List ℕ} {r v : ℕ} {f : Fields} {table : List ℤ} → KnownTransition s places r → FieldsOf s r f → SmallPrices (statesOf s) table → v < statesOf s → (f .denominator < 65536) × (v < limits .states) × (mag (priceIn table v) < 2 ^ 31)
@@ -50,12 +55,46 @@ not-least (pos a) (negsuc b) = refl
 not-least (negsuc a) (pos b) = refl
 not-least (negsuc a) (negsuc b) = not-leb b a
 
--- the last condition is that d times the price of t is not at least the sum
-pub below-is : {s places : List ℕ} {q : ℕ} {f : Fields} {g : List ℤ} {sum : ℤ} (x : List ℤ) (t : ℕ) → KnownTransition s places q → FieldsOf s q f → IsSum (entriesAt s (f .count) (f .entries .at)) g sum → not (leZ (toZ w64 (ofZ w64 sum)) (pos (f .denominator) *ℤ priceIn x t)) ≡ below (automatonIn s) (priceIn x) (priceIn g) q t
-unfolding below priceAt
-below-is {f = f} {sum = sum} x t k h e =
-    not-least (toZ w64 (ofZ w64 sum)) (pos (f .denominator) *ℤ priceIn x t)
-    ∙ ap₂ ltZ (ap (λ (d : ℕ). pos d *ℤ priceIn x t) (h .denominator)) (sum-back e ∙ sum-is k h e)
+-- d times the price of t and the sum are the two sides of the last condition
+module _ {s places : List ℕ} {q : ℕ} {f : Fields} {g : List ℤ} {sum : ℤ} (x : List ℤ) (t : ℕ) (k : KnownTransition s places q) (h : FieldsOf s q f) (e : IsSum (entriesAt s (f .count) (f .entries .at)) g sum) where
+  left-is : pos (f .denominator) *ℤ priceIn x t ≡ priceAt (automatonIn s) (priceIn x) q t
+  unfolding priceAt
+  left-is = ap (λ (d : ℕ). pos d *ℤ priceIn x t) (h .denominator)
+
+  -- it is that d times the price is not at least the sum
+  pub below-is : not (leZ (toZ w64 (ofZ w64 sum)) (pos (f .denominator) *ℤ priceIn x t)) ≡ below (automatonIn s) (priceIn x) (priceIn g) q t
+  unfolding below
+  below-is =
+      not-least (toZ w64 (ofZ w64 sum)) (pos (f .denominator) *ℤ priceIn x t) ∙ ap₂ ltZ left-is (sum-back e ∙ sum-is k h e)
+
+  pub off-is : pos (f .denominator) *ℤ priceIn x t -ℤ toZ w64 (ofZ w64 sum) ≡ lastOff (automatonIn s) (priceIn x) (priceIn g) q t
+  off-is = ap₂ _-ℤ_ left-is (sum-back e ∙ sum-is k h e)
+
+-- how large the sum is at most, and how much d times a price is off a sum
+pub sum-small : {es : List Entry} {table : List ℤ} {sum : ℤ} → IsSum es table sum → natAbs (toZ w64 (ofZ w64 sum)) ≤ 2 ^ 31 * 65535
+sum-small e = rw (sum-back e) (e .small)
+
+pub off-small : (d : ℕ) (price sum : ℤ) → d < 65536 → mag price < 2 ^ 31 → natAbs sum ≤ 2 ^ 31 * 65535 → mag (pos d *ℤ price -ℤ sum) < 2 ^ 48
+off-small d price sum light small room =
+    let term = pos d *ℤ price in
+    omega (arith, mag-abs (term -ℤ sum), abs-less term sum, abs-term d price (2 ^ 31) small)
+
+-- how much the last condition is off
+module _ {s places : List ℕ} {q t : ℕ} {x g : List ℤ} (a : LastAsked s places q t x g) where
+  off-fits : mag (lastOff (automatonIn s) (priceIn x) (priceIn g) q t) < 2 ^ 48
+  unfolding priceAt
+  off-fits =
+      off-small (automatonIn s .denominator q) (priceIn x t) (priceOfTargets (automatonIn s) (priceIn g) q)
+      (omega (arith, entries-known (a .challenger) .light)) (a .first .small t (a .defender)) (targets-small (a .challenger) (a .third))
+
+  -- the remainder of 16 fits 8 bytes
+  pub last-fits : mag (lastFault (automatonIn s) (priceIn x) (priceIn g) q t .remainder) < 2 ^ 48
+  unfolding lastFault
+  last-fits = by-test (λ (f : Fault). mag (f .remainder) < 2 ^ 48) _ (λ e. omega arith) (λ e. off-fits)
+
+  -- so the machine reads it back from its bits
+  pub off-back : {r : ℤ} → r ≡ lastOff (automatonIn s) (priceIn x) (priceIn g) q t → toZ w64 (ofZ w64 r) ≡ lastOff (automatonIn s) (priceIn x) (priceIn g) q t
+  off-back e = ap (λ (z : ℤ). toZ w64 (ofZ w64 z)) e ∙ toZ-ofZ (record { sfits = omega (arith, off-fits) })
 
 -- both conditions hold, by the first and then the second
 module _ (A : Automaton) (X Y : ℕ → ℤ) (r : ℕ) where

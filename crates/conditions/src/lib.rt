@@ -1,6 +1,6 @@
 // The price conditions of a refutation.
 ghost use Prim.Native.Nat.{_+_, _*_, _^_, _≤_, _<_};
-ghost use lib.IntN.{pos, _*ℤ_};
+ghost use lib.IntN.{pos, natAbs, _-ℤ_, _*ℤ_};
 ghost use lib.Signed.{mag, leZ};
 ghost use mathlib.Core.Path.{_≡_};
 ghost use Rattle.rules.specs.definitions.Limits.{limits};
@@ -8,7 +8,7 @@ ghost use Rattle.rules.specs.definitions.Reading.{statesOf};
 ghost use Rattle.rules.specs.definitions.PlainRule.{priceCondition, below};
 ghost use Rattle.transition.specs.Known.{automatonIn, Known, KnownTransition};
 ghost use Rattle.prices.specs.Prices.{priceIn, SmallPrices};
-ghost use Rattle.conditions.specs.Conditions.{fairTwice, fairTo, allFair};
+ghost use Rattle.conditions.specs.Conditions.{fairTwice, fairTo, allFair, lastOff, LastAsked};
 ghost use Rattle.conditions.specs.Highest.{IsHighest, AreRelated};
 use limits::STATES;
 use model::Places;
@@ -22,6 +22,15 @@ fn at_least(d: usize, x: &Prices, v: usize, sum: i64) -> bool
 {
     let price = x[v];
     sum <= d as i64 * price
+}
+
+// d times the price of v less the sum.
+fn excess(d: usize, x: &Prices, v: usize, sum: i64) -> i64
+    requires { ⌜ ((d < 65536) × (v < limits .states) × (mag (priceIn (now x) v) < 2 ^ 31)) × (natAbs sum ≤ 2 ^ 31 * 65535) ⌝ }
+    ensures { λ r. ⌜ r ≡ pos d *ℤ priceIn (now (x .entry)) v -ℤ sum ⌝ }
+{
+    let price = x[v];
+    d as i64 * price - sum
 }
 
 // The price condition of the transition r, from the prices x of its source to the prices y of its targets.
@@ -125,10 +134,20 @@ pub fn all_related(rows: &Rows, n: usize, x: &Prices, g: &Prices) -> bool
 
 // The last condition, of the challenger q against t.
 pub fn last_holds(s: &[u8], places: &Places, q: usize, t: usize, x: &Prices, g: &Prices) -> bool
-    requires { ⌜ KnownTransition (now s) (now places) q × (t < statesOf (now s)) × SmallPrices (statesOf (now s)) (now x) × SmallPrices (statesOf (now s)) (now g) ⌝ }
+    requires { ⌜ LastAsked (now s) (now places) q t (now x) (now g) ⌝ }
     ensures { λ z. ⌜ z ≡ below (automatonIn (now (s .entry))) (priceIn (now (x .entry))) (priceIn (now (g .entry))) q t ⌝ }
 {
     let challenger = transition::fields_of(s, places, q);
     let sum = prices::sum_of(s, challenger.entries.at, challenger.count, g);
     !at_least(challenger.denominator, x, t, sum)
+}
+
+// By how much it is off: its left side less its right.
+pub fn last_off(s: &[u8], places: &Places, q: usize, t: usize, x: &Prices, g: &Prices) -> i64
+    requires { ⌜ LastAsked (now s) (now places) q t (now x) (now g) ⌝ }
+    ensures { λ r. ⌜ r ≡ lastOff (automatonIn (now (s .entry))) (priceIn (now (x .entry))) (priceIn (now (g .entry))) q t ⌝ }
+{
+    let challenger = transition::fields_of(s, places, q);
+    let sum = prices::sum_of(s, challenger.entries.at, challenger.count, g);
+    excess(challenger.denominator, x, t, sum)
 }

@@ -11,6 +11,7 @@ use Rattle.bisimulation.specs.argument.ChoiceLaws.{less, notLess, notSame, isTr
 use Rattle.rules.specs.definitions.Bytes.{byteAt, twoAt, threeAt, fourAt}
 use Rattle.rules.specs.definitions.Certificate.{FileRule, kFault}
 use Rattle.rules.specs.definitions.Faults.{Fault, fault}
+use Rattle.rules.specs.argument.FaultLaws.{pass-on}
 use Rattle.rules.specs.definitions.Limits.{limits}
 use Rattle.field.specs.declared.Field.{Field}
 use Rattle.field.specs.Taken as field
@@ -227,7 +228,7 @@ unfolding kFault tookKs
 ks-end {s = s} {C} {action} {start} {entries} {before} {remainders} zero {x = x} h none z n p =
     record {
       refused = λ y. absurd (false-not (sym y ∙ z));
-      passed = λ y q t a. h .number q t a;
+      passed = λ y q t a. pass-on (h .number q t a) refl;
       became = λ y. subst (λ (m : ℕ). Became (tookKs s C entries start before) remainders m) (sym n) (record { same = h .makesUp; counted = h .table });
       room = λ y more room. room-fewer (omega arith) (h .room more room);
       next = λ y. omega (arith, h .ends);

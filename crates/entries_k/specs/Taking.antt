@@ -10,7 +10,7 @@ use Rattle.bisimulation.specs.definitions.Choice.{ifSame}
 use Rattle.rules.specs.definitions.Bytes.{byteAt, twoAt, fourAt}
 use Rattle.bisimulation.specs.definitions.Automaton.{Automaton}
 use Rattle.rules.specs.definitions.Certificate.{FileRule, kFault}
-use Rattle.rules.specs.definitions.Faults.{fault, noFault}
+use Rattle.rules.specs.definitions.Faults.{fault, Passes}
 use Rattle.rules.specs.definitions.Limits.{limits}
 use Rattle.transition.specs.Known.{automatonIn, Known, KnownTransition, entriesOf}
 use Rattle.remainders.specs.Nonzero.{Counted, Became}
@@ -95,7 +95,7 @@ pub record CanTakeKs (s C : List ℕ) (count : ℕ) (places : List ℕ) (at entr
 -- whether the k entries are without fault, for each challenger with this action; where they are, they are taken, and the cursor is past them
 pub record TookKs (rule : FileRule) (s C : List ℕ) (action at entries : ℕ) (before remainders : List ℤ) (r : Taken) : Type 0 where
   pub refused : r .good ≡ false → (q t : ℕ) → action ≡ automatonIn s .action q → fault 19 ≡ kFault rule (automatonIn s) C q t entries at 0
-  pub passed : r .good ≡ true → (q t : ℕ) → action ≡ automatonIn s .action q → noFault ≡ kFault rule (automatonIn s) C q t entries at 0
+  pub passed : r .good ≡ true → (q t : ℕ) → action ≡ automatonIn s .action q → Passes (kFault rule (automatonIn s) C q t entries at 0)
   pub became : r .good ≡ true → Became (tookKs s C entries at before) remainders (r .nonzero)
   pub room : r .good ≡ true → (more : ℕ) → Room before (2 * mostKs + more) → Room remainders more
   pub next : r .good ≡ true → r .next .at ≡ at + 7 * entries

@@ -9,7 +9,7 @@ use Rattle.bisimulation.specs.definitions.Automaton.{Automaton}
 use Rattle.bisimulation.specs.definitions.Pairs.{Pairs}
 use Rattle.rules.specs.definitions.Bytes.{byteAt, fourAt}
 use Rattle.rules.specs.definitions.Certificate.{wFault}
-use Rattle.rules.specs.definitions.Faults.{fault, noFault}
+use Rattle.rules.specs.definitions.Faults.{fault, Passes}
 use Rattle.rules.specs.definitions.Limits.{limits}
 use Rattle.pairs.specs.Rows.{rowBit, HoldsPairs}
 use Rattle.remainders.specs.Nonzero.{Counted, Became}
@@ -66,7 +66,7 @@ pub record CanTakeWs (C : List ℕ) (at entries n d first : ℕ) (remainders : L
 -- whether the w entries are without fault, for the pairs that the rows hold; where they are, they are taken, and the cursor is past them
 pub record TookWs (C : List ℕ) (at entries n : ℕ) (rows : List ℕ) (d first : ℕ) (before remainders targetBefore target : List ℤ) (r : Matched) : Type 0 where
   pub refused : r .good ≡ false → (A : Automaton) (R : Pairs) → A .states ≡ n → HoldsPairs n R rows → fault 19 ≡ wFault A C R entries at 0
-  pub passed : r .good ≡ true → (A : Automaton) (R : Pairs) → A .states ≡ n → HoldsPairs n R rows → noFault ≡ wFault A C R entries at 0
+  pub passed : r .good ≡ true → (A : Automaton) (R : Pairs) → A .states ≡ n → HoldsPairs n R rows → Passes (wFault A C R entries at 0)
   pub became : r .good ≡ true → Became (tookVs C first entries at before) remainders (r .nonzero)
   pub targetBecame : r .good ≡ true → Became (tookUs C d entries at targetBefore) target (r .target)
   pub next : r .good ≡ true → r .next .at ≡ at + 6 * entries

@@ -12,6 +12,7 @@ use Rattle.bisimulation.specs.definitions.Pairs.{Pairs}
 use Rattle.rules.specs.definitions.Bytes.{byteAt, twoAt, fourAt}
 use Rattle.rules.specs.definitions.Certificate.{wFault}
 use Rattle.rules.specs.definitions.Faults.{Fault, fault}
+use Rattle.rules.specs.argument.FaultLaws.{pass-on}
 use Rattle.rules.specs.definitions.Limits.{limits}
 use Rattle.field.specs.declared.Field.{Field}
 use Rattle.field.specs.Taken as field
@@ -209,7 +210,7 @@ module _ {C : List ℕ} {start entries n : ℕ} {rows : List ℕ} {d first : ℕ
   ws-end zero h none z i j p =
       record {
         refused = λ y. absurd (false-not (sym y ∙ z));
-        passed = λ y A R s p. h .number A R s p;
+        passed = λ y A R s p. pass-on (h .number A R s p) refl;
         became = λ y. subst (Became _ remainders) (sym i) (record { same = h .makesUp; counted = h .table });
         targetBecame = λ y. subst (Became _ target) (sym j) (record { same = h .targetMakesUp; counted = h .targetTable });
         next = λ y. omega (arith, h .ends);

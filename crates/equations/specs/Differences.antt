@@ -1,14 +1,19 @@
 -- The two sides of a flow's equations as sums over its entries, in their order: what the remainders hold is left less right.
-use Prim.Native.Nat.{ℕ, zero, suc, _+_, _*_, _<_}
+use Prim.Native.Nat.{ℕ, zero, suc, _+_, _*_}
 use mathlib.Core.Path.{_≡_}
-use mathlib.Core.Logic.{_⊎_}
 use mathlib.Core.List.{List}
+use lib.IntN.{ℤ}
 use Rattle.bisimulation.specs.definitions.Choice.{ifSame, unlessSame}
 use Rattle.bisimulation.specs.definitions.Automaton.{Automaton}
 use Rattle.bisimulation.specs.definitions.Pairs.{Pairs}
+use Rattle.bisimulation.specs.definitions.StepRule.{Sides}
+use Rattle.rules.specs.definitions.Limits.{limits}
 use Rattle.rules.specs.definitions.Bytes.{byteAt, twoAt, fourAt}
 use Rattle.rules.specs.definitions.Certificate.{FileRule, kCountAt, afterK, wCountAt, flowAt, kFault, wFault}
-use Rattle.rules.specs.definitions.Faults.{Fault, fault, noFault}
+use Rattle.rules.specs.definitions.Faults.{Fault, faultBy, fault, noFault, firstOf, Passes}
+use Rattle.rules.specs.definitions.PlainRule.{firstBreak}
+use Rattle.remainders.specs.Remainders.{remainderAt}
+use Rattle.remainders.specs.Nonzero.{isNonzero}
 
 -- a sum over the k entries left at a place, of a term for the layer, the transition and k
 unfoldable pub kSum : List ℕ → (ℕ → ℕ → ℕ → ℕ) → (left at : ℕ) → ℕ
@@ -71,20 +76,32 @@ module _ (A : Automaton) (C : List ℕ) (q t at : ℕ) where
   unfoldable pub targetRight : ℕ → ℕ
   targetRight u = A .weight q u * fourAt C (at + 2)
 
--- the sums decide the rule's equations: 20 where a side breaks before or after the move, then 21
+-- the sides of an equation at each state
+abbrev pub sidesOf : (left right : ℕ → ℕ) → ℕ → Sides
+sidesOf left right v = record { left = left v; right = right v }
+
+-- the sums decide the rule's equations: before the move, or of an internal one, first; then after it; then at the targets
 pub record Decided (rule : FileRule) (A : Automaton) (C : List ℕ) (q t at : ℕ) : Type 0 where
-  pub holds : ((v : ℕ) → v < A .states → firstLeft A C q t at v ≡ firstRight A C q t at v) → ((v : ℕ) → v < A .states → secondLeft A C q t at v ≡ secondRight A C q t at v) → ((u : ℕ) → u < A .states → targetLeft A C q t at u ≡ targetRight A C q t at u) → noFault ≡ rule .equationsFault A q t (flowAt C at)
-  pub broken : (v : ℕ) → v < A .states → ((firstLeft A C q t at v ≡ firstRight A C q t at v → ⊥) ⊎ (secondLeft A C q t at v ≡ secondRight A C q t at v → ⊥)) → fault 20 ≡ rule .equationsFault A q t (flowAt C at)
-  pub missed : ((v : ℕ) → v < A .states → firstLeft A C q t at v ≡ firstRight A C q t at v) → ((v : ℕ) → v < A .states → secondLeft A C q t at v ≡ secondRight A C q t at v) → (u : ℕ) → u < A .states → (targetLeft A C q t at u ≡ targetRight A C q t at u → ⊥) → fault 21 ≡ rule .equationsFault A q t (flowAt C at)
+  pub is : firstOf (firstBreak A 20 (sidesOf (firstLeft A C q t at) (firstRight A C q t at))) (firstOf (firstBreak A 20 (sidesOf (secondLeft A C q t at) (secondRight A C q t at))) (firstBreak A 21 (sidesOf (targetLeft A C q t at) (targetRight A C q t at)))) ≡ rule .equationsFault A q t (flowAt C at)
 
 -- they do so for entries without fault
 abbrev pub DecidesEquations : FileRule → Type 0
 DecidesEquations rule =
     (A : Automaton) (C : List ℕ) (R : Pairs) (q t at : ℕ)
-    → noFault ≡ kFault rule A C q t (kCountAt C at) (at + 8) 0
-    → noFault ≡ wFault A C R (wCountAt C at) (afterK C at + 2) 0
+    → Passes (kFault rule A C q t (kCountAt C at) (at + 8) 0)
+    → Passes (wFault A C R (wCountAt C at) (afterK C at + 2) 0)
     → Decided rule A C q t at
 
--- the equations' fault, by how many remainders of each table are not zero
-unfoldable pub verdictOf : (nonzero target : ℕ) → Fault
-verdictOf nonzero target = unlessSame nonzero 0 (fault 20) (unlessSame target 0 (fault 21) noFault)
+-- the first of the remainders left, from v on, that is not zero; they begin at `first` in a table
+unfoldable pub remainderBreak : (number : ℕ) → List ℤ → (first left v : ℕ) → Fault
+remainderBreak number table first zero v = noFault
+remainderBreak number table first (suc left) v =
+    unlessSame (isNonzero (remainderAt table (first + v))) 0 (faultBy number v (remainderAt table (first + v)))
+    (remainderBreak number table first left (v + 1))
+
+-- the equations' fault, by the remainders and by how many of each table are not zero
+unfoldable pub verdictOf : (n : ℕ) → List ℤ → (nonzero : ℕ) → List ℤ → (asked : ℕ) → Fault
+verdictOf n remainders nonzero target asked =
+    unlessSame nonzero 0 (firstOf (remainderBreak 20 remainders 0 n 0) (firstOf (remainderBreak 20 remainders (limits .states) n 0) (fault 20)))
+    (unlessSame asked 0 (firstOf (remainderBreak 21 target 0 n 0) (fault 21))
+    noFault)

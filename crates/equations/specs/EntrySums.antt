@@ -8,7 +8,7 @@ use Rattle.bisimulation.specs.definitions.Choice.{ifSame}
 use Rattle.bisimulation.specs.argument.ChoiceLaws.{same, notSame}
 use Rattle.bisimulation.specs.definitions.Sum.{sum}
 use Rattle.bisimulation.specs.argument.SumLaws.{sumCong, sumZero}
-use Rattle.rules.specs.definitions.Faults.{Fault, noFault}
+use Rattle.rules.specs.definitions.Faults.{Fault, Passes}
 use Rattle.rules.specs.argument.SoundModelLaws.{sum-with}
 
 pub record Entries : Type 1 where
@@ -25,7 +25,7 @@ pub record Entries : Type 1 where
   pub look : (left at a b : ℕ) → ℕ
   pub total : (ℕ → ℕ → ℕ → ℕ) → (left at : ℕ) → ℕ
   -- by the first of the entries left
-  pub turn : (left at lowest : ℕ) → noFault ≡ judged (suc left) at lowest → (lowest ≤ number (first at) (second at)) × Good at × (noFault ≡ judged left (at + size) (number (first at) (second at) + 1))
+  pub turn : (left at lowest : ℕ) → Passes (judged (suc left) at lowest) → (lowest ≤ number (first at) (second at)) × Good at × Passes (judged left (at + size) (number (first at) (second at) + 1))
   pub absent : (at a b : ℕ) → look 0 at a b ≡ 0
   pub found : (left at a b : ℕ) → first at ≡ a → second at ≡ b → look (suc left) at a b ≡ value at
   pub passed : (left at a b : ℕ) → (first at ≡ a → second at ≡ b → ⊥) → look (suc left) at a b ≡ look left (at + size) a b
@@ -55,7 +55,7 @@ turned E =
 
 module _ (E : Entries) where
   -- numbers that would stand before the entries left are absent
-  before : (left at lowest a b : ℕ) → noFault ≡ E .judged left at lowest → E .number a b < lowest → E .look left at a b ≡ 0
+  before : (left at lowest a b : ℕ) → Passes (E .judged left at lowest) → E .number a b < lowest → E .look left at a b ≡ 0
   before zero at lowest a b e h = E .absent at a b
   before (suc left) at lowest a b e h =
       let t = E .turn left at lowest e in
@@ -65,14 +65,14 @@ module _ (E : Entries) where
 
   -- terms that add up, or are 0, at each good entry
   module _ (f g h : ℕ → ℕ → ℕ → ℕ) (one : (at : ℕ) → E .Good at → f (E .first at) (E .second at) (E .value at) + g (E .first at) (E .second at) (E .value at) ≡ h (E .first at) (E .second at) (E .value at)) where
-    pub added : (left at lowest : ℕ) → noFault ≡ E .judged left at lowest → E .total f left at + E .total g left at ≡ E .total h left at
+    pub added : (left at lowest : ℕ) → Passes (E .judged left at lowest) → E .total f left at + E .total g left at ≡ E .total h left at
     added zero at lowest e = omega (arith, E .noTotal f at, E .noTotal g at, E .noTotal h at)
     added (suc left) at lowest e =
         let t = E .turn left at lowest e in
         omega (arith, E .oneMore f left at, E .oneMore g left at, E .oneMore h left at, one at (t .1), added left (at + E .size) _ (t .2))
 
   module _ (f : ℕ → ℕ → ℕ → ℕ) (one : (at : ℕ) → E .Good at → f (E .first at) (E .second at) (E .value at) ≡ 0) where
-    pub nothing : (left at lowest : ℕ) → noFault ≡ E .judged left at lowest → E .total f left at ≡ 0
+    pub nothing : (left at lowest : ℕ) → Passes (E .judged left at lowest) → E .total f left at ≡ 0
     nothing zero at lowest e = E .noTotal f at
     nothing (suc left) at lowest e =
         let t = E .turn left at lowest e in
@@ -80,7 +80,7 @@ module _ (E : Entries) where
 
   -- a sum over the second number, where the first is a, of a term that is 0 for what is absent
   module _ (n : ℕ) (below : (at : ℕ) → E .Good at → E .second at < n) (g : ℕ → ℕ → ℕ) (none : (b : ℕ) → g b 0 ≡ 0) (a : ℕ) where
-    pub overSecond : (left at lowest : ℕ) → noFault ≡ E .judged left at lowest → sum n (λ b. g b (E .look left at a b)) ≡ E .total (λ x b c. ifSame x a (g b c) 0) left at
+    pub overSecond : (left at lowest : ℕ) → Passes (E .judged left at lowest) → sum n (λ b. g b (E .look left at a b)) ≡ E .total (λ x b c. ifSame x a (g b c) 0) left at
     overSecond zero at lowest e =
         sumZero n _ (λ b l. ap (g b) (E .absent at a b) ∙ none b) ∙ sym (E .noTotal _ at)
     overSecond (suc left) at lowest e = go (E .turn left at lowest e) (overSecond left (at + E .size)) (ℕ-discrete (E .first at) a)
@@ -95,7 +95,7 @@ module _ (E : Entries) where
         term p b (yes q) = same (rest b) q (ap₂ g (sym q) (E .found left at a b p q))
         term p b (no q) = notSame here q (ap (g b) (E .passed left at a b (λ x y. q y)))
 
-        go : (lowest ≤ E .number (E .first at) (E .second at)) × E .Good at × (noFault ≡ E .judged left (at + E .size) (E .number (E .first at) (E .second at) + 1)) → ((low : ℕ) → noFault ≡ E .judged left (at + E .size) low → sum n rest ≡ E .total (λ x b c. ifSame x a (g b c) 0) left (at + E .size)) → Dec (E .first at ≡ a) → sum n (λ b. g b (E .look (suc left) at a b)) ≡ E .total (λ x b c. ifSame x a (g b c) 0) (suc left) at
+        go : (lowest ≤ E .number (E .first at) (E .second at)) × E .Good at × Passes (E .judged left (at + E .size) (E .number (E .first at) (E .second at) + 1)) → ((low : ℕ) → Passes (E .judged left (at + E .size) low) → sum n rest ≡ E .total (λ x b c. ifSame x a (g b c) 0) left (at + E .size)) → Dec (E .first at ≡ a) → sum n (λ b. g b (E .look (suc left) at a b)) ≡ E .total (λ x b c. ifSame x a (g b c) 0) (suc left) at
         go t ih (yes p) =
             let alone : rest (E .second at) ≡ 0 = ap (g (E .second at)) (before left (at + E .size) _ a (E .second at) (t .2) (let m = ap (λ (x : ℕ). E .number x (E .second at)) p in omega arith)) ∙ none (E .second at) in
             let shared = sumCong n _ (λ b. ifSame (E .second at) b here (rest b)) (λ b l. term p b (ℕ-discrete (E .second at) b)) in

@@ -1,10 +1,12 @@
 -- What the remainders hold after all entries: the left side of each equation less the right one.
 use Prim.Native.Nat.{ℕ, zero, suc, _+_, _*_, _-_, _≤_, _<_}
-use mathlib.Core.Path.{_≡_, refl, sym, _∙_, ap, subst, subst₂}
-use mathlib.Core.Logic.{_⊎_, inl, inr}
+use mathlib.Core.Path.{_≡_, refl, sym, _∙_, ap, ap₂, subst, subst₂}
+use mathlib.Core.Bool.{Bool, true, false, cond}
 use mathlib.Core.List.{List}
 use lib.ListN.{length}
-use lib.IntN.{ℤ, pos, negℤ}
+use lib.Dec.{ltb}
+use lib.IntN.{ℤ, pos, negsuc, negℤ, subℕ}
+use borrow.Author.Tests.{ltb-true, ltb-false}
 use native.Mathlib.Nat.{zero-add}
 use native.Mathlib.Omega.{arith}
 use native.Mathlib.Decide.{ℕ-discrete, decLt}
@@ -19,14 +21,17 @@ use Rattle.rules.specs.definitions.Limits.{limits}
 use Rattle.rules.specs.definitions.Reading.{statesOf, modelAt}
 use Rattle.rules.specs.argument.SoundModelLaws.{sound-automaton}
 use Rattle.rules.specs.definitions.Certificate.{FileRule, kFault, wFault, kCountAt, wCountAt, afterK, flowAt}
-use Rattle.rules.specs.definitions.Faults.{Fault, fault, noFault}
+use Rattle.rules.specs.definitions.Faults.{Fault, faultBy, fault, noFault, firstOf, Passes}
+use Rattle.rules.specs.definitions.PlainRule.{breakFrom, firstBreak}
+use Rattle.rules.specs.argument.FaultLaws.{none-first, first-stops, first-passes}
+use Rattle.rules.specs.argument.BreakLaws.{break-none, break-passed}
 use Rattle.rules.specs.argument.EntryFaults.{passed-k, passed-w}
 use Rattle.limits.specs.Sizes as sizes
 use Rattle.transition.specs.Known.{automatonIn, Known, KnownTransition, entriesOf}
 use Rattle.transition.specs.KnownLaws.{few-states, known-states, known-transitions, known-transition, entries-known}
 use Rattle.remainders.specs.Remainders.{remainderAt, AllZero}
-use Rattle.equations.specs.Differences.{kSum, wSum, beforeLeft, beforeRight, afterLeft, afterRight, takenAt, givenAt, firstLeft, firstRight, secondLeft, secondRight, targetLeft, targetRight, Decided, verdictOf}
-use Rattle.remainders.specs.Nonzero.{Counted}
+use Rattle.equations.specs.Differences.{kSum, wSum, beforeLeft, beforeRight, afterLeft, afterRight, takenAt, givenAt, firstLeft, firstRight, secondLeft, secondRight, targetLeft, targetRight, sidesOf, Decided, remainderBreak, verdictOf}
+use Rattle.remainders.specs.Nonzero.{isNonzero, Counted}
 use Rattle.remainders.specs.NonzeroLaws.{zero-remainders, nonzero-remainders}
 use Rattle.remainders.specs.Moving.{added, arrived, departed}
 use Rattle.entries_k.specs.Taking.{arrivalOf, departureOf, tookK, tookKs}
@@ -59,6 +64,29 @@ same-zero (above zero p) e = refl
 same-zero (above (suc a) p) e = absurd (omega arith)
 same-zero (below a p) e = absurd (omega arith)
 
+-- it is the left side less the right
+raised-is : {c k : ℕ} {z : ℤ} → Raised c k z → z ≡ subℕ k c
+raised-is {c} {k} (above a p) = go (ltb k c) refl
+  where
+    go : (t : Bool) → ltb k c ≡ t → pos a ≡ cond t (negsuc (c - suc k)) (pos (k - c))
+    go true q = absurd (omega (arith, ltb-true k c q))
+    go false q = let e : a ≡ k - c = omega arith in ap pos e
+raised-is {c} {k} (below a p) = go (ltb k c) refl
+  where
+    go : (t : Bool) → ltb k c ≡ t → negsuc a ≡ cond t (negsuc (c - suc k)) (pos (k - c))
+    go true q = let e : a ≡ c - suc k = omega arith in ap negsuc e
+    go false q = absurd (omega (arith, ltb-false k c q))
+
+zero-is : {z : ℤ} → z ≡ pos 0 → isNonzero z ≡ 0
+unfolding isNonzero
+zero-is e = ap isNonzero e
+
+is-zero : (z : ℤ) → isNonzero z ≡ 0 → z ≡ pos 0
+unfolding isNonzero
+is-zero (pos zero) e = refl
+is-zero (pos (suc a)) e = absurd (omega (arith, e))
+is-zero (negsuc a) e = absurd (omega (arith, e))
+
 -- one k entry, at a remainder
 module _ (s : List ℕ) (i : ℕ) where
   unfoldable kUp : (layer r k : ℕ) → ℕ
@@ -87,7 +115,7 @@ ks-length s C (suc left) at remainders = ks-length s C left (at + 7) _ ∙ took-
 
 -- all of them, where a term for each entry is what it brings to the remainder
 module _ (rule : FileRule) (s C : List ℕ) (q t i : ℕ) (up down : ℕ → ℕ → ℕ → ℕ) (step : (layer r k : ℕ) → r < automatonIn s .transitions → (kUp s i layer r k ≡ up layer r k) × (kDown s i layer r k ≡ down layer r k)) where
-  ks-raised : (left at lowest R L : ℕ) (remainders : List ℤ) → i < length remainders → noFault ≡ kFault rule (automatonIn s) C q t left at lowest → Raised R L (remainderAt remainders i) → Raised (R + kSum C down left at) (L + kSum C up left at) (remainderAt (tookKs s C left at remainders) i)
+  ks-raised : (left at lowest R L : ℕ) (remainders : List ℤ) → i < length remainders → Passes (kFault rule (automatonIn s) C q t left at lowest) → Raised R L (remainderAt remainders i) → Raised (R + kSum C down left at) (L + kSum C up left at) (remainderAt (tookKs s C left at remainders) i)
   unfolding kSum tookKs
   ks-raised zero at lowest R L remainders h e c = raised-as c (omega arith) (omega arith)
   ks-raised (suc left) at lowest R L remainders h e c =
@@ -101,7 +129,7 @@ module _ (rule : FileRule) (s C : List ℕ) (q t i : ℕ) (up down : ℕ → ℕ
 
 -- the same for w entries
 module _ (A : Automaton) (C : List ℕ) (P : Pairs) (i : ℕ) (change : (v u w : ℕ) → List ℤ → List ℤ) (up down : ℕ → ℕ → ℕ → ℕ) (size : (v u w : ℕ) (remainders : List ℤ) → length (change v u w remainders) ≡ length remainders) (step : (v u w : ℕ) → v < A .states → u < A .states → (R L : ℕ) (remainders : List ℤ) → i < length remainders → Raised R L (remainderAt remainders i) → Raised (R + down v u w) (L + up v u w) (remainderAt (change v u w remainders) i)) where
-  ws-raised : (left at lowest R L : ℕ) (remainders : List ℤ) → i < length remainders → noFault ≡ wFault A C P left at lowest → Raised R L (remainderAt remainders i) → Raised (R + wSum C down left at) (L + wSum C up left at) (remainderAt (tookWs C change left at remainders) i)
+  ws-raised : (left at lowest R L : ℕ) (remainders : List ℤ) → i < length remainders → Passes (wFault A C P left at lowest) → Raised R L (remainderAt remainders i) → Raised (R + wSum C down left at) (L + wSum C up left at) (remainderAt (tookWs C change left at remainders) i)
   unfolding wSum tookWs
   ws-raised zero at lowest R L remainders h e c = raised-as c (omega arith) (omega arith)
   ws-raised (suc left) at lowest R L remainders h e c =
@@ -237,7 +265,7 @@ w-none C zero at = refl
 w-none C (suc left) at = omega (arith, w-none C left (at + 6))
 
 -- all w entries, at a remainder: what they take at v, and what they give at u
-module _ (A : Automaton) (C : List ℕ) (P : Pairs) (i left at : ℕ) (passed : noFault ≡ wFault A C P left at 0) (term : ℕ → ℕ → ℕ → ℕ) {R L : ℕ} (remainders : List ℤ) (inside : i < length remainders) (c : Raised R L (remainderAt remainders i)) where
+module _ (A : Automaton) (C : List ℕ) (P : Pairs) (i left at : ℕ) (passed : Passes (wFault A C P left at 0)) (term : ℕ → ℕ → ℕ → ℕ) {R L : ℕ} (remainders : List ℤ) (inside : i < length remainders) (c : Raised R L (remainderAt remainders i)) where
   vs-raised : (first : ℕ) → ((v u w : ℕ) → v < A .states → ifSame (first + v) i 1 0 * w ≡ term v u w) → Raised (R + wSum C term left at) L (remainderAt (tookVs C first left at remainders) i)
   vs-raised first e =
       raised-as
@@ -266,7 +294,7 @@ pub record Ended (A : Automaton) (C : List ℕ) (n q t at : ℕ) (remainders tar
   pub idle : (i : ℕ) → i < sizes.remainders → Idle n i → remainderAt remainders i ≡ pos 0
   pub targetIdle : (i : ℕ) → i < sizes.remainders → n ≤ i → remainderAt target i ≡ pos 0
 
-module _ (rule : FileRule) {s places : List ℕ} {n count : ℕ} (m : Known s n count places) (C : List ℕ) (P : Pairs) (q t at : ℕ) (challenger : q < count) (defender : t < n) (ks : noFault ≡ kFault rule (automatonIn s) C q t (kCountAt C at) (at + 8) 0) (ws : noFault ≡ wFault (automatonIn s) C P (wCountAt C at) (afterK C at + 2) 0) {remainders target : List ℤ} (zeros : AllZero remainders) (targetZeros : AllZero target) where
+module _ (rule : FileRule) {s places : List ℕ} {n count : ℕ} (m : Known s n count places) (C : List ℕ) (P : Pairs) (q t at : ℕ) (challenger : q < count) (defender : t < n) (ks : Passes (kFault rule (automatonIn s) C q t (kCountAt C at) (at + 8) 0)) (ws : Passes (wFault (automatonIn s) C P (wCountAt C at) (afterK C at + 2) 0)) {remainders target : List ℤ} (zeros : AllZero remainders) (targetZeros : AllZero target) where
   abbrev A : Automaton
   A = automatonIn s
 
@@ -396,32 +424,68 @@ module _ (rule : FileRule) {s places : List ℕ} {n count : ℕ} (m : Known s n 
   unfolding end aimed
   ended = record { first = holds-first; second = holds-second; aim = holds-aim; idle = stays-idle; targetIdle = target-idle }
 
--- the numbers of two lists are equal below a bound, or differ somewhere
-pub record Differs (n : ℕ) (f g : ℕ → ℕ) : Type 0 where
-  pub place : ℕ
-  pub inside : place < n
-  pub differs : f place ≡ g place → ⊥
+-- the remainders left, one by one
+pub break-end : (number : ℕ) (table : List ℤ) (first left v : ℕ) → left ≤ 0 → noFault ≡ remainderBreak number table first left v
+unfolding remainderBreak
+break-end number table first zero v h = refl
+break-end number table first (suc left) v h = absurd (omega arith)
 
-equal-or-not : (n : ℕ) (f g : ℕ → ℕ) → ((v : ℕ) → v < n → f v ≡ g v) ⊎ Differs n f g
-equal-or-not zero f g = inl (λ v l. absurd (omega arith))
-equal-or-not (suc n) f g = go (equal-or-not n f g) (ℕ-discrete (f n) (g n))
-  where
-    go : ((v : ℕ) → v < n → f v ≡ g v) ⊎ Differs n f g → Dec (f n ≡ g n) → ((v : ℕ) → v < suc n → f v ≡ g v) ⊎ Differs (suc n) f g
-    go (inr d) e = inr (record { place = d .place; inside = omega (arith, d .inside); differs = d .differs })
-    go (inl all) (no o) = inr (record { place = n; inside = omega arith; differs = o })
-    go (inl all) (yes e) = inl (λ v l. last v l (ℕ-discrete v n))
-      where
-        last : (v : ℕ) → v < suc n → Dec (v ≡ n) → f v ≡ g v
-        last v l (yes p) = subst (λ (k : ℕ). f k ≡ g k) (sym p) e
-        last v l (no p) = all v (omega arith)
+pub break-turn : (number : ℕ) (table : List ℤ) (first left v : ℕ) → 0 < left → remainderBreak number table first left v ≡ ifSame (isNonzero (remainderAt table (first + v))) 0 (remainderBreak number table first (left - 1) (v + 1)) (faultBy number v (remainderAt table (first + v)))
+unfolding remainderBreak
+break-turn number table first zero v h = absurd (omega arith)
+break-turn number table first (suc left) v h =
+    let e : left ≡ suc left - 1 = omega arith in
+    ap (λ (l : ℕ). ifSame (isNonzero (remainderAt table (first + v))) 0 (remainderBreak number table first l (v + 1)) (faultBy number v (remainderAt table (first + v)))) e
 
--- the equations by the remainders: none is broken where all remainders are zero, and else the first table tells 20, the second 21
+-- the first remainder that is not zero is the first break of the equation whose sides it is the difference of
+module _ (number : ℕ) (table : List ℤ) (first : ℕ) (L R : ℕ → ℕ) (most : ℕ) (raised : (v : ℕ) → v < most → Raised (R v) (L v) (remainderAt table (first + v))) where
+  pub breaks-alike : (left v : ℕ) → v + left ≤ most → remainderBreak number table first left v ≡ breakFrom number (sidesOf L R) left v
+  unfolding remainderBreak breakFrom
+  breaks-alike zero v h = refl
+  breaks-alike (suc left) v h = go (raised v (omega arith)) (breaks-alike left (v + 1) (omega arith)) (ℕ-discrete (L v) (R v))
+    where
+      go : Raised (R v) (L v) (remainderAt table (first + v)) → remainderBreak number table first left (v + 1) ≡ breakFrom number (sidesOf L R) left (v + 1) → Dec (L v ≡ R v) → ifSame (isNonzero (remainderAt table (first + v))) 0 (remainderBreak number table first left (v + 1)) (faultBy number v (remainderAt table (first + v))) ≡ ifSame (L v) (R v) (breakFrom number (sidesOf L R) left (v + 1)) (faultBy number v (subℕ (L v) (R v)))
+      go r later (yes e) = sym (same _ (zero-is (same-zero r e)) refl) ∙ later ∙ same _ e refl
+      go r later (no n) = sym (notSame _ (λ z. n (sides-same r (is-zero _ z))) refl) ∙ ap (faultBy number v) (raised-is r) ∙ notSame _ n refl
+
+-- the equations by the remainders
 module _ {rule : FileRule} {A : Automaton} {C : List ℕ} {n q t at : ℕ} {remainders target : List ℤ} (known : A .states ≡ n) (few : n ≤ limits .states) (e : Ended A C n q t at remainders target) (d : Decided rule A C q t at) where
-  first-equal : ((i : ℕ) → i < sizes.remainders → remainderAt remainders i ≡ pos 0) → (v : ℕ) → v < A .states → firstLeft A C q t at v ≡ firstRight A C q t at v
-  first-equal z v l = sides-same (e .first v (omega (arith, known))) (z v (omega (arith, known)))
+  abbrev before : Fault
+  before = firstBreak A 20 (sidesOf (firstLeft A C q t at) (firstRight A C q t at))
 
-  second-equal : ((i : ℕ) → i < sizes.remainders → remainderAt remainders i ≡ pos 0) → (v : ℕ) → v < A .states → secondLeft A C q t at v ≡ secondRight A C q t at v
-  second-equal z v l = sides-same (e .second v (omega (arith, known))) (z (limits .states + v) (omega (arith, known)))
+  abbrev after : Fault
+  after = firstBreak A 20 (sidesOf (secondLeft A C q t at) (secondRight A C q t at))
+
+  abbrev aimed-at : Fault
+  aimed-at = firstBreak A 21 (sidesOf (targetLeft A C q t at) (targetRight A C q t at))
+
+  -- each is the first break of its remainders
+  break-of : (number : ℕ) (table : List ℤ) (first : ℕ) (L R : ℕ → ℕ) → ((v : ℕ) → v < limits .states → Raised (R v) (L v) (remainderAt table (first + v))) → remainderBreak number table first n 0 ≡ firstBreak A number (sidesOf L R)
+  unfolding firstBreak
+  break-of number table first L R raised =
+      breaks-alike number table first L R (limits .states) raised n 0 (omega arith) ∙ ap (λ (k : ℕ). breakFrom number (sidesOf L R) k 0) (sym known)
+
+  from-zero : (table : List ℤ) (L R : ℕ → ℕ) → ((v : ℕ) → v < limits .states → Raised (R v) (L v) (remainderAt table v)) → (v : ℕ) → v < limits .states → Raised (R v) (L v) (remainderAt table (0 + v))
+  from-zero table L R raised v l = let z : v ≡ 0 + v = omega arith in subst (λ (i : ℕ). Raised (R v) (L v) (remainderAt table i)) z (raised v l)
+
+  before-is : remainderBreak 20 remainders 0 n 0 ≡ before
+  before-is = break-of 20 remainders 0 (firstLeft A C q t at) (firstRight A C q t at) (from-zero remainders (firstLeft A C q t at) (firstRight A C q t at) (e .first))
+
+  after-is : remainderBreak 20 remainders (limits .states) n 0 ≡ after
+  after-is = break-of 20 remainders (limits .states) (secondLeft A C q t at) (secondRight A C q t at) (e .second)
+
+  target-is : remainderBreak 21 target 0 n 0 ≡ aimed-at
+  target-is = break-of 21 target 0 (targetLeft A C q t at) (targetRight A C q t at) (from-zero target (targetLeft A C q t at) (targetRight A C q t at) (e .aim))
+
+  -- where it passes, the sides are equal
+  passed : (number : ℕ) (L R : ℕ → ℕ) → (number ≡ 0 → ⊥) → Passes (firstBreak A number (sidesOf L R)) → (v : ℕ) → v < A .states → L v ≡ R v
+  unfolding firstBreak
+  passed number L R some p v l = break-passed number (sidesOf L R) some (A .states) 0 p v (omega arith) (omega arith) .equal
+
+  -- and where they are equal, it is no fault
+  none : (number : ℕ) (L R : ℕ → ℕ) → ((v : ℕ) → v < A .states → L v ≡ R v) → noFault ≡ firstBreak A number (sidesOf L R)
+  unfolding firstBreak
+  none number L R h = break-none number (sidesOf L R) (A .states) 0 (λ u l m. record { equal = h u (omega arith) })
 
   -- the remainders of equal sides are zero
   remainders-zero : ((v : ℕ) → v < A .states → firstLeft A C q t at v ≡ firstRight A C q t at v) → ((v : ℕ) → v < A .states → secondLeft A C q t at v ≡ secondRight A C q t at v) → (i : ℕ) → i < sizes.remainders → remainderAt remainders i ≡ pos 0
@@ -442,43 +506,54 @@ module _ {rule : FileRule} {A : Automaton} {C : List ℕ} {n q t at : ℕ} {rema
       go (yes a) = same-zero (e .aim i (omega arith)) (f i (omega (arith, known)))
       go (no a) = e .targetIdle i h (omega arith)
 
-  ends-well : AllZero remainders → AllZero target → noFault ≡ rule .equationsFault A q t (flowAt C at)
-  ends-well z y = d .holds (first-equal (z .zero)) (second-equal (z .zero)) (λ u l. sides-same (e .aim u (omega (arith, known))) (y .zero u (omega (arith, known))))
+  -- the sides of remainders that are all zero are equal
+  zeros-pass : AllZero remainders → (noFault ≡ before) × (noFault ≡ after)
+  zeros-pass z = (
+    none 20 _ _ (λ v l. sides-same (e .first v (omega (arith, known))) (z .zero v (omega (arith, known)))),
+    none 20 _ _ (λ v l. sides-same (e .second v (omega (arith, known))) (z .zero (limits .states + v) (omega (arith, known)))),
+  )
 
-  ends-20 : (((i : ℕ) → i < sizes.remainders → remainderAt remainders i ≡ pos 0) → ⊥) → fault 20 ≡ rule .equationsFault A q t (flowAt C at)
-  ends-20 o = go (equal-or-not (A .states) (firstLeft A C q t at) (firstRight A C q t at)) (equal-or-not (A .states) (secondLeft A C q t at) (secondRight A C q t at))
+  -- some remainder is not zero: the fault is before or after the move
+  some-break : (((i : ℕ) → i < sizes.remainders → remainderAt remainders i ≡ pos 0) → ⊥) → firstOf before (firstOf after (fault 20)) ≡ firstOf before (firstOf after aimed-at)
+  some-break o = go (ℕ-discrete (before .number) 0) (ℕ-discrete (after .number) 0)
     where
-      go : ((v : ℕ) → v < A .states → firstLeft A C q t at v ≡ firstRight A C q t at v) ⊎ Differs (A .states) (firstLeft A C q t at) (firstRight A C q t at) → ((v : ℕ) → v < A .states → secondLeft A C q t at v ≡ secondRight A C q t at v) ⊎ Differs (A .states) (secondLeft A C q t at) (secondRight A C q t at) → fault 20 ≡ rule .equationsFault A q t (flowAt C at)
-      go (inr x) y = d .broken (x .place) (x .inside) (inl (x .differs))
-      go (inl f) (inr y) = d .broken (y .place) (y .inside) (inr (y .differs))
-      go (inl f) (inl g) = absurd (o (remainders-zero f g))
+      go : Dec (before .number ≡ 0) → Dec (after .number ≡ 0) → firstOf before (firstOf after (fault 20)) ≡ firstOf before (firstOf after aimed-at)
+      go (no m) y = sym (first-stops _ _ refl m) ∙ first-stops _ _ refl m
+      go (yes z) (no m) = ap (firstOf before) (sym (first-stops _ _ refl m) ∙ first-stops _ _ refl m)
+      go (yes z) (yes y) = absurd (o (remainders-zero (passed 20 _ _ (λ w. omega (arith, w)) z) (passed 20 _ _ (λ w. omega (arith, w)) y)))
 
-  ends-21 : AllZero remainders → (((i : ℕ) → i < sizes.remainders → remainderAt target i ≡ pos 0) → ⊥) → fault 21 ≡ rule .equationsFault A q t (flowAt C at)
-  ends-21 z o = go (equal-or-not (A .states) (targetLeft A C q t at) (targetRight A C q t at))
+  -- the same at the targets
+  some-aim : (((i : ℕ) → i < sizes.remainders → remainderAt target i ≡ pos 0) → ⊥) → firstOf aimed-at (fault 21) ≡ aimed-at
+  some-aim o = go (ℕ-discrete (aimed-at .number) 0)
     where
-      go : ((u : ℕ) → u < A .states → targetLeft A C q t at u ≡ targetRight A C q t at u) ⊎ Differs (A .states) (targetLeft A C q t at) (targetRight A C q t at) → fault 21 ≡ rule .equationsFault A q t (flowAt C at)
-      go (inr x) = d .missed (first-equal (z .zero)) (second-equal (z .zero)) (x .place) (x .inside) (x .differs)
-      go (inl f) = absurd (o (target-zero f))
+      go : Dec (aimed-at .number ≡ 0) → firstOf aimed-at (fault 21) ≡ aimed-at
+      go (no m) = sym (first-stops _ _ refl m)
+      go (yes z) = absurd (o (target-zero (passed 21 _ _ (λ w. omega (arith, w)) z)))
 
   -- the verdict is that of the equations
-  pub verdict-is : {nonzero asked : ℕ} → Counted remainders nonzero → Counted target asked → verdictOf nonzero asked ≡ rule .equationsFault A q t (flowAt C at)
+  pub verdict-is : {nonzero asked : ℕ} → Counted remainders nonzero → Counted target asked → verdictOf n remainders nonzero target asked ≡ rule .equationsFault A q t (flowAt C at)
   unfolding verdictOf
-  verdict-is {nonzero} {asked} c b = go (ℕ-discrete nonzero 0) (ℕ-discrete asked 0)
+  verdict-is {nonzero} {asked} c b = go (ℕ-discrete nonzero 0) (ℕ-discrete asked 0) ∙ d .is
     where
-      go : Dec (nonzero ≡ 0) → Dec (asked ≡ 0) → ifSame nonzero 0 (ifSame asked 0 noFault (fault 21)) (fault 20) ≡ rule .equationsFault A q t (flowAt C at)
-      go (no o) y = sym (notSame _ o refl) ∙ ends-20 (nonzero-remainders c o)
-      go (yes z) (no o) = sym (same _ z (notSame _ o refl)) ∙ ends-21 (zero-remainders c z) (nonzero-remainders b o)
-      go (yes z) (yes y) = sym (same _ z (same _ y refl)) ∙ ends-well (zero-remainders c z) (zero-remainders b y)
+      go : Dec (nonzero ≡ 0) → Dec (asked ≡ 0) → ifSame nonzero 0 (ifSame asked 0 noFault (firstOf (remainderBreak 21 target 0 n 0) (fault 21))) (firstOf (remainderBreak 20 remainders 0 n 0) (firstOf (remainderBreak 20 remainders (limits .states) n 0) (fault 20))) ≡ firstOf before (firstOf after aimed-at)
+      go (no o) y = sym (notSame _ o refl) ∙ ap₂ (λ (x y : Fault). firstOf x (firstOf y (fault 20))) before-is after-is ∙ some-break (nonzero-remainders c o)
+      go (yes z) y =
+          let p = zeros-pass (zero-remainders c z) in
+          sym (same _ z refl) ∙ targets y ∙ first-passes _ _ (p .1) refl refl ∙ first-passes _ _ (p .0) refl refl
+        where
+          targets : Dec (asked ≡ 0) → ifSame asked 0 noFault (firstOf (remainderBreak 21 target 0 n 0) (fault 21)) ≡ aimed-at
+          targets (no o) = sym (notSame _ o refl) ∙ ap (λ (x : Fault). firstOf x (fault 21)) target-is ∙ some-aim (nonzero-remainders b o)
+          targets (yes y) = sym (same _ y refl) ∙ none 21 _ _ (λ u l. sides-same (e .aim u (omega (arith, known))) (zero-remainders b y .zero u (omega (arith, known))))
 
 -- where it is none all remainders are zero
-pub verdict-zeros : {remainders target : List ℤ} {nonzero asked : ℕ} → Counted remainders nonzero → Counted target asked → verdictOf nonzero asked .number ≡ 0 → AllZero remainders × AllZero target
+pub verdict-zeros : (n : ℕ) {remainders target : List ℤ} {nonzero asked : ℕ} → Counted remainders nonzero → Counted target asked → Passes (verdictOf n remainders nonzero target asked) → AllZero remainders × AllZero target
 unfolding verdictOf
-verdict-zeros {remainders} {target} {nonzero} {asked} c b e = go (ℕ-discrete nonzero 0) (ℕ-discrete asked 0)
+verdict-zeros n {remainders} {target} {nonzero} {asked} c b p = go (ℕ-discrete nonzero 0) (ℕ-discrete asked 0)
   where
-    number : {f : Fault} → f ≡ ifSame nonzero 0 (ifSame asked 0 noFault (fault 21)) (fault 20) → f .number ≡ 0
-    number q = ap (λ (x : Fault). x .number) q ∙ e
+    number : {f : Fault} → f ≡ ifSame nonzero 0 (ifSame asked 0 noFault (firstOf (remainderBreak 21 target 0 n 0) (fault 21))) (firstOf (remainderBreak 20 remainders 0 n 0) (firstOf (remainderBreak 20 remainders (limits .states) n 0) (fault 20))) → Passes f
+    number q = ap (λ (x : Fault). x .number) q ∙ p
 
     go : Dec (nonzero ≡ 0) → Dec (asked ≡ 0) → AllZero remainders × AllZero target
-    go (no o) y = absurd (omega (arith, number (notSame _ o refl)))
-    go (yes z) (no o) = absurd (omega (arith, number (same _ z (notSame _ o refl))))
+    go (no o) y = absurd (omega (arith, none-first _ _ (none-first _ _ (number (notSame _ o refl)) .1) .1))
+    go (yes z) (no o) = absurd (omega (arith, none-first _ _ (number (same _ z (notSame _ o refl))) .1))
     go (yes z) (yes y) = (zero-remainders c z, zero-remainders b y)

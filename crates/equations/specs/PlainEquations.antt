@@ -1,14 +1,14 @@
 -- The sums over a flow's entries decide document 01's equations.
 use Prim.Native.Nat.{ℕ, zero, suc, _+_, _*_, _<_}
 use mathlib.Core.Path.{_≡_, refl, sym, _∙_, ap, ap₂}
-use mathlib.Core.Logic.{_≢_, ⊎-elim}
-use mathlib.Core.Bool.{true}
+use mathlib.Core.Logic.{_≢_}
 use mathlib.Core.List.{List}
 use lib.Dec.{eqb}
+use lib.IntN.{subℕ}
 use native.Mathlib.Decide.{ℕ-discrete}
 use native.Mathlib.Omega.{arith}
 use Rattle.bisimulation.specs.definitions.Choice.{ifSame, ifTrue, both}
-use Rattle.bisimulation.specs.argument.ChoiceLaws.{same, notSame, isTrue, notTrue, eitherSame, eitherTrue}
+use Rattle.bisimulation.specs.argument.ChoiceLaws.{same, notSame, isTrue, notTrue, eitherSame}
 use Rattle.bisimulation.specs.definitions.Automaton.{Automaton}
 use Rattle.bisimulation.specs.argument.SumLaws.{sumTimes}
 use Rattle.bisimulation.specs.definitions.Pairs.{Pairs, isPair}
@@ -16,12 +16,14 @@ use Rattle.bisimulation.specs.argument.PairsLaws.{isPairTrue, isPairOf}
 use Rattle.bisimulation.specs.definitions.StepRule.{Sides, arriving, leaving, overTargets, overSources, beforeMove, afterMove, internalMove, atTarget}
 use Rattle.rules.specs.definitions.Bytes.{byteAt, twoAt, threeAt, fourAt}
 use Rattle.rules.specs.definitions.Certificate.{kCountAt, afterK, wCountAt, kOf, wOf, flowAt, kFault, wFault}
-use Rattle.rules.specs.definitions.Faults.{fault, noFault}
-use Rattle.rules.specs.definitions.PlainRule.{allHold, internalEquationsFault, externalEquationsFault, plainEquationsFault, plainRule}
+use Rattle.rules.specs.definitions.Faults.{Fault, faultBy, firstOf, Passes}
+use Rattle.rules.specs.definitions.PlainRule.{breakFrom, firstBreak, internalEquationsFault, externalEquationsFault, plainEquationsFault, plainRule}
 use Rattle.rules.specs.definitions.PlainSays.{InPlainQuestion}
-use Rattle.rules.specs.argument.PlainDecides.{kind-internal, kind-external, all-hold, hold-all, in-question}
+use Rattle.rules.specs.argument.PlainDecides.{kind-internal, kind-external, in-question}
+use Rattle.rules.specs.argument.FaultLaws.{first-passes}
+use Rattle.rules.specs.argument.BreakLaws.{break-none}
 use Rattle.rules.specs.argument.EntryFaults.{passed-k, passed-w}
-use Rattle.equations.specs.Differences.{kSum, wSum, kTotal, wTotal, beforeLeft, beforeRight, afterLeft, afterRight, takenAt, givenAt, firstLeft, firstRight, secondLeft, secondRight, targetLeft, targetRight, Decided, DecidesEquations}
+use Rattle.equations.specs.Differences.{kSum, wSum, kTotal, wTotal, beforeLeft, beforeRight, afterLeft, afterRight, takenAt, givenAt, firstLeft, firstRight, secondLeft, secondRight, targetLeft, targetRight, sidesOf, Decided, DecidesEquations}
 use Rattle.equations.specs.EntrySums.{Entries, turned, added, nothing, overSecond}
 
 -- what stands for two numbers where they are the entry's, and where they are not
@@ -115,14 +117,19 @@ record AreSides (L R : ℕ → ℕ) (equation : ℕ → Sides) : Type 0 where
   pub left : (v : ℕ) → equation v .left ≡ L v
   pub right : (v : ℕ) → equation v .right ≡ R v
 
-module _ (A : Automaton) {L R : ℕ → ℕ} {equation : ℕ → Sides} (s : AreSides L R equation) where
-  all-equal : ((v : ℕ) → v < A .states → L v ≡ R v) → allHold A equation ≡ true
-  all-equal h = hold-all A equation (λ v l. record { equal = s .left v ∙ h v l ∙ sym (s .right v) })
+-- so the first break is one of that equation
+same-break : (number : ℕ) {L R : ℕ → ℕ} {equation : ℕ → Sides} → AreSides L R equation → (left v : ℕ) → breakFrom number (sidesOf L R) left v ≡ breakFrom number equation left v
+unfolding breakFrom
+same-break number s zero v = refl
+same-break number {L} {R} {equation} s (suc left) v =
+    ap₂ (λ (l r : ℕ). ifSame l r (breakFrom number (sidesOf L R) left (v + 1)) (faultBy number v (subℕ l r))) (sym (s .left v)) (sym (s .right v))
+    ∙ ap (λ (f : Fault). ifSame (equation v .left) (equation v .right) f (faultBy number v (subℕ (equation v .left) (equation v .right)))) (same-break number s left (v + 1))
 
-  one-differs : (v : ℕ) → v < A .states → (L v ≡ R v → ⊥) → allHold A equation ≡ true → ⊥
-  one-differs v l n h = n (sym (s .left v) ∙ all-hold A equation h v l .equal ∙ s .right v)
+same-first : (A : Automaton) (number : ℕ) {L R : ℕ → ℕ} {equation : ℕ → Sides} → AreSides L R equation → firstBreak A number (sidesOf L R) ≡ firstBreak A number equation
+unfolding firstBreak
+same-first A number s = same-break number s (A .states) 0
 
-module _ (A : Automaton) (C : List ℕ) (R : Pairs) (q t at : ℕ) (noK : noFault ≡ kFault plainRule A C q t (kCountAt C at) (at + 8) 0) (noW : noFault ≡ wFault A C R (wCountAt C at) (afterK C at + 2) 0) where
+module _ (A : Automaton) (C : List ℕ) (R : Pairs) (q t at : ℕ) (noK : Passes (kFault plainRule A C q t (kCountAt C at) (at + 8) 0)) (noW : Passes (wFault A C R (wCountAt C at) (afterK C at + 2) 0)) where
   abbrev ks : Entries
   ks = kEntries A C q t
 
@@ -224,17 +231,13 @@ module _ (A : Automaton) (C : List ℕ) (R : Pairs) (q t at : ℕ) (noK : noFaul
         omega (arith, one, two, arriving-last v, other-layer 2 (λ o. omega arith) (takes v), same {z = 0} (overW (takenAt v)) i refl)
 
     internal : Decided plainRule A C q t at
-    unfolding plainEquationsFault internalEquationsFault
+    unfolding plainEquationsFault internalEquationsFault firstBreak
     internal =
         record {
-          holds = λ one two three.
-              isTrue _ (all-equal A move one) (isTrue _ (all-equal A target three) refl) ∙ kind-internal A q _ _ i;
-          broken = λ v l.
-              ⊎-elim
-              (λ b. notTrue _ (one-differs A move v l b) refl ∙ kind-internal A q _ _ i)
-              (λ b. absurd (b (no-second v)));
-          missed = λ one two u l b.
-              isTrue _ (all-equal A move one) (notTrue _ (one-differs A target u l b) refl) ∙ kind-internal A q _ _ i;
+          is =
+              ap₂ firstOf (same-first A 20 move)
+              (sym (first-passes _ _ (break-none 20 (sidesOf (secondLeft A C q t at) (secondRight A C q t at)) (A .states) 0 (λ u l m. record { equal = no-second u })) refl refl) ∙ same-first A 21 target)
+              ∙ kind-internal A q _ _ i;
         }
 
   -- those of an external challenger
@@ -257,19 +260,7 @@ module _ (A : Automaton) (C : List ℕ) (R : Pairs) (q t at : ℕ) (noK : noFaul
 
     external : Decided plainRule A C q t at
     unfolding plainEquationsFault externalEquationsFault
-    external =
-        record {
-          holds = λ one two three.
-              isTrue _ (all-equal A before one) (isTrue _ (all-equal A after two) (isTrue _ (all-equal A target three) refl))
-              ∙ kind-external A q _ _ n;
-          broken = λ v l.
-              ⊎-elim
-              (λ b. notTrue _ (one-differs A before v l b) refl ∙ kind-external A q _ _ n)
-              (λ b. eitherTrue (λ x. fault 20 ≡ x) _ (notTrue _ (one-differs A after v l b) refl) refl ∙ kind-external A q _ _ n);
-          missed = λ one two u l b.
-              isTrue _ (all-equal A before one) (isTrue _ (all-equal A after two) (notTrue _ (one-differs A target u l b) refl))
-              ∙ kind-external A q _ _ n;
-        }
+    external = record { is = ap₂ firstOf (same-first A 20 before) (ap₂ firstOf (same-first A 20 after) (same-first A 21 target)) ∙ kind-external A q _ _ n }
 
 -- for either kind of challenger
 pub decided : DecidesEquations plainRule

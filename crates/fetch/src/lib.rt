@@ -91,6 +91,8 @@ fn run_from(start: usize, end: usize) -> Answer
             stretch_start: start,
             stretch_length: end - start,
             written: 0,
+            state: 0,
+            remainder: 0,
         };
     }
     answer::without_place(0, 0)

@@ -7,7 +7,7 @@ use lib.IntN.{ℤ}
 use Rattle.bisimulation.specs.definitions.Pairs.{Pairs}
 use Rattle.rules.specs.definitions.Bytes.{fourAt}
 use Rattle.rules.specs.definitions.Certificate.{FileRule, kCountAt, afterK, afterFlow, flowFault}
-use Rattle.rules.specs.definitions.Faults.{Fault, noFault, certificateRecord, openFault}
+use Rattle.rules.specs.definitions.Faults.{Fault, Passes, certificateRecord, openFault}
 use Rattle.fault.specs.Faults.{faultOf}
 use Rattle.pairs.specs.Rows.{HoldsPairs}
 use Rattle.transition.specs.Known.{automatonIn, Known}
@@ -31,7 +31,7 @@ pub record HeadAt (C : List ℕ) (at : ℕ) (r : Head) : Type 0 where
 
 -- the record is opened, D is not 0, and the k entries are whole
 pub record FlowStands (C : List ℕ) (at : ℕ) : Type 0 where
-  pub opens : noFault ≡ flowOpens C at
+  pub opens : Passes (flowOpens C at)
   pub some : fourAt C (at + 2) ≡ 0 → ⊥
   pub whole : afterK C at ≤ length C
 

@@ -10,7 +10,8 @@ use Rattle.bisimulation.specs.definitions.Pairs.{Pairs}
 use Rattle.rules.specs.definitions.Bytes.{twoAt, fourAt}
 use Rattle.rules.specs.definitions.Certificate.{FileRule, kCountAt, wCountAt, afterK, afterFlow, kFault, wFault}
 use Rattle.rules.specs.definitions.Faults as rules
-use Rattle.rules.specs.definitions.Faults.{fault, noFault}
+use Rattle.rules.specs.definitions.Faults.{fault, Passes}
+use Rattle.rules.specs.argument.FaultLaws.{pass-on}
 use Rattle.fault.specs.Faults.{faultOf, Placed}
 use Rattle.fault.specs.declared.Fault.{Fault}
 use Rattle.field.specs.Taken as field
@@ -92,8 +93,8 @@ module _ {s C : List ℕ} {n count : ℕ} {places : List ℕ} {q t at : ℕ} {he
           refused-with x p e (omega arith) (λ R h. k-refused rule (automatonIn s) R q t (j .stands) (all-ks (ks .refused bad q t (fields .action))) (λ z. omega arith))
 
       module _ (good : k .good ≡ true) where
-        passed : noFault ≡ kFault rule (automatonIn s) C q t (kCountAt C at) (at + 8) 0
-        passed = all-ks (ks .passed good q t (fields .action))
+        passed : Passes (kFault rule (automatonIn s) C q t (kCountAt C at) (at + 8) 0)
+        passed = pass-on (all-ks refl) (ks .passed good q t (fields .action))
 
         pub middle : k .next .at ≡ afterK C at
         middle = ks .next good ∙ head-ends (j .read)
@@ -180,11 +181,11 @@ module _ {s C : List ℕ} {n count : ℕ} {places : List ℕ} {q t at : ℕ} {he
                     ∙ ap (tookUs C (automatonIn s .denominator q) (wCountAt C at) (afterK C at + 2))
                     (ask .same ∙ ap (λ (x : ℕ). arrived (entriesOf s q) (negℤ (pos x)) 0 target) (j .read .d))
 
-                pub judged : DecidesEquations rule → {r : Met} (v : Fault) → faultOf v ≡ verdictOf (m .nonzero) (m .target) → Placed (faultOf v) at (r .fault) → r .next .at ≡ m .next .at → FlowJudged rule s C n rows q t at rest aim r
+                pub judged : DecidesEquations rule → {r : Met} (v : Fault) → faultOf v ≡ verdictOf n rest (m .nonzero) aim (m .target) → Placed (faultOf v) at (r .fault) → r .next .at ≡ m .next .at → FlowJudged rule s C n rows q t at rest aim r
                 judged decides v e p onward =
                     record {
                       is = λ R h.
-                          let free = all-ws R (ws .passed fine (automatonIn s) R (known-states (j .known)) h) in
+                          let free = pass-on (all-ws R refl) (ws .passed fine (automatonIn s) R (known-states (j .known)) h) in
                           let all = ended rule (j .known) C R q t at (j .challenger) (j .defender) passed free (j .zeros) (j .targetZeros) in
                           let here = subst₂ (Ended (automatonIn s) C n q t at) (sym rest-is) (sym aim-is) all in
                           p .is
@@ -193,5 +194,5 @@ module _ {s C : List ℕ} {n count : ℕ} {places : List ℕ} {q t at : ℕ} {he
                       place = p .at;
                       next = λ z. onward ∙ ws .next fine ∙ ws-end;
                       inside = λ z. flow-whole;
-                      zeros = λ z. verdict-zeros (ws .became fine .counted) (ws .targetBecame fine .counted) (ap (λ (x : rules.Fault). x .number) (sym e ∙ sym (p .is)) ∙ z);
+                      zeros = λ z. verdict-zeros n (ws .became fine .counted) (ws .targetBecame fine .counted) (ap (λ (x : rules.Fault). x .number) (sym e ∙ sym (p .is)) ∙ z);
                     }

@@ -12,7 +12,7 @@ use Rattle.bisimulation.specs.definitions.Pairs.{Pairs}
 use Rattle.rules.specs.definitions.Bytes.{fourAt}
 use Rattle.rules.specs.definitions.Certificate.{FileRule, kCountAt, wCountAt, afterK, afterFlow, kFault, wFault, flowAt, flowFault}
 use Rattle.rules.specs.definitions.Faults as rules
-use Rattle.rules.specs.definitions.Faults.{fault, noFault, certificateRecord, firstOf}
+use Rattle.rules.specs.definitions.Faults.{fault, Passes, certificateRecord, firstOf}
 use Rattle.rules.specs.argument.FaultLaws.{first-stops, first-none, certificate-refuses, opened}
 use Rattle.fault.specs.Faults.{faultOf, Placed}
 use Rattle.fault.specs.FaultsLaws.{none-is, placed-some}
@@ -33,7 +33,7 @@ unfolding afterK
 head-ends h = omega (arith, h .first, h .entries)
 
 -- the flow's fault, past its head, past the k entries, and past the w entries
-module _ (rule : FileRule) (A : Automaton) (C : List ℕ) (R : Pairs) (q t at : ℕ) (opens : noFault ≡ flowOpens C at) where
+module _ (rule : FileRule) (A : Automaton) (C : List ℕ) (R : Pairs) (q t at : ℕ) (opens : Passes (flowOpens C at)) where
   pub d-missing : fourAt C (at + 2) ≡ 0 → fault 19 ≡ flowFault rule A C R q t at
   unfolding flowFault
   d-missing z = first-none _ _ opens (same _ z refl)
@@ -50,7 +50,7 @@ module _ (rule : FileRule) (A : Automaton) {C : List ℕ} (R : Pairs) (q t : ℕ
   pub k-refused : {m : ℕ} → fault m ≡ kFault rule A C q t (kCountAt C at) (at + 8) 0 → (m ≡ 0 → ⊥) → fault m ≡ flowFault rule A C R q t at
   k-refused e o = past-head (first-stops _ _ e o)
 
-  module _ (ks : noFault ≡ kFault rule A C q t (kCountAt C at) (at + 8) 0) where
+  module _ (ks : Passes (kFault rule A C q t (kCountAt C at) (at + 8) 0)) where
     pub count-missing : length C < afterK C at + 2 → fault 11 ≡ flowFault rule A C R q t at
     count-missing l = past-head (first-none _ _ ks (less _ l refl))
 
@@ -61,7 +61,7 @@ module _ (rule : FileRule) (A : Automaton) {C : List ℕ} (R : Pairs) (q t : ℕ
       pub w-refused : {m : ℕ} → fault m ≡ wFault A C R (wCountAt C at) (afterK C at + 2) 0 → (m ≡ 0 → ⊥) → fault m ≡ flowFault rule A C R q t at
       w-refused e o = past-head (first-none _ _ ks (notLess _ l (notLess _ k (first-stops _ _ e o))))
 
-      pub past-ws : {z : rules.Fault} → noFault ≡ wFault A C R (wCountAt C at) (afterK C at + 2) 0 → z ≡ rule .equationsFault A q t (flowAt C at) → z ≡ flowFault rule A C R q t at
+      pub past-ws : {z : rules.Fault} → Passes (wFault A C R (wCountAt C at) (afterK C at + 2) 0) → z ≡ rule .equationsFault A q t (flowAt C at) → z ≡ flowFault rule A C R q t at
       past-ws ws e = past-head (first-none _ _ ks (notLess _ l (notLess _ k (first-none _ _ ws e))))
 
 -- a refusal says nothing of the remainders, nor of what follows

@@ -110,7 +110,7 @@ fn judge_entries(
     }
     let next = w.next;
     Met {
-        fault: equations::verdict(w.nonzero, w.target).at(place.at),
+        fault: equations::verdict(n, remainders, w.nonzero, target, w.target).at(place.at),
         next,
     }
 }

@@ -29,6 +29,7 @@ use Rattle.rules.specs.argument.SoundModelLaws.{limits-fit, sound-bytes}
 use Rattle.rules.specs.definitions.Demand3.{InOneBlock, HoldsModel}
 use Rattle.rules.specs.definitions.Demands.{outcomeBy, Accepting}
 use Rattle.rules.specs.argument.AnyRule.{PairRules, RefusalOf, pairsOf}
+use Rattle.rules.specs.argument.FaultLaws.{told-fault}
 use Rattle.rules.specs.argument.Numbers.{RefusedWith, JudgementNumber, certificate-numbered, unread-number}
 use Rattle.rules.specs.argument.PairOutcome.{AcceptedModel, FollowsLaws, outcome-refused, outcome-judged, outcome-accepted, outcome-followed, outcome-number, outcome-found}
 use Rattle.rules.specs.argument.AcceptedExactly.{accepted-exactly}
@@ -72,6 +73,7 @@ unfolding unwritten answerWithoutPlace Accepting
 parts-follow x =
     record {
       numbered = λ N blocks buffer. parts-number (length (N .labels)) x;
+      told = λ N blocks buffer. told-fault _ (⊎-elim (λ z. omega (arith, z)) (λ z. omega (arith, z)) (parts-number (length (N .labels)) x));
       unwritten = λ N blocks buffer n. refl;
       late = λ k h n z. ⊎-elim (λ w. omega (arith, w, z)) (λ w. omega (arith, w, z)) (plain-refusal k h);
       notTen = omega arith;

@@ -11,12 +11,13 @@ use Rattle.bisimulation.specs.argument.ChoiceLaws.{less, notLess}
 use Rattle.rules.specs.definitions.Limits.{Limits}
 use Rattle.rules.specs.definitions.Model.{Model, modelBytes}
 use Rattle.rules.specs.definitions.Faults.{Fault}
+use Rattle.rules.specs.argument.FaultLaws.{Told}
 use Rattle.rules.specs.definitions.Reading.{Reading, model, noModel, readWhole}
 use Rattle.rules.specs.definitions.SoundModel.{Bytes, SoundModel, FitsWidths, entryCount}
 use Rattle.rules.specs.definitions.Judging.{Reader}
 use Rattle.rules.specs.definitions.Accepted.{FileOf}
 use Rattle.rules.specs.definitions.Answers.{Outcome, refusalIn, answerWithoutPlace, unwritten, filled, fileOutcome}
-use Rattle.rules.specs.argument.AnswerLaws.{file-whole, file-number, file-unwritten, file-fits}
+use Rattle.rules.specs.argument.AnswerLaws.{NoState, file-whole, file-number, file-zero, file-unwritten, file-fits}
 use Rattle.rules.specs.argument.PlainRules.{refusal-told, wholeFiles}
 use Rattle.joined.specs.Joined.{joined, joinedFile}
 use Rattle.joined.specs.JoinAnswer.{joinedOutcome, readingsOutcome, joinOutcome, JoinNumber, JoinDemands}
@@ -86,7 +87,7 @@ module _ (L : Limits) (widths : FitsWidths L) (first second before after : List 
 
   -- the cases: a file is refused; 25; or the joined file
   join-cases {κ} : (P : Outcome → Type κ)
-      → ((f : Fault) (file place size : ℕ) → (f .number ≡ 0 → ⊥) → f .number ≤ 9 → P (unwritten (refusalIn f file place size) before))
+      → ((f : Fault) (file place size : ℕ) → (f .number ≡ 0 → ⊥) → f .number ≤ 9 → Told f → P (unwritten (refusalIn f file place size) before))
       → ((M N : Model) → FileOf L first M → FileOf L second N → (Within L (joined M N) → ⊥) → P (unwritten (answerWithoutPlace 25 0) before))
       → ((M N : Model) → FileOf L first M → FileOf L second N → Within L (joined M N) → P (fileOutcome 26 (joinedFile M N) before))
       → P outcome
@@ -105,27 +106,36 @@ module _ (L : Limits) (widths : FitsWidths L) (first second before after : List 
           (joined-cases L (joined M N) before P (over M N f g) (within M N f g))
       by-second M end r (noModel f place) q =
           let t = refusal-told L second f place q in
-          subst P (second-refused L (readWhole L) first second before f place r q) (refuses f 3 place (length second) (t .0) (unfold Rattle.rules.specs.argument.PlainRules.ModelNumber in t .1 .1))
+          subst P (second-refused L (readWhole L) first second before f place r q) (refuses f 3 place (length second) (t .0) (unfold Rattle.rules.specs.argument.PlainRules.ModelNumber in t .1 .1) (t .3))
 
       by-first : (r : Reading) → readWhole L first ≡ r → P outcome
       by-first (model M end) r = by-second M end r (readWhole L second) refl
       by-first (noModel f place) r =
           let t = refusal-told L first f place r in
-          subst P (first-refused L (readWhole L) first second before f place r) (refuses f 1 place (length first) (t .0) (unfold Rattle.rules.specs.argument.PlainRules.ModelNumber in t .1 .1))
+          subst P (first-refused L (readWhole L) first second before f place r) (refuses f 1 place (length first) (t .0) (unfold Rattle.rules.specs.argument.PlainRules.ModelNumber in t .1 .1) (t .3))
 
   join-number : JoinNumber (numberOf outcome)
   unfolding JoinNumber unwritten refusalIn answerWithoutPlace
   join-number =
       join-cases (λ o. (numberOf o ≤ 9) ⊎ ((25 ≤ numberOf o) × (numberOf o ≤ 26)))
-      (λ f file place size n h. inl h)
+      (λ f file place size n h t. inl h)
       (λ M N f g w. inr (omega arith, omega arith))
       (λ M N f g w. file-number 26 (joinedFile M N) before (λ (x : ℕ). (x ≤ 9) ⊎ ((25 ≤ x) × (x ≤ 26))) (inl (omega arith)) (inr (omega arith, omega arith)))
+
+  -- document 02, K2
+  pub join-zero : NoState (outcome .answer)
+  unfolding unwritten refusalIn answerWithoutPlace
+  join-zero =
+      join-cases (λ o. NoState (o .answer))
+      (λ f file place size n h t. t .otherwise (omega arith))
+      (λ M N f g w. (refl, refl))
+      (λ M N f g w. file-zero 26 (joinedFile M N) before)
 
   join-unwritten : (numberOf outcome ≡ 0 → ⊥) → outcome .buffer ≡ before
   unfolding unwritten
   join-unwritten =
       join-cases (λ o. (numberOf o ≡ 0 → ⊥) → o .buffer ≡ before)
-      (λ f file place size n h z. refl)
+      (λ f file place size n h t z. refl)
       (λ M N f g w z. refl)
       (λ M N f g w. file-unwritten 26 (joinedFile M N) before)
 
@@ -152,7 +162,7 @@ module _ (L : Limits) (widths : FitsWidths L) (first second before after : List 
   unfolding unwritten refusalIn answerWithoutPlace
   found =
       join-cases (λ o. numberOf o ≡ 0 → (M : Model) × (N : Model) × FileOf L first M × FileOf L second N × SoundModel L (joined M N) × (length (joinedFile M N) ≤ length before))
-      (λ x file place size n h z. absurd (n z))
+      (λ x file place size n h t z. absurd (n z))
       (λ M N f g w z. absurd (omega (arith, z)))
       (λ M N f g w z. (M, N, f, g, joined-sound L M N (f .sound) (g .sound) w, file-fits 26 (joinedFile M N) before (λ x. omega (arith, x)) z))
 

@@ -1,15 +1,17 @@
 -- What a call that judges answers, with its demands.
 use Prim.Native.Nat.{ℕ, _+_, _-_, _≤_}
-use mathlib.Core.Path.{_≡_, sym, _∙_, ap, subst}
+use mathlib.Core.Path.{_≡_, refl, sym, _∙_, ap, subst}
 use mathlib.Core.List.{List, [], _∷_}
 use lib.ListN.{length, take, drop}
 use native.Mathlib.Nat.{add-sub-cancel-left}
 use native.Mathlib.Omega.{arith}
-use Rattle.rules.specs.definitions.Reading.{modelAt}
+use Rattle.rules.specs.definitions.Limits.{limits}
+use Rattle.rules.specs.definitions.Faults as rules-faults
+use Rattle.rules.specs.definitions.Reading.{headFault, modelAt}
 use Rattle.rules.specs.definitions.JudgedBy.{plainPairs}
 use Rattle.rules.specs.definitions.SoundModel.{Bytes}
 use Rattle.rules.specs.definitions.Answers as rules
-use Rattle.rules.specs.definitions.Answers.{Outcome}
+use Rattle.rules.specs.definitions.Answers.{Outcome, refusalIn}
 use Rattle.rules.specs.definitions.Demands.{AcceptedBy, outcomeBy}
 use Rattle.rules.specs.argument.PlainRules.{plainRules}
 use Rattle.rules.specs.argument.PairOutcome.{FollowsLaws, outcome-followed}
@@ -18,10 +20,13 @@ use Rattle.rules.specs.argument.DemandsHold.{demands-hold, blocks-follow, merge
 use Rattle.rules.specs.argument.QuotientLaws.{NumberedBlocks}
 use Rattle.rules.specs.argument.QuotientHolds.{accepted-numbered}
 use Rattle.merged_model.specs.File.{CanWriteFile}
+use Rattle.fault.specs.declared.Fault.{Fault}
+use Rattle.fault.specs.Faults.{faultOf, Placed}
+use Rattle.transition.specs.ModelRead.{head-told}
 use Rattle.answer.specs.declared.Answer.{Answer}
 use Rattle.answer.specs.Answered.{answered, Gives, OutcomeIs}
 use Rattle.judgement.specs.Verdicts.{AcceptedAt, RoomFor}
-use Rattle.judgement.specs.VerdictLaws.{labels-are}
+use Rattle.judgement.specs.VerdictLaws.{refused-as, labels-are}
 use Rattle.acceptance.specs.declared.Task.{Task}
 use Rattle.acceptance.specs.declared.Task.the-variants.{Blocks, Merged}
 use Rattle.acceptance.specs.Tasks.{followsOf, numbersOf, roomOf}
@@ -53,6 +58,17 @@ with-demands task M C before after {r} b c o =
       outcome = o;
       demands = demands-hold plainRules (followsOf task) (laws-of task) M C before after (r .number) b c e (o .buffer) (numbersOf task) (subst (numbersOf task) (sym e) (numbered-of task M C before));
     }
+
+-- the head is refused
+pub head-answered : (task : Task) (M C before : List ℕ) (f : Fault) {r : Answer} → Bytes M → Bytes C → Placed (headFault limits M) 0 f → (f .number ≡ 0 → ⊥) → answered r ≡ refusalIn (faultOf f) 1 (f .place) (length M) → PairAnswered (followsOf task) (numbersOf task) M C before before r
+head-answered task M C before f b c p n e =
+    let told = head-told M f p n in
+    with-demands task M C before before b c
+    (refused-as M C {table = []} (roomOf task (length before)) f (told .0) (told .1) e .says .refuses (followsOf task) before (room-for task before _ refl))
+
+-- and it is good
+pub head-passed : (M : List ℕ) (f : Fault) → Placed (headFault limits M) 0 f → f .number ≡ 0 → headFault limits M .number ≡ 0
+head-passed M f p z = ap (λ (x : rules-faults.Fault). x .number) (sym (p .is)) ∙ z
 
 module _ (task : Task) (before : List ℕ) {M C table : List ℕ} {room n count at : ℕ} (a : AcceptedAt M C table room n count at) (isRoom : room ≡ roomOf task (length before)) where
   part-is : take (at + n - at) (drop at C) ≡ take n (drop at C)

@@ -11,7 +11,7 @@ use judgement::Verdict;
 use limits::STATES;
 
 // A pair whose model has a good head: the table of places, the judgement, and what follows acceptance, with room for so many blocks.
-fn answer_headed(
+pub fn answer_headed(
     task: Task,
     room: usize,
     model: &[u8],

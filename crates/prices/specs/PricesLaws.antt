@@ -19,11 +19,11 @@ use Rattle.rules.specs.definitions.SoundModel.{Each, sumOver}
 use Rattle.rules.specs.argument.EntryPrices.{priceOfEntries}
 use Rattle.transition_record.specs.declared.Fields.{Fields}
 use Rattle.transition.specs.declared.Entry as read
-use Rattle.transition.specs.Known.{automatonIn, KnownTransition, FieldsOf, EntriesKnown}
+use Rattle.transition.specs.Known.{automatonIn, KnownTransition, FieldsOf, entriesOf, EntriesKnown}
 use Rattle.transition.specs.KnownLaws.{few-states, entries-known, price-known}
 use Rattle.transition.specs.Entries.{EntryTaken}
 use Rattle.signed.specs.Terms.{Addable, WithTerm}
-use Rattle.signed.specs.TermsLaws.{mag-abs}
+use Rattle.signed.specs.TermsLaws.{abs-add, abs-term, mag-abs, term-is, term-fits}
 use Rattle.prices.specs.Prices.{HoldsPrices, SmallPrices, priceIn, HasPrice, Summable, IsSum}
 
 -- a table holds no price at first
@@ -60,9 +60,16 @@ price-back z h = toZ-ofZ (record { sfits = omega arith })
 pub sum-back : {es : List Entry} {table : List ℤ} {z : ℤ} → IsSum es table z → toZ w64 (ofZ w64 z) ≡ z
 sum-back {z = z} h = toZ-ofZ (record { sfits = omega (arith, h .small, mag-abs z) })
 
--- d times a price is a term that fits
-pub product : (d : ℕ) (price : ℤ) → d < 65536 → mag price < 2 ^ 31 → Addable (pos 0) d price
-product d price light small = record { room = omega arith; small = omega (arith, small) }
+-- d times a price, as the machine multiplies them, fits
+module _ (d : ℕ) (price : ℤ) (light : d < 65536) (small : mag price < 2 ^ 31) where
+  product : Addable (pos 0) d price
+  product = record { room = omega arith; small = omega (arith, small) }
+
+  pub product-is : toZ w64 d *ℤ toZ w64 (ofZ w64 price) ≡ pos d *ℤ price
+  product-is = rw (price-back price small) (term-is product)
+
+  pub product-fits : SFits w64 (toZ w64 d *ℤ toZ w64 (ofZ w64 price))
+  product-fits = rw product-is (term-fits product)
 
 -- entries whose states are below n have prices in a table of n prices
 have-prices : (n : ℕ) (table : List ℤ) → SmallPrices n table → n ≤ limits .states → (es : List Entry) → Each (λ (e : Entry). e .state < n) es → Each (HasPrice table) es
@@ -70,6 +77,14 @@ unfolding Each
 have-prices n table h few [] known = tt
 have-prices n table h few (e ∷ es) known =
     (record { state = omega (arith, known .0); small = h .small (e .state) (known .0) }, have-prices n table h few es (known .1))
+
+-- and a small sum
+entries-small : (table : List ℤ) (es : List Entry) → Each (HasPrice table) es → natAbs (priceOfEntries es (priceIn table)) ≤ 2 ^ 31 * sumOver (λ (e : Entry). e .weight) es
+unfolding Each sumOver priceOfEntries
+entries-small table [] h = omega arith
+entries-small table (e ∷ es) h =
+    let term = pos (e .weight) *ℤ priceIn table (e .state) in
+    omega (arith, abs-add term (priceOfEntries es (priceIn table)), abs-term (e .weight) (priceIn table (e .state)) (2 ^ 31) (h .0 .small), entries-small table es (h .1))
 
 -- what is known before each entry: the sum so far and the entries left make up the sum over all
 pub record Summing (s : List ℕ) (table : List ℤ) (all : List Entry) (left at : ℕ) (sum : ℤ) : Type 0 where
@@ -128,6 +143,13 @@ module _ {s : List ℕ} {table : List ℤ} where
     unfolding entriesAt priceOfEntries
     summing-end zero {sum = sum} h none = record { value = sym (+ℤ-idr sum) ∙ h .makesUp; small = omega (arith, h .small) }
     summing-end (suc left) h none = absurd (omega arith)
+
+-- the sum over the targets of a known transition is small
+pub targets-small : {s places : List ℕ} {r : ℕ} {table : List ℤ} → KnownTransition s places r → SmallPrices (statesOf s) table → natAbs (priceOfTargets (automatonIn s) (priceIn table) r) ≤ 2 ^ 31 * 65535
+targets-small {s} {r = r} {table = table} k h =
+    let known = entries-known k in
+    let small = entries-small table (entriesOf s r) (have-prices (statesOf s) table h (few-states (k .known)) _ (known .states)) in
+    omega (arith, ap natAbs (price-known k (priceIn table)), small, known .whole, known .light)
 
 -- the entries of a known transition can be summed, and the sum is that over its targets
 module _ {s places : List ℕ} {r : ℕ} (k : KnownTransition s places r) {f : Fields} (fields : FieldsOf s r f) {table : List ℤ} where

@@ -88,6 +88,8 @@ fn judge_and_print<'a>(model: &'a [u8], certificate: &'a [u8], blocks: &mut [u8]
     let mut number = 0;
     let mut file = 0;
     let mut place = 0;
+    let mut broken = 0;
+    let mut remainder = 0;
     let mut written = 0;
     slices::judge(
         model,
@@ -96,6 +98,8 @@ fn judge_and_print<'a>(model: &'a [u8], certificate: &'a [u8], blocks: &mut [u8]
         &mut number,
         &mut file,
         &mut place,
+        &mut broken,
+        &mut remainder,
         &mut written,
     );
     print_result(number, file, place);
@@ -129,6 +133,8 @@ fn reduce_and_print<'a>(model: &'a [u8], certificate: &'a [u8], out: &mut [u8], 
     let mut number = 0;
     let mut file = 0;
     let mut place = 0;
+    let mut broken = 0;
+    let mut remainder = 0;
     let mut written = 0;
     slices::reduce(
         model,
@@ -137,6 +143,8 @@ fn reduce_and_print<'a>(model: &'a [u8], certificate: &'a [u8], out: &mut [u8], 
         &mut number,
         &mut file,
         &mut place,
+        &mut broken,
+        &mut remainder,
         &mut written,
     );
     print_result(number, file, place);
@@ -151,7 +159,17 @@ fn fetch_and_print(model: &[u8], state: u32) {
     let mut number = 0;
     let mut file = 0;
     let mut place = 0;
-    let part = slices::fetch(model, state, &mut number, &mut file, &mut place);
+    let mut broken = 0;
+    let mut remainder = 0;
+    let part = slices::fetch(
+        model,
+        state,
+        &mut number,
+        &mut file,
+        &mut place,
+        &mut broken,
+        &mut remainder,
+    );
     print_result(number, file, place);
     print_number(part.len());
     print(b":");
@@ -163,6 +181,8 @@ fn join_and_print<'a>(first: &'a [u8], second: &'a [u8], out: &mut [u8], keeps: 
     let mut number = 0;
     let mut file = 0;
     let mut place = 0;
+    let mut broken = 0;
+    let mut remainder = 0;
     let mut written = 0;
     slices::join(
         first,
@@ -171,6 +191,8 @@ fn join_and_print<'a>(first: &'a [u8], second: &'a [u8], out: &mut [u8], keeps: 
         &mut number,
         &mut file,
         &mut place,
+        &mut broken,
+        &mut remainder,
         &mut written,
     );
     print_result(number, file, place);
@@ -191,6 +213,8 @@ fn alike_and_print<'a>(
     let mut number = 0;
     let mut file = 0;
     let mut place = 0;
+    let mut broken = 0;
+    let mut remainder = 0;
     let mut said = 0;
     slices::alike(
         model,
@@ -201,6 +225,8 @@ fn alike_and_print<'a>(
         &mut number,
         &mut file,
         &mut place,
+        &mut broken,
+        &mut remainder,
         &mut said,
     );
     print_result(number, file, place);

@@ -3,7 +3,7 @@ use Prim.Native.Nat.{ℕ, _+_, _*_, _≤_, _<_}
 use mathlib.Core.Path.{_≡_, refl, sym, _∙_, ap, ap₂, subst}
 use mathlib.Core.Bool.{Bool, true, false}
 use mathlib.Core.List.{List}
-use lib.IntN.{ℤ}
+use lib.IntN.{ℤ, _-ℤ_}
 use lib.Signed.{leZ, ltZ}
 use native.Mathlib.Omega.{arith}
 use Rattle.bisimulation.specs.definitions.Choice.{ifSame, ifTrue, unlessTrue, both}
@@ -15,12 +15,12 @@ use Rattle.rules.specs.definitions.Bytes.{signedAt}
 use Rattle.rules.specs.definitions.Reading.{statesOf, modelAt}
 use Rattle.rules.specs.argument.SoundModelLaws.{sound-automaton}
 use Rattle.rules.specs.definitions.Faults as rules
-use Rattle.rules.specs.definitions.PlainRule.{byKind, plainPriceCount, priceCondition, allRelated, below, internalPricesFault, externalPricesFault, plainPricesFault}
+use Rattle.rules.specs.definitions.PlainRule.{byKind, plainPriceCount, priceCondition, allRelated, below, lastFault, internalPricesFault, externalPricesFault, plainPricesFault}
 use Rattle.rules.specs.argument.PlainDecides.{AlikeOnStates, targets-same, price-same}
 use Rattle.transition.specs.Known.{automatonIn, Known}
-use Rattle.transition.specs.KnownLaws.{known-states}
+use Rattle.transition.specs.KnownLaws.{known-states, known-transition}
 use Rattle.prices.specs.Prices.{priceIn, HoldsPrices, SmallPrices}
-use Rattle.conditions.specs.Conditions.{fairTwice, fairTo, allFair, conditionsFault}
+use Rattle.conditions.specs.Conditions.{fairTwice, fairTo, allFair, conditionsFault, LastAsked}
 use Rattle.conditions.specs.ConditionsLaws.{fair-internal, fair-external}
 use Rattle.refutation_prices.specs.PricesJudged.{Asked}
 
@@ -28,6 +28,17 @@ use Rattle.refutation_prices.specs.PricesJudged.{Asked}
 module _ {s places : List ℕ} {n count : ℕ} (k : Known s n count places) where
   pub prices-there : {table : List ℤ} → SmallPrices n table → SmallPrices (statesOf s) table
   prices-there {table} h = subst (λ (m : ℕ). SmallPrices m table) (k .states) h
+
+-- and the last condition may be asked
+pub last-asked : {s places : List ℕ} {n count q t : ℕ} {x g : List ℤ} → Asked s n count places q t → SmallPrices n x → SmallPrices n g → LastAsked s places q t x g
+last-asked a first third =
+    let k = a .known in
+    record {
+      challenger = known-transition k (a .challenger);
+      defender = omega (arith, k .states, a .defender);
+      first = prices-there k first;
+      third = prices-there k third;
+    }
 
 -- how many prices a refutation has
 pub price-count : (A : Automaton) {n a : ℕ} (q : ℕ) → A .states ≡ n → a ≡ A .action q → ifSame a 0 (2 * n) (3 * n) ≡ plainPriceCount A q
@@ -56,7 +67,7 @@ unless-both false b r x = refl
 module _ (A : Automaton) (R : Pairs) (q t : ℕ) where
   -- the tests after those of the transitions
   abbrev rest : (X Y G : ℕ → ℤ) → rules.Fault
-  rest X Y G = unlessTrue (allRelated A R Y G) (rules.fault 15) (unlessTrue (below A X G q t) (rules.fault 16) rules.noFault)
+  rest X Y G = unlessTrue (allRelated A R Y G) (rules.fault 15) (lastFault A X G q t)
 
   conditions-internal : (X G : ℕ → ℤ) → conditionsFault A R 0 q t X X G ≡ internalPricesFault A R q t X G
   unfolding conditionsFault internalPricesFault
@@ -79,9 +90,11 @@ module _ {A : Automaton} {X X′ G G′ : ℕ → ℤ} (x : Alike A X X′) (g :
   condition-same sound r less =
       ap₂ leZ (targets-same A G G′ (g .held) r) (price-same A X X′ (x .held) r (A .source r) (sound r less .from))
 
-  below-same : (q t : ℕ) → t < A .states → below A X G q t ≡ below A X′ G′ q t
-  unfolding below
-  below-same q t less = ap₂ ltZ (price-same A X X′ (x .held) q t less) (targets-same A G G′ (g .held) q)
+  last-same : (q t : ℕ) → t < A .states → lastFault A X G q t ≡ lastFault A X′ G′ q t
+  unfolding lastFault below
+  last-same q t less =
+      ap₂ (λ (l r : ℤ). unlessTrue (ltZ l r) (rules.faultBy 16 t (l -ℤ r)) rules.noFault)
+      (price-same A X X′ (x .held) q t less) (targets-same A G G′ (g .held) q)
 
   related-same : (R : Pairs) → allRelated A R X G ≡ allRelated A R X′ G′
   unfolding allRelated
@@ -100,8 +113,8 @@ module _ {A : Automaton} {X X′ Y Y′ G G′ : ℕ → ℤ} (x : Alike A X X�
   conditions-same : (R : Pairs) (a q t : ℕ) → t < A .states → conditionsFault A R a q t X Y G ≡ conditionsFault A R a q t X′ Y′ G′
   unfolding conditionsFault
   conditions-same R a q t less =
-      ap₂ (λ (b c : Bool). unlessTrue b (rules.fault 15) (unlessTrue c (rules.fault 15) (unlessTrue (below A X G q t) (rules.fault 16) rules.noFault))) (fair-same a) (related-same y g R)
-      ∙ ap (λ (b : Bool). unlessTrue (allFair A a X′ Y′) (rules.fault 15) (unlessTrue (allRelated A R Y′ G′) (rules.fault 15) (unlessTrue b (rules.fault 16) rules.noFault))) (below-same x g q t less)
+      ap₂ (λ (b c : Bool). unlessTrue b (rules.fault 15) (unlessTrue c (rules.fault 15) (lastFault A X G q t))) (fair-same a) (related-same y g R)
+      ∙ ap (λ (f : rules.Fault). unlessTrue (allFair A a X′ Y′) (rules.fault 15) (unlessTrue (allRelated A R Y′ G′) (rules.fault 15) f)) (last-same x g q t less)
 
 -- the tests of the prices that the tables hold are those of the prices in the record
 module _ {s places : List ℕ} {n count q t : ℕ} (asked : Asked s n count places q t) (C : List ℕ) (at : ℕ) (R : Pairs) where

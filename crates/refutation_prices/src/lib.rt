@@ -38,7 +38,8 @@ fn conditions_fault(
         return fault::refusal(15);
     }
     if !conditions::last_holds(s, places, q, t, x, g) {
-        return fault::refusal(16);
+        let off = conditions::last_off(s, places, q, t, x, g);
+        return fault::broken(16, t, off);
     }
     fault::none()
 }

@@ -15,10 +15,11 @@ pub mod BlocksRecord
 pub mod FlowRecords
 pub mod CertificateKept
 pub mod AcceptedExactly
+pub mod Numbers
+pub mod BreakLaws
 pub mod PlainDecides
 pub mod LargestBlocks
 pub mod Demand3Holds
-pub mod Numbers
 pub mod PlainRules
 pub mod KeyedSums
 pub mod QuotientLaws

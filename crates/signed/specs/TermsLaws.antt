@@ -32,6 +32,9 @@ abs-minus (pos zero) = omega arith
 abs-minus (pos (suc a)) = omega arith
 abs-minus (negsuc a) = omega arith
 
+pub abs-less : (y z : ℤ) → natAbs (y -ℤ z) ≤ natAbs y + natAbs z
+abs-less y z = omega (arith, abs-add y (negℤ z), abs-minus z)
+
 pub abs-term : (weight : ℕ) (factor : ℤ) (most : ℕ) → mag factor < most → natAbs (pos weight *ℤ factor) ≤ weight * most
 abs-term weight (pos a) most h = mul-le-mul-left weight (omega arith)
 abs-term weight (negsuc a) most h =
@@ -68,7 +71,7 @@ plus-back h = toZ-pos w64 (omega arith)
 pub difference-fits : (x y : ℕ) → x < 2 ^ 32 → y < 2 ^ 32 → SFits w64 (toZ w64 x -ℤ toZ w64 y)
 difference-fits x y h l =
     rw (plus-back h, plus-back l)
-    (record { sfits = omega (arith, mag-abs (pos x -ℤ pos y), abs-add (pos x) (negℤ (pos y)), abs-minus (pos y)) })
+    (record { sfits = omega (arith, mag-abs (pos x -ℤ pos y), abs-less (pos x) (pos y)) })
 
 pub minus-small : (amount most : ℕ) → amount < most → mag (negℤ (pos amount)) < most
 minus-small zero most h = omega arith

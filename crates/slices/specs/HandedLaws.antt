@@ -3,6 +3,7 @@ use Prim.Native.Nat.{ℕ, _≤_}
 use mathlib.Core.Path.{_≡_, refl, sym, _∙_, ap, subst}
 use mathlib.Core.List.{List, [], _∷_}
 use lib.ListN.{length}
+use lib.IntN.{ℤ}
 use native.Mathlib.Omega.{arith}
 use Rattle.rules.specs.definitions.Limits.{limits}
 use Rattle.rules.specs.definitions.JudgedBy.{plainPairs}
@@ -33,7 +34,7 @@ pair-inside {M} {C} third {r} i =
     record { named = omega (arith, i .named); fits = omega (arith, i .fits, ap length (two-of M C third [] (r .file) (i .named))) }
 
 -- a pair's answer handed back
-pub pair-handed : {follows : Follows} {numbers : ℕ → Type 0} {M C before after : List ℕ} {m c : ℕ × ℕ} {r : Answer} {number file place written : ℕ} {part : List ℕ} {lying : ℕ × ℕ} (third : List ℕ) (slice : ℕ × ℕ) → PairAnswered follows numbers M C before after r → HandsBack (M ∷ C ∷ third ∷ []) (m ∷ c ∷ slice ∷ []) r number file place part lying → written ≡ r .written → PairHandedBack follows numbers M C before after m c number file place written part lying
+pub pair-handed : {follows : Follows} {numbers : ℕ → Type 0} {M C before after : List ℕ} {m c : ℕ × ℕ} {r : Answer} {number file place state : ℕ} {remainder : ℤ} {written : ℕ} {part : List ℕ} {lying : ℕ × ℕ} (third : List ℕ) (slice : ℕ × ℕ) → PairAnswered follows numbers M C before after r → HandsBack (M ∷ C ∷ third ∷ []) (m ∷ c ∷ slice ∷ []) r number file place state remainder part lying → written ≡ r .written → PairHandedBack follows numbers M C before after m c number file place state remainder written part lying
 unfolding fileOf
 pair-handed {follows} {numbers} {M} {C} {before} {after} {m} {c} {r} third slice j h w =
     let named : r .file ≤ 2 = j .outcome .inside .named in
@@ -43,7 +44,7 @@ pair-handed {follows} {numbers} {M} {C} {before} {after} {m} {c} {r} third slice
     }
 
 -- two joined models' answer handed back
-pub join-handed : {A B before after : List ℕ} {a b : ℕ × ℕ} {r : Answer} {number file place written : ℕ} {part : List ℕ} {lying : ℕ × ℕ} → JoinAnswered A B before after r → HandsBack (joinFiles A B) (a ∷ partFrom a 0 ∷ b ∷ []) r number file place part lying → written ≡ r .written → JoinHandedBack A B before after a b number file place written part lying
+pub join-handed : {A B before after : List ℕ} {a b : ℕ × ℕ} {r : Answer} {number file place state : ℕ} {remainder : ℤ} {written : ℕ} {part : List ℕ} {lying : ℕ × ℕ} → JoinAnswered A B before after r → HandsBack (joinFiles A B) (a ∷ partFrom a 0 ∷ b ∷ []) r number file place state remainder part lying → written ≡ r .written → JoinHandedBack A B before after a b number file place state remainder written part lying
 join-handed {A} {B} {before} {after} j h w =
     record {
       outcome = handed-back _ _ (j .outcome) h w refl refl;
@@ -51,7 +52,7 @@ join-handed {A} {B} {before} {after} j h w =
     }
 
 -- the answer to two states compared handed back
-pub alike-handed : {M C : List ℕ} {x : Named} {m c : ℕ × ℕ} {r : AlikeAnswer} {number file place said : ℕ} {part : List ℕ} {lying : ℕ × ℕ} (third : List ℕ) (slice : ℕ × ℕ) → AlikeAnswered M C x r → HandsBack (M ∷ C ∷ third ∷ []) (m ∷ c ∷ slice ∷ []) (r .answer) number file place part lying → said ≡ r .alike → AlikeHandedBack M C x m c number file place said part lying
+pub alike-handed : {M C : List ℕ} {x : Named} {m c : ℕ × ℕ} {r : AlikeAnswer} {number file place state : ℕ} {remainder : ℤ} {said : ℕ} {part : List ℕ} {lying : ℕ × ℕ} (third : List ℕ) (slice : ℕ × ℕ) → AlikeAnswered M C x r → HandsBack (M ∷ C ∷ third ∷ []) (m ∷ c ∷ slice ∷ []) (r .answer) number file place state remainder part lying → said ≡ r .alike → AlikeHandedBack M C x m c number file place state remainder said part lying
 alike-handed {M} {C} {x} {r = r} {said = said} third slice j h s =
     let wrote = alike-written plainRules M C x ∙ ap (λ (a : rules.Answer). a .written) (sym (j .answers .outcome .answer)) in
     let p = pair-handed third slice (j .answers) h wrote in
@@ -62,26 +63,28 @@ alike-handed {M} {C} {x} {r = r} {said = said} third slice j h s =
     }
 
 -- a fetch's run or stretch lies in the model, and is handed back
-module _ (s : List ℕ) (state : ℕ) {r : Answer} (e : answered r ≡ fetchAnswer limits s state) where
+module _ (s : List ℕ) (fetched : ℕ) {r : Answer} (e : answered r ≡ fetchAnswer limits s fetched) where
   fetch-named : r .file ≤ 1
-  fetch-named = omega (arith, ap (λ (a : rules.Answer). a .file) e, fetch-file limits s state)
+  fetch-named = omega (arith, ap (λ (a : rules.Answer). a .file) e, fetch-file limits s fetched)
 
   pub fetch-stretch : StretchInside (s ∷ s ∷ s ∷ []) r
   unfolding fileOf
   fetch-stretch =
       record {
         named = omega (arith, fetch-named);
-        fits = omega (arith, ap (λ (a : rules.Answer). a .stretchStart) e, ap (λ (a : rules.Answer). a .stretchLength) e, fetch-inside limits s state, ap length (first-of s s s [] (r .file) fetch-named));
+        fits = omega (arith, ap (λ (a : rules.Answer). a .stretchStart) e, ap (λ (a : rules.Answer). a .stretchLength) e, fetch-inside limits s fetched, ap length (first-of s s s [] (r .file) fetch-named));
       }
 
-  pub fetch-handed : {m : ℕ × ℕ} {number file place : ℕ} {part : List ℕ} {lying : ℕ × ℕ} → HandsBack (s ∷ s ∷ s ∷ []) (m ∷ m ∷ m ∷ []) r number file place part lying → FetchHandedBack s m state number file place part lying
+  pub fetch-handed : {m : ℕ × ℕ} {number file place state : ℕ} {remainder : ℤ} {part : List ℕ} {lying : ℕ × ℕ} → HandsBack (s ∷ s ∷ s ∷ []) (m ∷ m ∷ m ∷ []) r number file place state remainder part lying → FetchHandedBack s m fetched number file place state remainder part lying
   unfolding stretchOf fileOf
   fetch-handed {m} h =
       record {
         numbered = h .numbered ∙ ap (λ (a : rules.Answer). a .number) e;
         filed = h .filed ∙ ap (λ (a : rules.Answer). a .file) e;
         placed = h .placed ∙ ap (λ (a : rules.Answer). a .place) e;
+        stated = h .stated ∙ ap (λ (a : rules.Answer). a .state) e;
+        off = h .off ∙ ap (λ (a : rules.Answer). a .remainder) e;
         handed = h .handed ∙ ap (λ (l : List ℕ). stretchIn l (answered r)) (first-of s s s [] (r .file) fetch-named) ∙ ap (stretchIn s) e;
         lies = h .lies ∙ ap (λ (x : ℕ × ℕ). partFrom x (r .«stretch_start»)) (first-of m m m (0, 0) (r .file) fetch-named) ∙ ap (λ (a : rules.Answer). partFrom m (a .stretchStart)) e;
-        known = subst FetchNumber (sym (h .numbered ∙ ap (λ (a : rules.Answer). a .number) e)) (fetch-number limits s state);
+        known = subst FetchNumber (sym (h .numbered ∙ ap (λ (a : rules.Answer). a .number) e)) (fetch-number limits s fetched);
       }

@@ -3,6 +3,7 @@
 use Prim.Native.Nat.{ℕ}
 use mathlib.Core.Path.{_≡_}
 use mathlib.Core.List.{List, [], _∷_}
+use lib.IntN.{ℤ}
 use Rattle.rules.specs.definitions.Limits.{limits}
 use Rattle.rules.specs.definitions.JudgedBy.{plainPairs}
 use Rattle.rules.specs.definitions.Answers.{fetchAnswer, stretchIn, FetchNumber, Follows}
@@ -14,27 +15,29 @@ use Rattle.joined.specs.AlikeAnswer.{Named, testsParts, AlikeNumber, SaysAlike}
 use Rattle.answer.specs.Handing.{partFrom, Handed}
 
 -- a fetch: the run or stretch as a part of the model
-pub record FetchHandedBack (model : List ℕ) (slice : ℕ × ℕ) (state : ℕ) (number file place : ℕ) (part : List ℕ) (lying : ℕ × ℕ) : Type 0 where
-  pub numbered : number ≡ fetchAnswer limits model state .number
-  pub filed : file ≡ fetchAnswer limits model state .file
-  pub placed : place ≡ fetchAnswer limits model state .place
-  pub handed : part ≡ stretchIn model (fetchAnswer limits model state)
-  pub lies : lying ≡ partFrom slice (fetchAnswer limits model state .stretchStart)
+pub record FetchHandedBack (model : List ℕ) (slice : ℕ × ℕ) (fetched : ℕ) (number file place state : ℕ) (remainder : ℤ) (part : List ℕ) (lying : ℕ × ℕ) : Type 0 where
+  pub numbered : number ≡ fetchAnswer limits model fetched .number
+  pub filed : file ≡ fetchAnswer limits model fetched .file
+  pub placed : place ≡ fetchAnswer limits model fetched .place
+  pub stated : state ≡ fetchAnswer limits model fetched .state
+  pub off : remainder ≡ fetchAnswer limits model fetched .remainder
+  pub handed : part ≡ stretchIn model (fetchAnswer limits model fetched)
+  pub lies : lying ≡ partFrom slice (fetchAnswer limits model fetched .stretchStart)
   pub known : FetchNumber number
 
 -- a call that judges (`PairAnswered`)
-pub record PairHandedBack (follows : Follows) (numbers : ℕ → Type 0) (model certificate before after : List ℕ) (modelSlice certificateSlice : ℕ × ℕ) (number file place written : ℕ) (part : List ℕ) (lying : ℕ × ℕ) : Type 0 where
-  pub outcome : Handed (outcomeBy plainPairs follows model certificate before) (model ∷ certificate ∷ []) (modelSlice ∷ certificateSlice ∷ []) after number file place written part lying
+pub record PairHandedBack (follows : Follows) (numbers : ℕ → Type 0) (model certificate before after : List ℕ) (modelSlice certificateSlice : ℕ × ℕ) (number file place state : ℕ) (remainder : ℤ) (written : ℕ) (part : List ℕ) (lying : ℕ × ℕ) : Type 0 where
+  pub outcome : Handed (outcomeBy plainPairs follows model certificate before) (model ∷ certificate ∷ []) (modelSlice ∷ certificateSlice ∷ []) after number file place state remainder written part lying
   pub demands : Demands plainPairs follows numbers model certificate before after number
 
 -- the call that joins two models (`JoinAnswered`): the first is file 1, the second file 3, and an empty part of the first stands for file 2,
 -- which no answer names
-pub record JoinHandedBack (first second before after : List ℕ) (firstSlice secondSlice : ℕ × ℕ) (number file place written : ℕ) (part : List ℕ) (lying : ℕ × ℕ) : Type 0 where
-  pub outcome : Handed (joinOutcome limits (readWhole limits) first second before) (joinFiles first second) (firstSlice ∷ partFrom firstSlice 0 ∷ secondSlice ∷ []) after number file place written part lying
+pub record JoinHandedBack (first second before after : List ℕ) (firstSlice secondSlice : ℕ × ℕ) (number file place state : ℕ) (remainder : ℤ) (written : ℕ) (part : List ℕ) (lying : ℕ × ℕ) : Type 0 where
+  pub outcome : Handed (joinOutcome limits (readWhole limits) first second before) (joinFiles first second) (firstSlice ∷ partFrom firstSlice 0 ∷ secondSlice ∷ []) after number file place state remainder written part lying
   pub demands : JoinDemands limits (readWhole limits) (FileOf limits) first second before after number
 
 -- the call that compares two states (`AlikeAnswered`): it lends no buffer
-pub record AlikeHandedBack (model certificate : List ℕ) (x : Named) (modelSlice certificateSlice : ℕ × ℕ) (number file place said : ℕ) (part : List ℕ) (lying : ℕ × ℕ) : Type 0 where
-  pub outcome : Handed (outcomeBy plainPairs (testsParts x) model certificate []) (model ∷ certificate ∷ []) (modelSlice ∷ certificateSlice ∷ []) [] number file place 0 part lying
+pub record AlikeHandedBack (model certificate : List ℕ) (x : Named) (modelSlice certificateSlice : ℕ × ℕ) (number file place state : ℕ) (remainder : ℤ) (said : ℕ) (part : List ℕ) (lying : ℕ × ℕ) : Type 0 where
+  pub outcome : Handed (outcomeBy plainPairs (testsParts x) model certificate []) (model ∷ certificate ∷ []) (modelSlice ∷ certificateSlice ∷ []) [] number file place state remainder 0 part lying
   pub demands : Demands plainPairs (testsParts x) AlikeNumber model certificate [] [] number
   pub says : SaysAlike plainPairs x model certificate number said

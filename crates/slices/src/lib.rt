@@ -1,5 +1,5 @@
 // The calls for Rattle, with a stretch as the slice itself: the tail of the file that holds the record at fault, empty where none does. Number,
-// file and place stand beside it. No public entry has a `requires`.
+// file, place, state and remainder stand beside it. No public entry has a `requires`.
 ghost use denote.Ref.{ptr};
 ghost use Rattle.rules.specs.definitions.Answers.{writesBlocks, writesMerged, JudgeNumber, ReduceNumber};
 ghost use Rattle.acceptance.specs.Tasks.{followsOf, numbersOf};
@@ -10,15 +10,27 @@ use acceptance::Task;
 // The part of the model that holds the transitions that leave a state, empty where none leave, or the stretch of a refusal.
 pub fn fetch<'a>(
     model: &'a [u8],
-    state: u32,
+    fetched: u32,
     number: &mut u32,
     file: &mut u32,
     place: &mut usize,
+    state: &mut u32,
+    remainder: &mut i64,
 ) -> &'a [u8]
-    ensures { λ r. ⌜ FetchHandedBack (now (model .entry)) (ptr (model .entry)) state (now (number .exit)) (now (file .exit)) (now (place .exit)) (now r) (ptr r) ⌝ }
+    ensures { λ r. ⌜ FetchHandedBack (now (model .entry)) (ptr (model .entry)) fetched (now (number .exit)) (now (file .exit)) (now (place .exit)) (now (state .exit)) (now (remainder .exit)) (now r) (ptr r) ⌝ }
 {
-    let answer = fetch::fetch_answer(model, state);
-    answer::hand_back(model, model, model, answer, number, file, place)
+    let answer = fetch::fetch_answer(model, fetched);
+    answer::hand_back(
+        model,
+        model,
+        model,
+        answer,
+        number,
+        file,
+        place,
+        state,
+        remainder,
+    )
 }
 
 // The answer of a call that judges, with its stretch handed back.
@@ -30,9 +42,11 @@ fn hand_back_pair<'a>(
     number: &mut u32,
     file: &mut u32,
     place: &mut usize,
+    state: &mut u32,
+    remainder: &mut i64,
     written: &mut usize,
 ) -> &'a [u8]
-    ensures { λ r. ⌜ PairHandedBack (followsOf task) (numbersOf task) (now (model .entry)) (now (certificate .entry)) (now (out .entry)) (now (out .exit)) (ptr (model .entry)) (ptr (certificate .entry)) (now (number .exit)) (now (file .exit)) (now (place .exit)) (now (written .exit)) (now r) (ptr r) ⌝ }
+    ensures { λ r. ⌜ PairHandedBack (followsOf task) (numbersOf task) (now (model .entry)) (now (certificate .entry)) (now (out .entry)) (now (out .exit)) (ptr (model .entry)) (ptr (certificate .entry)) (now (number .exit)) (now (file .exit)) (now (place .exit)) (now (state .exit)) (now (remainder .exit)) (now (written .exit)) (now r) (ptr r) ⌝ }
 {
     let answer = pair::answer_pair(task, model, certificate, out);
     *written = answer.written;
@@ -44,6 +58,8 @@ fn hand_back_pair<'a>(
         number,
         file,
         place,
+        state,
+        remainder,
     )
 }
 
@@ -55,9 +71,11 @@ pub fn judge<'a>(
     number: &mut u32,
     file: &mut u32,
     place: &mut usize,
+    state: &mut u32,
+    remainder: &mut i64,
     written: &mut usize,
 ) -> &'a [u8]
-    ensures { λ r. ⌜ PairHandedBack writesBlocks JudgeNumber (now (model .entry)) (now (certificate .entry)) (now (blocks .entry)) (now (blocks .exit)) (ptr (model .entry)) (ptr (certificate .entry)) (now (number .exit)) (now (file .exit)) (now (place .exit)) (now (written .exit)) (now r) (ptr r) ⌝ }
+    ensures { λ r. ⌜ PairHandedBack writesBlocks JudgeNumber (now (model .entry)) (now (certificate .entry)) (now (blocks .entry)) (now (blocks .exit)) (ptr (model .entry)) (ptr (certificate .entry)) (now (number .exit)) (now (file .exit)) (now (place .exit)) (now (state .exit)) (now (remainder .exit)) (now (written .exit)) (now r) (ptr r) ⌝ }
 {
     hand_back_pair(
         Task::Blocks,
@@ -67,6 +85,8 @@ pub fn judge<'a>(
         number,
         file,
         place,
+        state,
+        remainder,
         written,
     )
 }
@@ -79,9 +99,11 @@ pub fn reduce<'a>(
     number: &mut u32,
     file: &mut u32,
     place: &mut usize,
+    state: &mut u32,
+    remainder: &mut i64,
     written: &mut usize,
 ) -> &'a [u8]
-    ensures { λ r. ⌜ PairHandedBack writesMerged ReduceNumber (now (model .entry)) (now (certificate .entry)) (now (out .entry)) (now (out .exit)) (ptr (model .entry)) (ptr (certificate .entry)) (now (number .exit)) (now (file .exit)) (now (place .exit)) (now (written .exit)) (now r) (ptr r) ⌝ }
+    ensures { λ r. ⌜ PairHandedBack writesMerged ReduceNumber (now (model .entry)) (now (certificate .entry)) (now (out .entry)) (now (out .exit)) (ptr (model .entry)) (ptr (certificate .entry)) (now (number .exit)) (now (file .exit)) (now (place .exit)) (now (state .exit)) (now (remainder .exit)) (now (written .exit)) (now r) (ptr r) ⌝ }
 {
     hand_back_pair(
         Task::Merged,
@@ -91,6 +113,8 @@ pub fn reduce<'a>(
         number,
         file,
         place,
+        state,
+        remainder,
         written,
     )
 }
@@ -103,13 +127,25 @@ pub fn join<'a>(
     number: &mut u32,
     file: &mut u32,
     place: &mut usize,
+    state: &mut u32,
+    remainder: &mut i64,
     written: &mut usize,
 ) -> &'a [u8]
-    ensures { λ r. ⌜ JoinHandedBack (now (first .entry)) (now (second .entry)) (now (out .entry)) (now (out .exit)) (ptr (first .entry)) (ptr (second .entry)) (now (number .exit)) (now (file .exit)) (now (place .exit)) (now (written .exit)) (now r) (ptr r) ⌝ }
+    ensures { λ r. ⌜ JoinHandedBack (now (first .entry)) (now (second .entry)) (now (out .entry)) (now (out .exit)) (ptr (first .entry)) (ptr (second .entry)) (now (number .exit)) (now (file .exit)) (now (place .exit)) (now (state .exit)) (now (remainder .exit)) (now (written .exit)) (now r) (ptr r) ⌝ }
 {
     let joined = join::join_answer(first, second, out);
     *written = joined.written;
-    answer::hand_back(first, &first[0..0], second, joined, number, file, place)
+    answer::hand_back(
+        first,
+        &first[0..0],
+        second,
+        joined,
+        number,
+        file,
+        place,
+        state,
+        remainder,
+    )
 }
 
 // Whether a state of the first part of a joined model behaves as one of the second, both by joined numbers: 1 for yes, 0 for no and on
@@ -123,9 +159,11 @@ pub fn alike<'a>(
     number: &mut u32,
     file: &mut u32,
     place: &mut usize,
+    state: &mut u32,
+    remainder: &mut i64,
     said: &mut u32,
 ) -> &'a [u8]
-    ensures { λ r. ⌜ AlikeHandedBack (now (model .entry)) (now (certificate .entry)) (named «first_count» «first_state» «second_state») (ptr (model .entry)) (ptr (certificate .entry)) (now (number .exit)) (now (file .exit)) (now (place .exit)) (now (said .exit)) (now r) (ptr r) ⌝ }
+    ensures { λ r. ⌜ AlikeHandedBack (now (model .entry)) (now (certificate .entry)) (named «first_count» «first_state» «second_state») (ptr (model .entry)) (ptr (certificate .entry)) (now (number .exit)) (now (file .exit)) (now (place .exit)) (now (state .exit)) (now (remainder .exit)) (now (said .exit)) (now r) (ptr r) ⌝ }
 {
     let found = alike::alike_answer(model, first_count, certificate, first_state, second_state);
     let answer = found.answer;
@@ -138,5 +176,7 @@ pub fn alike<'a>(
         number,
         file,
         place,
+        state,
+        remainder,
     )
 }

@@ -8,6 +8,7 @@ ghost use Rattle.zolkirta.specs.Calls.{FetchAnswered};
 use acceptance::Task;
 use alike::AlikeAnswer;
 use answer::Answer;
+use limits::STATES;
 
 // The run of the model's bytes that holds the transitions that leave a state, or the stretch of a refusal, by where it starts in the model
 // and how long it is.
@@ -18,12 +19,18 @@ pub extern "C" fn zolkirta_fetch(model: &[u8], state: u32) -> Answer
     fetch::fetch_answer(model, state)
 }
 
-// Judges a certificate for a model. Acceptance writes the blocks, one byte a state.
+// Judges a certificate for a model. Acceptance writes the blocks, one byte a state. The head is judged here, as `answer_pair` does it, and so
+// in the call that reduces: a refusal at the head then costs no call.
 #[no_mangle]
 pub extern "C" fn zolkirta_judge(model: &[u8], certificate: &[u8], blocks: &mut [u8]) -> Answer
     ensures { λ r. ⌜ PairAnswered writesBlocks JudgeNumber (now (model .entry)) (now (certificate .entry)) (now (blocks .entry)) (now (blocks .exit)) r ⌝ }
 {
-    pair::answer_pair(Task::Blocks, model, certificate, blocks)
+    let head = model_head::head_fault(model);
+    if head.number != 0 {
+        return answer::refusal_in(head, 1, model.len());
+    }
+    let room = blocks.len();
+    pair::answer_headed(Task::Blocks, room, model, certificate, blocks)
 }
 
 // Judges a certificate for a model and writes the model with each block merged into one state.
@@ -31,7 +38,11 @@ pub extern "C" fn zolkirta_judge(model: &[u8], certificate: &[u8], blocks: &mut 
 pub extern "C" fn zolkirta_reduce(model: &[u8], certificate: &[u8], out: &mut [u8]) -> Answer
     ensures { λ r. ⌜ PairAnswered writesMerged ReduceNumber (now (model .entry)) (now (certificate .entry)) (now (out .entry)) (now (out .exit)) r ⌝ }
 {
-    pair::answer_pair(Task::Merged, model, certificate, out)
+    let head = model_head::head_fault(model);
+    if head.number != 0 {
+        return answer::refusal_in(head, 1, model.len());
+    }
+    pair::answer_headed(Task::Merged, STATES, model, certificate, out)
 }
 
 // Writes two models as one: the second's states and transitions follow the first's. A fault in the second model has file 3.

@@ -70,6 +70,33 @@ impl fmt::Display for File {
     }
 }
 
+/// By how much a price condition or an equation of the certificate is off, so that a solver's writer need not add up its terms.
+///
+/// The last price condition asks that its left side be below its right one, an equation that the two be equal. So the left side is to
+/// be lessened or the right one raised by the remainder, for a price condition by one more; the other way where it is negative.
+#[derive(Clone, Copy, Debug, PartialEq, Eq, Hash)]
+pub struct Difference {
+    /// For 16 the refutation's defender t; for 20 the first v where an equation breaks, those before the move first; for 21 the first u.
+    pub state: u32,
+    /// The left side less the right one: 0 or more for 16, never 0 for 20 and 21.
+    pub remainder: i64,
+}
+
+/// ```
+/// let difference = zolkirta::Difference { state: 3, remainder: -5 };
+/// assert_eq!(difference.to_string(), "at state 3 the left side is 5 less than the right");
+/// ```
+impl fmt::Display for Difference {
+    fn fmt(&self, out: &mut fmt::Formatter) -> fmt::Result {
+        let (state, size) = (self.state, self.remainder.unsigned_abs());
+        match self.remainder {
+            0 => write!(out, "at state {state} the sides are equal, and the left must be below"),
+            1.. => write!(out, "at state {state} the left side is {size} more than the right"),
+            _ => write!(out, "at state {state} the left side is {size} less than the right"),
+        }
+    }
+}
+
 /// Why a call did not accept. A refusal writes no byte of any lent buffer.
 ///
 /// It borrows the file at fault. An error that outlives the files keeps the words:
@@ -94,6 +121,8 @@ pub struct Refusal<'a> {
     pub place: usize,
     /// The caller's own bytes of that file from the place to its end. Empty without a file, and for one that this crate does not know.
     pub stretch: &'a [u8],
+    /// For 16, 20 and 21, at which state and by how much the condition or equation breaks; none for all other numbers.
+    pub difference: Option<Difference>,
 }
 
 const MEANINGS: [&str; 28] = [
@@ -146,8 +175,11 @@ impl Refusal<'_> {
 impl fmt::Display for Refusal<'_> {
     fn fmt(&self, out: &mut fmt::Formatter) -> fmt::Result {
         write!(out, "refusal {}: {}", self.number, self.meaning())?;
-        match self.file {
-            Some(file) => write!(out, " ({file}, byte {})", self.place),
+        if let Some(file) = self.file {
+            write!(out, " ({file}, byte {})", self.place)?;
+        }
+        match self.difference {
+            Some(difference) => write!(out, ": {difference}"),
             None => Ok(()),
         }
     }
@@ -161,6 +193,7 @@ impl fmt::Debug for Refusal<'_> {
             .field("file", &self.file)
             .field("place", &self.place)
             .field("stretch", &format_args!("{} bytes", self.stretch.len()))
+            .field("difference", &self.difference)
             .finish()
     }
 }
@@ -181,7 +214,9 @@ fn accepted<'a>(answer: raw::Answer, files: &[Handed<'a>]) -> Result<raw::Answer
         (_, Some((file, bytes))) => (Some(*file), &bytes[answer.place..]),
         (unknown, None) => (Some(File::Unknown(unknown)), &[][..]),
     };
-    Err(Refusal { number: answer.number, file, place: answer.place, stretch })
+    let told = Difference { state: answer.state, remainder: answer.remainder };
+    let difference = matches!(answer.number, 16 | 20 | 21).then_some(told);
+    Err(Refusal { number: answer.number, file, place: answer.place, stretch, difference })
 }
 
 /// The run of the model's own bytes that holds the transitions that leave `state`, empty where none leave.
@@ -225,6 +260,16 @@ pub fn fetch(model: &[u8], state: u32) -> Result<&[u8], Refusal<'_>> {
 /// assert_eq!(refusal.place, 4);
 /// assert_eq!(refusal.stretch, b"BK\0\x01");
 /// assert_eq!(refusal.stretch.as_ptr(), certificate[4..].as_ptr());
+/// ```
+///
+/// Where a flow does not add up, it says at which state and by how much:
+///
+/// ```
+/// let model = b"PA\x02\x01\0\x01LB\0\0TR\0\0\0\x01\x01\x01\0\x01"; // state 0 moves to state 1 internally
+/// let certificate = b"CT\0\0BK\0\0FL\0\0\0\x01\0\0\0\x01\x01\x01\0\0\0\x03"; // state 1 stays, but w(1,1) is 3 where D is 1
+/// let refusal = zolkirta::judge(model, certificate, &mut [0; 2]).unwrap_err();
+/// assert_eq!((refusal.number, refusal.place), (20, 8));
+/// assert_eq!(refusal.difference, Some(zolkirta::Difference { state: 1, remainder: -2 }));
 /// ```
 pub fn judge<'a, 'b>(model: &'a [u8], certificate: &'a [u8], buffer: &'b mut [u8]) -> Result<&'b [u8], Refusal<'a>> {
     lend(raw::zolkirta_judge, [(File::Model, model), (File::Certificate, certificate)], buffer)
@@ -306,9 +351,17 @@ mod tests {
 
     const HEADER: &str = include_str!("../../../include/zolkirta.h");
 
-    fn refusal(number: u32, file: u32, place: usize) -> Refusal<'static> {
+    fn refusal_of(answer: raw::Answer) -> Refusal<'static> {
         let files = [(File::Model, &b"model"[..]), (File::Certificate, b"certificate"), (File::SecondModel, b"second")];
-        accepted(raw::Answer { number, file, place, ..raw::Answer::default() }, &files).unwrap_err()
+        accepted(answer, &files).unwrap_err()
+    }
+
+    fn refusal(number: u32, file: u32, place: usize) -> Refusal<'static> {
+        refusal_of(raw::Answer { number, file, place, ..raw::Answer::default() })
+    }
+
+    fn off(number: u32, state: u32, remainder: i64) -> Refusal<'static> {
+        refusal_of(raw::Answer { number, file: 2, place: 4, state, remainder, ..raw::Answer::default() })
     }
 
     #[test]
@@ -336,6 +389,37 @@ mod tests {
             assert_eq!(refusal(number, 0, 0).to_string(), format!("refusal {number}: unknown number"));
         }
         assert_eq!(refusal(28, 2, 5).to_string(), "refusal 28: unknown number (certificate, byte 5)");
+    }
+
+    #[test]
+    fn a_refusal_says_by_how_much_it_is_off() {
+        let told = [
+            (off(20, 3, 5), "at state 3 the left side is 5 more than the right"),
+            (off(20, 0, -1), "at state 0 the left side is 1 less than the right"),
+            (off(21, 3, 1), "at state 3 the left side is 1 more than the right"),
+            (off(21, 0, -5), "at state 0 the left side is 5 less than the right"),
+            (off(16, 2, 7), "at state 2 the left side is 7 more than the right"),
+            (off(16, 2, 0), "at state 2 the sides are equal, and the left must be below"),
+        ];
+        for (refusal, words) in told {
+            let expected = format!("refusal {}: {} (certificate, byte 4): {words}", refusal.number, refusal.meaning());
+            assert_eq!(refusal.to_string(), expected);
+        }
+        let debug = "Refusal { number: 20, file: Some(Certificate), place: 4, stretch: 7 bytes, \
+                     difference: Some(Difference { state: 63, remainder: -72056769387430080 }) }";
+        assert_eq!(format!("{:?}", off(20, 63, -72_056_769_387_430_080)), debug);
+        for (remainder, words) in [(i64::MAX, "9223372036854775807 more"), (i64::MIN, "9223372036854775808 less")] {
+            let expected = format!("at state {} the left side is {words} than the right", u32::MAX);
+            assert_eq!(Difference { state: u32::MAX, remainder }.to_string(), expected);
+        }
+    }
+
+    #[test]
+    fn only_16_20_and_21_have_a_difference() {
+        for number in (1..=30).chain([u32::MAX]) {
+            let told = [16, 20, 21].contains(&number).then_some(Difference { state: 5, remainder: 9 });
+            assert_eq!(off(number, 5, 9).difference, told, "{number}");
+        }
     }
 
     /// Every number has the words that its line of the C header has.

@@ -23,6 +23,10 @@ pub struct Answer {
     pub stretch_length: usize,
     /// Bytes written into the lent buffer; 0 on refusal, and where none is lent.
     pub written: usize,
+    /// For 16, 20 and 21 the state whose condition or equation breaks; else 0.
+    pub state: u32,
+    /// For 16, 20 and 21 that condition's or equation's left side less its right one; else 0.
+    pub remainder: i64,
 }
 
 /// What [`zolkirta_alike`] answers.
@@ -38,8 +42,9 @@ pub struct AlikeAnswer {
 const _: () = {
     let fields = [offset_of!(Answer, number), offset_of!(Answer, file), offset_of!(Answer, place), offset_of!(Answer, stretch_start)];
     assert!(matches!(fields, [0, 4, 8, 16]));
-    assert!(offset_of!(Answer, stretch_length) == 24 && offset_of!(Answer, written) == 32 && size_of::<Answer>() == 40);
-    assert!(offset_of!(AlikeAnswer, answer) == 0 && offset_of!(AlikeAnswer, alike) == 40 && size_of::<AlikeAnswer>() == 48);
+    assert!(offset_of!(Answer, stretch_length) == 24 && offset_of!(Answer, written) == 32);
+    assert!(offset_of!(Answer, state) == 40 && offset_of!(Answer, remainder) == 48 && size_of::<Answer>() == 56);
+    assert!(offset_of!(AlikeAnswer, answer) == 0 && offset_of!(AlikeAnswer, alike) == 56 && size_of::<AlikeAnswer>() == 64);
 };
 
 /// A call that lends a buffer: two files and the buffer, each a pointer and a length.

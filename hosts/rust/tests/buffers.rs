@@ -48,7 +48,7 @@ fn a_refusal_writes_nothing_whatever_the_length() {
     }
     assert!(refused > 10_000);
     let mut refused = 0;
-    for v in requests("k1").into_iter().filter(|v| v.call == "join" && matches!(v.answer.number, 1..=25)) {
+    for v in requests().into_iter().filter(|v| v.call == "join" && matches!(v.answer.number, 1..=25)) {
         for length in 0..=66 {
             assert_eq!(join(&v.files[0], &v.files[1], length).0, v.answer);
             refused += 1;

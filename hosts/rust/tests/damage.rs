@@ -1,10 +1,10 @@
 //! The library and the plain judge answer alike on damaged pairs: every truncation, every change of one byte of small pairs, damage
-//! by records and fields, and random bytes. Damage by records and fields reaches every number.
+//! by records and fields, and random bytes. Damage by records and fields reaches every number, and every way to be off of 16, 20 and 21.
 mod compare;
 mod plain;
 mod records;
 
-use compare::{accepted, judge, rounds, vectors, Counts, Numbers};
+use compare::{accepted, every_kind, judge, rounds, vectors, Counts, Numbers};
 use records::{crowded, damaged, respelled};
 use std::collections::BTreeSet;
 
@@ -79,4 +79,5 @@ fn damage_by_records_and_fields() {
     for (number, count) in counts.answers.iter().enumerate() {
         assert!(*count > 0, "no damaged pair was answered with {number}");
     }
+    assert_eq!(counts.kinds, every_kind());
 }

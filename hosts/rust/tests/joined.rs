@@ -5,7 +5,7 @@ mod maker;
 mod plain;
 mod records;
 
-use compare::{accepted, alike, changes, join, judge, reduce, rounds, Numbers};
+use compare::{accepted, alike, changes, every_kind, join, judge, kind, reduce, rounds, Numbers};
 use maker::families::filled;
 use maker::files::{Certificate, Model, Transition};
 use maker::random::random_model;
@@ -114,7 +114,7 @@ fn damaged_pairs_are_compared_alike() {
         pairs.extend(Joined::new(&first, &second, &mut numbers).map(|joined| (joined.model, joined.certificate.bytes())));
     }
     let pairs: Vec<Records> = pairs.iter().map(split).collect();
-    let mut told = BTreeSet::new();
+    let (mut told, mut kinds) = (BTreeSet::new(), BTreeSet::new());
     each_damaged(&pairs, rounds(60_000), 35, |model, certificate, n, numbers| {
         let count = numbers.below(n) + 1;
         let named = match numbers.below(4) {
@@ -123,9 +123,11 @@ fn damaged_pairs_are_compared_alike() {
         };
         let said = alike(model, certificate, named.map(|x| x as u32));
         told.insert((said.answer.number, said.answer.file, said.alike));
+        kinds.extend(kind(said.answer, model, certificate));
     });
     let refused = (1..=9).map(|number| (number, 1, 0)).chain((11..=22).map(|number| (number, 2, 0)));
     assert_eq!(told, refused.chain([(0, 0, 0), (0, 0, 1), (27, 0, 0)]).collect());
+    assert_eq!(kinds, every_kind());
 }
 
 /// Joins with every truncation and every change of one byte of either model, and compares two states of the joined pair likewise.

@@ -5,7 +5,7 @@ mod maker;
 mod plain;
 mod records;
 
-use compare::{judge, reduce, rounds, Counts, Numbers};
+use compare::{every_kind, judge, reduce, rounds, Counts, Numbers};
 use maker::families::{bytes, copies, flow_heavy, internal_chain, largest, one_source, refutation_heavy};
 use maker::files::{Certificate, Model};
 use maker::random::random_model;
@@ -158,6 +158,7 @@ fn damaged_pairs_are_answered_alike() {
     let counts = damaged(&pairs, rounds(100_000), 5);
     println!("made pairs damaged by records and fields: {counts}");
     assert!((11..=22).all(|number| counts.answers[number] > 0));
+    assert_eq!(counts.kinds, every_kind());
 }
 
 #[test]

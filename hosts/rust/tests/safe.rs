@@ -2,9 +2,9 @@
 mod compare;
 mod plain;
 
-use compare::{accepted, alike, fetch, join, judge, reduce, requests, vectors, Counts, Numbers};
+use compare::{accepted, alike, fetch, join, judge, reduce, requests, vectors, Calls, Counts, Numbers};
 use plain::{AlikeAnswer, Answer};
-use zolkirta::{File, Refusal};
+use zolkirta::{Difference, File, Refusal};
 
 /// The slice lies in this file from this place on: the same bytes at the same address.
 fn same_bytes(slice: &[u8], file: &[u8], from: usize, length: usize) {
@@ -22,8 +22,11 @@ fn same_refusal(refusal: Refusal, answer: Answer, model: &[u8], other: &[u8]) {
     };
     assert_eq!((refusal.number, refusal.file, refusal.place), (answer.number, file, answer.place));
     same_bytes(refusal.stretch, bytes, answer.stretch_start, answer.stretch_length);
+    let told = Difference { state: answer.state, remainder: answer.remainder };
+    assert_eq!(refusal.difference, [16, 20, 21].contains(&answer.number).then_some(told));
     let place = file.map_or(String::new(), |_| format!(" ({name}, byte {})", answer.place));
-    assert_eq!(refusal.to_string(), format!("refusal {}: {}{place}", answer.number, refusal.meaning()));
+    let difference = refusal.difference.map_or(String::new(), |difference| format!(": {difference}"));
+    assert_eq!(refusal.to_string(), format!("refusal {}: {}{place}{difference}", answer.number, refusal.meaning()));
 }
 
 type Call = for<'a, 'b> fn(&'a [u8], &'a [u8], &'b mut [u8]) -> Result<&'b [u8], Refusal<'a>>;
@@ -44,6 +47,14 @@ fn same_lent(call: Call, told: (Answer, Vec<u8>), model: &[u8], other: &[u8], le
         }
     }
     told
+}
+
+fn same_judge(model: &[u8], certificate: &[u8], length: usize) -> (Answer, Vec<u8>) {
+    same_lent(zolkirta::judge, judge(model, certificate, length), model, certificate, length)
+}
+
+fn same_reduce(model: &[u8], certificate: &[u8], length: usize) -> (Answer, Vec<u8>) {
+    same_lent(zolkirta::reduce, reduce(model, certificate, length), model, certificate, length)
 }
 
 fn same_join(first: &[u8], second: &[u8], length: usize) -> (Answer, Vec<u8>) {
@@ -68,8 +79,8 @@ fn same(counts: &mut Counts, model: &[u8], certificate: &[u8], state: u32, block
         }
         Err(refusal) => same_refusal(refusal, answer, model, &[]),
     }
-    counts.count(same_lent(zolkirta::judge, judge(model, certificate, blocks), model, certificate, blocks).0);
-    counts.count(same_lent(zolkirta::reduce, reduce(model, certificate, out), model, certificate, out).0);
+    counts.count(same_judge(model, certificate, blocks).0);
+    counts.count(same_reduce(model, certificate, out).0);
 }
 
 #[test]
@@ -93,9 +104,10 @@ fn safe_calls_say_what_the_raw_ones_say() {
 }
 
 #[test]
-fn safe_joins_and_comparisons_say_what_the_raw_ones_say() {
-    let all = requests("k1");
-    all.iter().for_each(|v| v.holds_for(same_join, same_alike));
+fn safe_calls_give_the_answers_of_requests() {
+    let calls = Calls { judge: same_judge, reduce: same_reduce, join: same_join, alike: same_alike };
+    let all = requests();
+    all.iter().for_each(|v| v.holds_for(&calls));
     assert!((1..=3).all(|file| all.iter().any(|v| v.answer.file == file)));
 }
 
@@ -103,7 +115,7 @@ fn safe_joins_and_comparisons_say_what_the_raw_ones_say() {
 fn a_refusal_is_an_error_of_few_words() {
     let model = [&b"PA\x01\x01\0\0LB\0"[..], &[0; 10_000]].concat();
     let refusal = zolkirta::fetch(&model, 0).unwrap_err();
-    assert_eq!(format!("{refusal:?}"), "Refusal { number: 9, file: Some(Model), place: 9, stretch: 10000 bytes }");
+    assert_eq!(format!("{refusal:?}"), "Refusal { number: 9, file: Some(Model), place: 9, stretch: 10000 bytes, difference: None }");
     let error: &dyn std::error::Error = &refusal;
     assert_eq!(error.to_string(), "refusal 9: bytes are left after the last transition (model, byte 9)");
 }

@@ -2,16 +2,23 @@
 mod compare;
 mod plain;
 
-use compare::requests;
+use compare::{requests, Calls, PlainLending};
+use plain::Answer;
+
+fn lent(call: PlainLending, one: &[u8], other: &[u8], length: usize) -> (Answer, Vec<u8>) {
+    let mut buffer = vec![0; length];
+    let answer = call(one, other, &mut buffer);
+    buffer.truncate(answer.written);
+    (answer, buffer)
+}
 
 #[test]
-fn the_plain_judge_joins_and_compares() {
-    let join = |first: &[u8], second: &[u8], length| {
-        let mut buffer = vec![0; length];
-        let answer = plain::join(first, second, &mut buffer);
-        buffer.truncate(answer.written);
-        (answer, buffer)
+fn the_plain_judge_gives_the_answers() {
+    let plain = Calls {
+        judge: |model, certificate, length| lent(plain::judge, model, certificate, length),
+        reduce: |model, certificate, length| lent(plain::reduce, model, certificate, length),
+        join: |first, second, length| lent(plain::join, first, second, length),
+        alike: |model, certificate, [count, s, t]| plain::alike(model, count, certificate, s, t),
     };
-    let alike = |model: &[u8], certificate: &[u8], [count, s, t]: [u32; 3]| plain::alike(model, count, certificate, s, t);
-    requests("k1").iter().for_each(|v| v.holds_for(join, alike));
+    requests().iter().for_each(|v| v.holds_for(&plain));
 }

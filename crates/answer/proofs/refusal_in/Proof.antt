@@ -1,6 +1,5 @@
 -- `refusal_in` meets its contract.
 use Rattle.rules.specs.definitions.Answers.{refusalIn}
-use mathlib.Core.Path.{refl}
 use native.Mathlib.Omega.{arith}
 use borrow.Author.Needs.{needs}
 use Rattle.answer.proofs.refusal_in.Statement.{statement}
@@ -11,7 +10,7 @@ sub-t4 c = search needs
 
 returns : tie.Need-returns
 unfolding refusalIn
-returns c = refl
+returns c = search needs
 
 pub refusal-in-spec : {M : Type 1} → statement M
 refusal-in-spec = tie.close (tie.spec sub-t4 returns)

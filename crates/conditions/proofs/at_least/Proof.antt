@@ -2,9 +2,8 @@
 use mathlib.Core.Path.{refl}
 use denote.Ref.{now}
 use mir.Facts.{toZ-ofZ}
-use Rattle.signed.specs.TermsLaws.{term-is, term-fits}
 use Rattle.prices.specs.Prices.{priceIn}
-use Rattle.prices.specs.PricesLaws.{price-back, product}
+use Rattle.prices.specs.PricesLaws.{product-is, product-fits}
 use borrow.Author.Needs.{needs}
 use Rattle.conditions.proofs.at_least.Statement.{statement}
 use Rattle.conditions.proofs.at_least.Tie as tie
@@ -22,15 +21,13 @@ mul-result : tie.Need-mul-result
 mul-result c =
     let a = c .before .args in
     let p = c .before .pre in
-    let t = product (a .d) (priceIn (now (a .x)) (a .v)) (p .0) (p .2) in
-    rw (price-back (priceIn (now (a .x)) (a .v)) (p .2), term-is t) (term-fits t)
+    product-fits (a .d) (priceIn (now (a .x)) (a .v)) (p .0) (p .2)
 
 returns : tie.Need-returns
 returns c =
     let a = c .before .args in
     let p = c .before .pre in
-    let t = product (a .d) (priceIn (now (a .x)) (a .v)) (p .0) (p .2) in
-    rw (toZ-ofZ (mul-result c), toZ-ofZ (c .before .fits .sum), price-back (priceIn (now (a .x)) (a .v)) (p .2), term-is t) refl
+    rw (toZ-ofZ (mul-result c), toZ-ofZ (c .before .fits .sum), product-is (a .d) (priceIn (now (a .x)) (a .v)) (p .0) (p .2)) refl
 
 pub at-least-spec : {M : Type 1} → statement M
 at-least-spec =

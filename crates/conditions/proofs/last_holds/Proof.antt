@@ -12,18 +12,18 @@ fields-of-requires : tie.Need-fields-of-requires
 fields-of-requires c κs = search needs
 
 sum-of-requires : tie.Need-sum-of-requires
-sum-of-requires c κs = summable (c .before .before .pre .0) (c .fields-of .ensures) (c .before .before .pre .3)
+sum-of-requires c κs = let pre = c .before .before .pre in summable (pre .challenger) (c .fields-of .ensures) (pre .third)
 
 at-least-requires : tie.Need-at-least-requires
 at-least-requires c κs =
     let pre = c .before .before .before .pre in
-    state-price (pre .0) (c .before .fields-of .ensures) (pre .2) (pre .1)
+    state-price (pre .challenger) (c .before .fields-of .ensures) (pre .first) (pre .defender)
 
 returns : tie.Need-returns
 returns c =
     let start = c .before .before .before .before in
     ap not (c .at-least .ensures)
-    ∙ below-is (now (start .args .x)) (start .args .t) (start .pre .0) (c .before .before .fields-of .ensures) (c .before .sum-of .ensures)
+    ∙ below-is (now (start .args .x)) (start .args .t) (start .pre .challenger) (c .before .before .fields-of .ensures) (c .before .sum-of .ensures)
 
 pub last-holds-spec : {M : Type 1} → statement M
 last-holds-spec = tie.close (tie.spec fields-of-requires sum-of-requires at-least-requires returns)

@@ -3,7 +3,7 @@ use mathlib.Core.Path.{refl}
 use native.Mathlib.Omega.{arith}
 use borrow.Author.Tests.{not-true, not-false}
 use Rattle.rules.specs.definitions.PlainRule.{plainRule}
-use Rattle.transition.specs.KnownLaws.{known-transition}
+use Rattle.transition.specs.KnownLaws.{few-states, known-transition}
 use Rattle.signed.specs.TermsLaws.{minus-back}
 use Rattle.equations.specs.PlainEquations.{decided}
 use Rattle.flow.specs.FlowJudgedLaws.{can-give, can-ask, can-take-ks, ks-stop, middle-inside, count-cut, ws-cut, can-take-ws, ws-stop, judged}
@@ -169,7 +169,11 @@ returns-4 c =
     ws-stop (start .pre) (at-give .give .ensures) plainRule (at-fields .fields-of .ensures) (at-ks .take-ks .ensures) (not-false _ (at-if1 .if1 .left)) (at-pair .pair .ensures) (omega (arith, at-if2 .if2 .left, middle-inside (start .pre) (at-give .give .ensures) plainRule (at-fields .fields-of .ensures) (at-ks .take-ks .ensures) (not-false _ (at-if1 .if1 .left)))) (omega (arith, at-if3 .if3 .left, at-pair .pair .ensures .next, at-if2 .if2 .left)) (at-arrival .arrival .ensures) ask (at-ws .take-ws .ensures) (at-refusal .refusal4 .result) (c .refused4 .ensures) (at-refusal .refusal4 .ensures) (not-true _ (at-if4 .if4 .taken))
 
 verdict-requires : tie.Need-verdict-requires
-verdict-requires c κs = tt
+verdict-requires c κs =
+    let at-ws = c .before .before .before .before .before in
+    let at-minus = at-ws .before .before .before .before .before .before in
+    let at-ks = at-minus .before .before .before .before .before .before .before .before .before in
+    omega (arith, few-states (at-ks .before .before .before .before .before .before .before .pre .known))
 
 at-requires : tie.Need-at-requires
 at-requires c κs = tt
@@ -177,7 +181,7 @@ at-requires c κs = tt
 returns-5 : tie.Need-returns-5
 returns-5 c =
     let at-verdict = c .before in
-    let at-if4 = at-verdict .before .before in
+    let at-if4 = at-verdict .before .before .before .before in
     let at-ws = at-if4 .before .before in
     let at-arrival = at-ws .before .before .before in
     let at-arrive = at-arrival .before in

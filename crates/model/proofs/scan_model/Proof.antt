@@ -1,13 +1,10 @@
 -- `scan_model` meets its contract: the labels and the transitions in the order of `scanModel`.
 use Rattle.rules.specs.argument.ReadingLaws.{refuse-stops, refuse-passes, head-passed, labels-passed}
-use Rattle.rules.specs.definitions.Reading.{Scan, refused, headFault, scanTransitions, scanModel, labelsFault}
+use Rattle.rules.specs.definitions.Reading.{Scan, refused, scanTransitions, scanModel, labelsFault}
 use Rattle.rules.specs.definitions.Limits.{limits}
 use Prim.Native.Nat.{ℕ, _+_}
-use mathlib.Core.Path.{_≡_, refl, sym, _∙_, ap}
+use mathlib.Core.Path.{refl, _∙_, ap}
 use native.Mathlib.Omega.{arith}
-use Rattle.rules.specs.definitions.Faults as rules
-use Rattle.rules.specs.definitions.Faults.{noFault}
-use mathlib.Core.List.{List}
 use Rattle.fault.specs.Faults.{faultOf}
 use Rattle.fault.specs.FaultsLaws.{none-is}
 use Rattle.model_head.specs.HeadLaws.{of-head}
@@ -15,15 +12,11 @@ use Rattle.model.specs.Scanned.{scans}
 use Rattle.model.proofs.scan_model.Statement.{statement}
 use Rattle.model.proofs.scan_model.Tie as tie
 
--- a head whose fault has number 0 has none
-no-head-fault : (s : List ℕ) → headFault limits s .number ≡ 0 → noFault ≡ headFault limits s
-no-head-fault s e = ap rules.fault (sym e)
-
 head-at-requires : tie.Need-head-at-requires
-head-at-requires c κs = head-passed limits _ (no-head-fault _ (c .before .pre .1)) .whole
+head-at-requires c κs = head-passed limits _ (c .before .pre .1) .whole
 
 labels-fault-requires : tie.Need-labels-fault-requires
-labels-fault-requires c κs = (head-passed limits _ (no-head-fault _ (c .before .before .pre .1)) .whole, c .head-at .ensures .small)
+labels-fault-requires c κs = (head-passed limits _ (c .before .before .pre .1) .whole, c .head-at .ensures .small)
 
 returns : tie.Need-returns
 unfolding scanModel
@@ -39,7 +32,7 @@ returns c =
 scan-transitions-requires : tie.Need-scan-transitions-requires
 scan-transitions-requires c κs =
     let pre = c .before .before .before .before .before .before .pre in
-    let h = head-passed limits _ (no-head-fault _ (pre .1)) in
+    let h = head-passed limits _ (pre .1) in
     let wrong = c .before .before .before .labels-fault in (
       c .before .before .before .before .head-at .ensures .states,
       labels-passed limits _ _ (none-is (wrong .result) (wrong .ensures .is) (c .before .if1 .left)) .whole,

@@ -1,18 +1,11 @@
 -- `answer_pair` meets its contract: the head is refused, or the rest of the pair is answered, with the task's room for blocks.
 use native.Mathlib.Omega.{arith}
-use mathlib.Core.List.{[]}
-use mathlib.Core.Path.{_≡_, refl, sym, _∙_, ap}
-use lib.ListN.{length}
 use denote.Ref.{now}
 use Rattle.rules.specs.definitions.Bytes.{byteAt}
 use Rattle.rules.specs.definitions.SoundModel.{Bytes}
-use Rattle.rules.specs.definitions.Faults.{Fault}
-use Rattle.transition.specs.ModelRead.{head-told}
 use Rattle.answer.specs.AnsweredLaws.{refusal-as}
-use Rattle.judgement.specs.VerdictLaws.{refused-as}
-use Rattle.acceptance.specs.Tasks.{followsOf, roomOf}
 use Rattle.acceptance.specs.declared.Task.the-variants.{Blocks, Merged}
-use Rattle.pair.specs.PairLaws.{room-for, room-is, with-demands}
+use Rattle.pair.specs.PairLaws.{room-is, head-answered, head-passed}
 use borrow.Author.Needs.{needs}
 use Rattle.pair.proofs.answer_pair.Statement.{statement}
 use Rattle.pair.proofs.answer_pair.Tie as tie
@@ -26,11 +19,11 @@ refusal-in-requires c κs = search needs
 returns : tie.Need-returns
 unfolding Bytes byteAt
 returns c =
-    let a = c .before .before .before .before .before .before .before .args in
-    let head = c .before .before .before .head-fault in
-    let told = head-told _ (head .result) (head .ensures) (c .before .if1 .taken) in
-    with-demands (a .task) _ _ (now (a .out)) _ (λ i h. omega (arith, c .before .before .before .before .before .before .shared-slice-known .given i)) (λ i h. omega (arith, c .before .before .before .before .before .shared-slice-known2 .given i))
-    (refused-as _ _ {table = []} (roomOf (a .task) (length (now (a .out)))) (head .result) (told .0) (told .1) (refusal-as _ 1 _ _ (c .refusal-in .ensures) (omega arith) (omega arith)) .says .refuses (followsOf (a .task)) (now (a .out)) (room-for (a .task) (now (a .out)) _ refl))
+    let head = c .before .before .before in
+    let files = head .before .before in
+    let a = files .before .before .args in
+    head-answered (a .task) _ _ (now (a .out)) _ (λ i h. omega (arith, files .before .shared-slice-known .given i)) (λ i h. omega (arith, files .shared-slice-known2 .given i))
+    (head .head-fault .ensures) (c .before .if1 .taken) (refusal-as _ 1 _ _ (c .refusal-in .ensures) (omega arith) (omega arith))
 
 enum-told : tie.Need-enum-told
 enum-told c = search needs
@@ -38,7 +31,7 @@ enum-told c = search needs
 answer-headed-requires : tie.Need-answer-headed-requires
 answer-headed-requires c κs =
     let head = c .before .before .before .before .before .head-fault in
-    (ap (λ (f : Fault). f .number) (sym (head .ensures .is)) ∙ c .before .before .before .if1 .left, room-is _ Blocks _ _ (c .before .enum-told .given .1) (omega arith))
+    (head-passed _ _ (head .ensures) (c .before .before .before .if1 .left), room-is _ Blocks _ _ (c .before .enum-told .given .1) (omega arith))
 
 enum-told-2 : tie.Need-enum-told-2
 enum-told-2 c = search needs
@@ -46,7 +39,7 @@ enum-told-2 c = search needs
 answer-headed-requires-2 : tie.Need-answer-headed-requires-2
 answer-headed-requires-2 c κs =
     let head = c .before .before .before .before .before .head-fault in
-    (ap (λ (f : Fault). f .number) (sym (head .ensures .is)) ∙ c .before .before .before .if1 .left, room-is _ Merged _ _ (c .before .enum-told2 .given .1) (omega arith))
+    (head-passed _ _ (head .ensures) (c .before .before .before .if1 .left), room-is _ Merged _ _ (c .before .enum-told2 .given .1) (omega arith))
 
 same-length : tie.Need-same-length
 same-length c = search needs

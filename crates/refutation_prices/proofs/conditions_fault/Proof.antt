@@ -1,11 +1,14 @@
 -- `conditions_fault` meets its contract: each test in its order.
 use native.Mathlib.Omega.{arith}
-use mathlib.Core.Path.{sym, _∙_}
+use mathlib.Core.Path.{sym, _∙_, ap}
 use borrow.Author.Tests.{not-true, not-false}
 use Rattle.bisimulation.specs.argument.ChoiceLaws.{isTrue, isFalse}
-use Rattle.transition.specs.KnownLaws.{known-own, known-states, few-states, known-transition}
+use Rattle.rules.specs.definitions.Faults.{faultBy}
+use Rattle.rules.specs.definitions.PlainRule.{lastFault}
+use Rattle.transition.specs.KnownLaws.{known-own, known-states, few-states}
 use Rattle.conditions.specs.Conditions.{conditionsFault}
-use Rattle.refutation_prices.specs.PlainPrices.{prices-there}
+use Rattle.conditions.specs.ConditionsLaws.{off-back}
+use Rattle.refutation_prices.specs.PlainPrices.{prices-there, last-asked}
 use borrow.Author.Needs.{needs}
 use Rattle.refutation_prices.proofs.conditions_fault.Statement.{statement}
 use Rattle.refutation_prices.proofs.conditions_fault.Tie as tie
@@ -35,44 +38,56 @@ refusal-requires-2 c κs = search needs
 returns-2 : tie.Need-returns-2
 unfolding conditionsFault
 returns-2 c =
+    let related = c .before .before in
+    let fair = related .before .before in
     record {
       number = λ R held.
-          isTrue _ (sym (c .before .before .before .before .all-fair .ensures) ∙ not-false _ (c .before .before .before .if1 .left))
-          (isFalse _ (sym (c .before .before .all-related .ensures .tells _ R (known-states (c .before .before .before .before .before .before .pre .0 .known)) held) ∙ not-true _ (c .before .if2 .taken))
+          isTrue _ (sym (fair .all-fair .ensures) ∙ not-false _ (related .before .if1 .left))
+          (isFalse _ (sym (related .all-related .ensures .tells _ R (known-states (fair .before .before .pre .0 .known)) held) ∙ not-true _ (c .before .if2 .taken))
           (c .refusal2 .ensures));
     }
 
 last-holds-requires : tie.Need-last-holds-requires
-last-holds-requires c κs =
-    let pre = c .before .before .before .before .before .pre in
-    let k = pre .0 .known in
-    (known-transition k (pre .0 .challenger), omega (arith, k .states, pre .0 .defender), prices-there k (search needs), prices-there k (search needs))
+last-holds-requires c κs = let pre = c .before .before .before .before .before .pre in last-asked (pre .0) (pre .1) (pre .3)
 
-refusal-requires-3 : tie.Need-refusal-requires-3
-refusal-requires-3 c κs = search needs
+last-off-requires : tie.Need-last-off-requires
+last-off-requires c κs =
+    let pre = c .before .before .before .before .before .before .before .pre in last-asked (pre .0) (pre .1) (pre .3)
+
+broken-requires : tie.Need-broken-requires
+broken-requires c κs =
+    let asked = c .before .before .before .before .before .before .before .before .pre .0 in omega (arith, asked .defender, few-states (asked .known))
 
 returns-3 : tie.Need-returns-3
-unfolding conditionsFault
+unfolding conditionsFault lastFault
 returns-3 c =
+    let off = c .before in
+    let last = off .before .before in
+    let related = last .before .before in
+    let fair = related .before .before in
+    let pre = fair .before .before .pre in
     record {
       number = λ R held.
-          isTrue _ (sym (c .before .before .before .before .before .before .all-fair .ensures) ∙ not-false _ (c .before .before .before .before .before .if1 .left))
-          (isTrue _ (sym (c .before .before .before .before .all-related .ensures .tells _ R (known-states (c .before .before .before .before .before .before .before .before .pre .0 .known)) held) ∙ not-false _ (c .before .before .before .if2 .left))
-          (isFalse _ (sym (c .before .before .last-holds .ensures) ∙ not-true _ (c .before .if3 .taken))
-          (c .refusal3 .ensures)));
+          isTrue _ (sym (fair .all-fair .ensures) ∙ not-false _ (related .before .if1 .left))
+          (isTrue _ (sym (related .all-related .ensures .tells _ R (known-states (pre .0 .known)) held) ∙ not-false _ (last .before .if2 .left))
+          (isFalse _ (sym (last .last-holds .ensures) ∙ not-true _ (off .before .if3 .taken))
+          (c .broken .ensures ∙ ap (faultBy 16 _) (off-back (last-asked (pre .0) (pre .1) (pre .3)) (off .last-off .ensures)))));
     }
 
 none-requires : tie.Need-none-requires
 none-requires c κs = search needs
 
 returns-4 : tie.Need-returns-4
-unfolding conditionsFault
+unfolding conditionsFault lastFault
 returns-4 c =
+    let last = c .before .before in
+    let related = last .before .before in
+    let fair = related .before .before in
     record {
       number = λ R held.
-          isTrue _ (sym (c .before .before .before .before .before .before .all-fair .ensures) ∙ not-false _ (c .before .before .before .before .before .if1 .left))
-          (isTrue _ (sym (c .before .before .before .before .all-related .ensures .tells _ R (known-states (c .before .before .before .before .before .before .before .before .pre .0 .known)) held) ∙ not-false _ (c .before .before .before .if2 .left))
-          (isTrue _ (sym (c .before .before .last-holds .ensures) ∙ not-false _ (c .before .if3 .left))
+          isTrue _ (sym (fair .all-fair .ensures) ∙ not-false _ (related .before .if1 .left))
+          (isTrue _ (sym (related .all-related .ensures .tells _ R (known-states (fair .before .before .pre .0 .known)) held) ∙ not-false _ (last .before .if2 .left))
+          (isTrue _ (sym (last .last-holds .ensures) ∙ not-false _ (c .before .if3 .left))
           (c .none .ensures)));
     }
 
@@ -87,7 +102,8 @@ conditions-fault-spec =
     refusal-requires-2
     returns-2
     last-holds-requires
-    refusal-requires-3
+    last-off-requires
+    broken-requires
     returns-3
     none-requires
     returns-4)

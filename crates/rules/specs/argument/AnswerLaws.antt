@@ -4,12 +4,14 @@ use mathlib.Core.Path.{_≡_, refl, sym, _∙_, ap, subst}
 use mathlib.Core.Logic.{inl, inr, ⊎-elim}
 use mathlib.Core.List.{List}
 use lib.ListN.{length, length-take, length-drop}
+use lib.IntN.{pos}
 use native.Mathlib.Decide.{decLt}
 use native.Mathlib.Omega.{arith}
 use Rattle.bisimulation.specs.argument.ChoiceLaws.{via, less, notLess, eitherLess}
 use Rattle.rules.specs.definitions.Limits.{Limits}
 use Rattle.rules.specs.definitions.Model.{Model}
-use Rattle.rules.specs.definitions.Faults.{Fault}
+use Rattle.rules.specs.definitions.Faults.{Fault, faultBy}
+use Rattle.rules.specs.argument.FaultLaws.{Otherwise, Told, told-fault}
 use Rattle.rules.specs.definitions.Reading.{model, Scan, sound, refused, scanWhole, statesOf, countOf, modelAt, readingOf, readWhole, placeOf, sourceAt, firstNotBelow, runFirst, runPast, runStart, runEnd}
 use Rattle.rules.specs.argument.ReadingLaws.{Sound, Tells, whole-tells}
 use Rattle.rules.specs.definitions.Answers.{Answer, refusalIn, answerWithoutPlace, runAnswer, fetchReading, fetchAnswer, Outcome, unwritten, filled, fileOutcome, FetchNumber}
@@ -90,6 +92,21 @@ fetch-file L s state = go (scanWhole L s)
         (omega arith)
     go (refused f place) = omega arith
 
+-- document 02, K2: an answer without a state
+abbrev pub NoState : Answer → Type 0
+NoState a = (a .state ≡ 0) × (a .remainder ≡ pos 0)
+
+pub fetch-zero : (L : Limits) (s : List ℕ) (state : ℕ) → NoState (fetchAnswer L s state)
+unfolding fetchAnswer fetchReading readWhole readingOf refusalIn runAnswer answerWithoutPlace
+fetch-zero L s state = go (scanWhole L s) (whole-tells L s)
+  where
+    go : (scan : Scan) → Tells L s scan → NoState (fetchReading s state (readingOf s scan))
+    go (sound n m count end) t =
+        eitherLess NoState state (length (modelAt s .labels))
+        (eitherLess NoState (runStart s state) (runEnd s state) (refl, refl) (refl, refl))
+        (refl, refl)
+    go (refused f place) t = t .told .otherwise (omega (arith, t .known))
+
 -- its stretch or run lies in the file
 pub fetch-inside : (L : Limits) (s : List ℕ) (state : ℕ) → fetchAnswer L s state .stretchStart + fetchAnswer L s state .stretchLength ≤ length s
 unfolding fetchAnswer fetchReading readWhole readingOf refusalIn runAnswer answerWithoutPlace runStart runEnd
@@ -128,6 +145,10 @@ read-states L s {N} {end} e = go (scanWhole L s) (whole-tells L s) e
         ap (λ (x : Model). length (x .labels)) (sym same) ∙ labels-length s (omega (arith, t .states, t .labels))
     go (refused f place) t q = let z : _≡_ {A = ℕ} 0 1 = cc in absurd (omega arith)
 
+-- the number, the state and the remainder of an answer
+abbrev pub faultIn : Answer → Fault
+faultIn a = faultBy (a .number) (a .state) (a .remainder)
+
 -- a file is written, or there is no room for it
 module _ (short : ℕ) (file buffer : List ℕ) where
   pub file-short : length buffer < length file → unwritten (answerWithoutPlace short 0) buffer ≡ fileOutcome short file buffer
@@ -142,6 +163,15 @@ module _ (short : ℕ) (file buffer : List ℕ) where
   pub file-number {κ} : (P : ℕ → Type κ) → P 0 → P short → P (fileOutcome short file buffer .answer .number)
   unfolding fileOutcome unwritten filled answerWithoutPlace
   file-number P z s = eitherLess (λ (o : Outcome). P (o .answer .number)) (length buffer) (length file) s z
+
+  pub file-zero : NoState (fileOutcome short file buffer .answer)
+  unfolding fileOutcome unwritten filled answerWithoutPlace
+  file-zero = eitherLess (λ (o : Outcome). NoState (o .answer)) (length buffer) (length file) (refl, refl) (refl, refl)
+
+  pub file-told : Otherwise short → Told (faultIn (fileOutcome short file buffer .answer))
+  unfolding fileOutcome unwritten filled answerWithoutPlace
+  file-told o =
+      eitherLess (λ (o : Outcome). Told (faultIn (o .answer))) (length buffer) (length file) (told-fault short o) (told-fault 0 (omega arith))
 
   pub file-unwritten : (fileOutcome short file buffer .answer .number ≡ 0 → ⊥) → fileOutcome short file buffer .buffer ≡ buffer
   unfolding fileOutcome unwritten filled answerWithoutPlace

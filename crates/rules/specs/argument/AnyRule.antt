@@ -13,7 +13,8 @@ use Rattle.bisimulation.specs.definitions.Rule.{Rule}
 use Rattle.rules.specs.definitions.Limits.{Limits}
 use Rattle.rules.specs.definitions.Model.{Model}
 use Rattle.rules.specs.definitions.SoundModel.{Bytes, SoundModel, FitsWidths}
-use Rattle.rules.specs.definitions.Faults.{Fault, noFault}
+use Rattle.rules.specs.definitions.Faults.{Fault, Passes}
+use Rattle.rules.specs.argument.FaultLaws.{Told}
 use Rattle.rules.specs.definitions.Reading.{model, noModel}
 use Rattle.rules.specs.definitions.Certificate.{FileRule}
 use Rattle.rules.specs.definitions.Judging.{Question, Reader}
@@ -24,10 +25,10 @@ use Rattle.rules.specs.definitions.Accepted.{RuleSays, GoodFlow, IsFile}
 -- what a rule decides of a file is what it says: a test that finds no fault is the proposition
 pub record Decides (file : FileRule) (says : RuleSays) : Type 0 where
   pub priceCount : (A : Automaton) (q : ℕ) → file .priceCount A q ≡ says .priceCount A q
-  pub refutes : (A : Automaton) (R : Pairs) (q t : ℕ) (p : ℕ → ℤ) → (noFault ≡ file .pricesFault A R q t p) ↔ says .refutes A R q t p
+  pub refutes : (A : Automaton) (R : Pairs) (q t : ℕ) (p : ℕ → ℤ) → Passes (file .pricesFault A R q t p) ↔ says .refutes A R q t p
   pub onlyPrices : (A : Automaton) → SoundAutomaton A → (R : Pairs) (q t : ℕ) (p p′ : ℕ → ℤ) → t < A .states → ((i : ℕ) → i < says .priceCount A q → p i ≡ p′ i) → says .refutes A R q t p → says .refutes A R q t p′
   pub inQuestion : (A : Automaton) (q t layer r : ℕ) → (file .inQuestion A q t layer r ≡ true) ↔ says .inQuestion A q t layer r
-  pub equations : (A : Automaton) (q t : ℕ) (f : Flow) → (noFault ≡ file .equationsFault A q t f) ↔ says .equations A q t f
+  pub equations : (A : Automaton) (q t : ℕ) (f : Flow) → Passes (file .equationsFault A q t f) ↔ says .equations A q t f
 
 -- the automaton is sound, and its numbers fit the fields of a certificate
 pub record Narrow (A : Automaton) : Type 0 where
@@ -40,10 +41,15 @@ pub record Covers (rule : Rule) (says : RuleSays) : Type 1 where
   pub refutes : (A : Automaton) (R : Pairs) (q t : ℕ) (p : ℕ → ℤ) → says .refutes A R q t p → rule .refutes A R q t p
   pub meets : (A : Automaton) (R : Pairs) (W : ℕ → ℕ → Type 0) (x : Question) (f : FlowRecord) → GoodFlow says A R x f → ((v u : ℕ) → v < A .states → u < A .states → R v u ≡ true → W v u) → rule .met A W (x .challenger) (x .defender)
 
+-- no fault, or one of the numbers; and what it tells
+pub record NoneOr (numbers : ℕ → Type 0) (f : Fault) : Type 0 where
+  pub number : (f .number ≡ 0) ⊎ numbers (f .number)
+  pub told : Told f
+
 -- a rule's tests find no fault, or one with a number of its own
 pub record AnswersOnly (numbers : ℕ → Type 0) (file : FileRule) : Type 0 where
-  pub prices : (A : Automaton) (R : Pairs) (q t : ℕ) (p : ℕ → ℤ) → (file .pricesFault A R q t p .number ≡ 0) ⊎ numbers (file .pricesFault A R q t p .number)
-  pub equations : (A : Automaton) (q t : ℕ) (f : Flow) → (file .equationsFault A q t f .number ≡ 0) ⊎ numbers (file .equationsFault A q t f .number)
+  pub prices : (A : Automaton) (R : Pairs) (q t : ℕ) (p : ℕ → ℤ) → NoneOr numbers (file .pricesFault A R q t p)
+  pub equations : (A : Automaton) (q t : ℕ) (f : Flow) → NoneOr numbers (file .equationsFault A q t f)
 
 -- a step rule: what it decides of a certificate file, what it says of a certificate, its theory, and that these agree; which numbers it answers
 pub record CertificateRule : Type 1 where
@@ -64,7 +70,7 @@ pub record ModelFiles (L : Limits) : Type 1 where
   pub whole : (bytes : List ℕ) (M : Model) (end : ℕ) → Bytes bytes → read bytes ≡ model M end → end ≡ length bytes
   pub sound : (bytes : List ℕ) (M : Model) → isFile bytes M → SoundModel L M
   pub numbers : ℕ → Type 0
-  pub answers : (bytes : List ℕ) (f : Fault) (place : ℕ) → read bytes ≡ noModel f place → (f .number ≡ 0 → ⊥) × numbers (f .number) × (place ≤ length bytes)
+  pub answers : (bytes : List ℕ) (f : Fault) (place : ℕ) → read bytes ≡ noModel f place → (f .number ≡ 0 → ⊥) × numbers (f .number) × (place ≤ length bytes) × Told f
 
 -- what a pair of files is judged by
 pub record PairRules : Type 1 where

@@ -11,16 +11,16 @@ use borrow.Author.Tests.{eqb-true, eqb-false, eq-eqb, ne-eqb}
 use native.Mathlib.Omega.{arith}
 use native.Mathlib.Decide.{ℕ-discrete, decLt}
 use Rattle.bisimulation.specs.definitions.Choice.{ifSame, allBelow}
-use Rattle.bisimulation.specs.argument.ChoiceLaws.{notLess, same, notSame, isTrue, pastLess, keptSame, keptTrue, all-below, below-all, false-not}
+use Rattle.bisimulation.specs.argument.ChoiceLaws.{notLess, same, notSame, isTrue, all-below, below-all, false-not}
 use Rattle.bisimulation.specs.definitions.Automaton.{Automaton}
 use Rattle.bisimulation.specs.definitions.Pairs.{Pairs}
 use Rattle.rules.specs.definitions.Bytes.{byteAt, twoAt, twoBytes}
 use Rattle.rules.specs.argument.Standing.{Stands, IsBytes, stands-first, mark-stands, after-two, rest-of-two, two-is}
 use Rattle.rules.specs.definitions.Certificate.{blocksAt, numberedFault, sameBlock, agree, pairsFault, blocksFault}
-use Rattle.rules.specs.definitions.Faults.{fault, noFault, certificateRecord}
+use Rattle.rules.specs.definitions.Faults.{Passes, certificateRecord}
 use Rattle.rules.specs.definitions.Encoding.{blocksBytes}
 use Rattle.rules.specs.definitions.Accepted.{GoodBlocks}
-use Rattle.rules.specs.argument.FaultLaws.{no-fault, none-first, first-none, certificate-refuses, opened, opens}
+use Rattle.rules.specs.argument.FaultLaws.{none-first, first-none, certificate-refuses, opened, opens, pass-on, pass-ifLess, pass-unlessTrue}
 
 -- b appears among the first k bytes from a place on
 pub record Appears (C : List ℕ) (start k b : ℕ) : Type 0 where
@@ -50,16 +50,16 @@ module _ (C : List ℕ) (start : ℕ) where
               let l : b < seen + 1 = subst (λ (n : ℕ). b < n) (sym (same seen q refl)) h in later k b (before b (omega arith))
 
   -- without fault, every number below a block's has appeared before it
-  pub numbered-appear : (left k seen : ℕ) → ((b : ℕ) → b < seen → Appears C start k b) → noFault ≡ numberedFault C left (start + k) seen → (v : ℕ) → k ≤ v → v < k + left → (b : ℕ) → b < byteAt C (start + v) → Appears C start v b
+  pub numbered-appear : (left k seen : ℕ) → ((b : ℕ) → b < seen → Appears C start k b) → Passes (numberedFault C left (start + k) seen) → (v : ℕ) → k ≤ v → v < k + left → (b : ℕ) → b < byteAt C (start + v) → Appears C start v b
   unfolding numberedFault seenAfter
   numbered-appear zero k seen before e v low high b h = absurd (omega arith)
   numbered-appear (suc left) k seen before e v low high b h =
-      let p = pastLess (fault 17) _ seen (byteAt C (start + k)) (no-fault 16) e in
+      let p = pass-ifLess _ _ _ _ e (omega arith) in
       go (λ l. numbered-appear left (k + 1) (seenAfter (byteAt C (start + k)) seen) (all-seen k seen before) (next (p .1)) v l (omega arith) b h)
       (p .0) (ℕ-discrete v k)
     where
-      next : noFault ≡ numberedFault C left (start + k + 1) (ifSame (byteAt C (start + k)) seen (seen + 1) seen) → noFault ≡ numberedFault C left (start + (k + 1)) (seenAfter (byteAt C (start + k)) seen)
-      next q = let e : start + k + 1 ≡ start + (k + 1) = omega arith in q ∙ ap (λ (j : ℕ). numberedFault C left j (ifSame (byteAt C (start + k)) seen (seen + 1) seen)) e
+      next : Passes (numberedFault C left (start + k + 1) (ifSame (byteAt C (start + k)) seen (seen + 1) seen)) → Passes (numberedFault C left (start + (k + 1)) (seenAfter (byteAt C (start + k)) seen))
+      next q = let e : start + k + 1 ≡ start + (k + 1) = omega arith in pass-on (ap (λ (j : ℕ). numberedFault C left j (ifSame (byteAt C (start + k)) seen (seen + 1) seen)) e) q
 
       go : (k + 1 ≤ v → Appears C start v b) → byteAt C (start + k) ≤ seen → Dec (v ≡ k) → Appears C start v b
       go rest small (no q) = rest (omega arith)
@@ -82,10 +82,10 @@ module _ (C : List ℕ) (start : ℕ) where
       go (no q) (no e) = subst (λ (n : ℕ). byteAt C (start + u) < n) (notSame (seen + 1) q refl) (below u (omega arith))
 
   -- and the other way round
-  pub appear-numbered : (left k seen : ℕ) → ((u : ℕ) → u < k → byteAt C (start + u) < seen) → ((v : ℕ) → k ≤ v → v < k + left → (b : ℕ) → b < byteAt C (start + v) → Appears C start v b) → noFault ≡ numberedFault C left (start + k) seen
+  pub appear-numbered : (left k seen : ℕ) → ((u : ℕ) → u < k → byteAt C (start + u) < seen) → ((v : ℕ) → k ≤ v → v < k + left → (b : ℕ) → b < byteAt C (start + v) → Appears C start v b) → Passes (numberedFault C left (start + k) seen)
   unfolding numberedFault seenAfter
   appear-numbered zero k seen below h = refl
-  appear-numbered (suc left) k seen below h = notLess _ small (next (appear-numbered left (k + 1) (seenAfter (byteAt C (start + k)) seen) (seen-more k seen below small) (λ v l g. h v (omega arith) (omega arith))))
+  appear-numbered (suc left) k seen below h = pass-on (notLess _ small refl) (next (appear-numbered left (k + 1) (seenAfter (byteAt C (start + k)) seen) (seen-more k seen below small) (λ v l g. h v (omega arith) (omega arith))))
     where
       small : byteAt C (start + k) ≤ seen
       small = go (decLt seen (byteAt C (start + k)))
@@ -94,8 +94,8 @@ module _ (C : List ℕ) (start : ℕ) where
           go (no q) = omega arith
           go (yes q) = let a = h k (omega arith) (omega arith) seen q in absurd (omega (arith, below (a .u) (a .before), a .here))
 
-      next : noFault ≡ numberedFault C left (start + (k + 1)) (seenAfter (byteAt C (start + k)) seen) → noFault ≡ numberedFault C left (start + k + 1) (ifSame (byteAt C (start + k)) seen (seen + 1) seen)
-      next q = let e : start + (k + 1) ≡ start + k + 1 = omega arith in q ∙ ap (λ (j : ℕ). numberedFault C left j (ifSame (byteAt C (start + k)) seen (seen + 1) seen)) e
+      next : Passes (numberedFault C left (start + (k + 1)) (seenAfter (byteAt C (start + k)) seen)) → Passes (numberedFault C left (start + k + 1) (ifSame (byteAt C (start + k)) seen (seen + 1) seen))
+      next q = let e : start + (k + 1) ≡ start + k + 1 = omega arith in pass-on (ap (λ (j : ℕ). numberedFault C left j (ifSame (byteAt C (start + k)) seen (seen + 1) seen)) e) q
 
 -- 'exactly when' as a test
 pub agree-iff : (a b : ℕ) (r : Bool) → agree (eqb a b) r ≡ true → (a ≡ b) ↔ (r ≡ true)
@@ -128,26 +128,26 @@ module _ (A : Automaton) (C : List ℕ) (R : Pairs) (at : ℕ) where
   record Passed : Type 0 where
     pub mark : twoAt C at ≡ 0x424B
     pub whole : at + 2 + A .states ≤ length C
-    pub numbered : noFault ≡ numberedFault C (A .states) (at + 2) 0
+    pub numbered : Passes (numberedFault C (A .states) (at + 2) 0)
     pub pairs : allBelow (A .states) (λ v. allBelow (A .states) (λ u. agree (sameBlock (blocksAt A C at) v u) (R v u))) ≡ true
 
-  passed : noFault ≡ blocksFault A C R at → Passed
+  passed : Passes (blocksFault A C R at) → Passed
   unfolding blocksFault pairsFault
   passed e =
       let a = none-first _ _ e in
       let b = opened certificateRecord 0x424B (2 + A .states) C at certificate-refuses (a .0) in
       let d = none-first _ _ (a .1) in
-      let f = keptTrue _ (fault 18) _ (no-fault 17) (d .1) in
+      let f = pass-unlessTrue _ _ _ (d .1) (omega arith) in
       record { mark = b .marked; whole = omega (arith, b .whole); numbered = d .0; pairs = f .0 }
 
-  pub blocks-good : noFault ≡ blocksFault A C R at → GoodBlocks A R (blocksAt A C at)
+  pub blocks-good : Passes (blocksFault A C R at) → GoodBlocks A R (blocksAt A C at)
   unfolding sameBlock
   blocks-good e =
       let p = passed e in
       record {
         whole = block-length (p .whole);
         firstAppearance = λ v h b l.
-            let a = numbered-appear C (at + 2) (A .states) 0 0 (λ c m. absurd (omega arith)) (subst (λ (k : ℕ). noFault ≡ numberedFault C (A .states) k 0) (plus-zero (at + 2)) (p .numbered)) v (omega arith) (omega arith) b (subst (λ (k : ℕ). b < k) (block-byte v h) l) in
+            let a = numbered-appear C (at + 2) (A .states) 0 0 (λ c m. absurd (omega arith)) (subst (λ (k : ℕ). Passes (numberedFault C (A .states) k 0)) (plus-zero (at + 2)) (p .numbered)) v (omega arith) (omega arith) b (subst (λ (k : ℕ). b < k) (block-byte v h) l) in
             (a .u, a .before, block-byte (a .u) (omega (arith, a .before)) ∙ a .here);
         asRelated = λ v u h l. agree-iff _ _ (R v u) (all-below (A .states) _ (all-below (A .states) _ (p .pairs) v h) u l);
       }
@@ -155,7 +155,7 @@ module _ (A : Automaton) (C : List ℕ) (R : Pairs) (at : ℕ) where
       plus-zero : (k : ℕ) → k ≡ k + 0
       plus-zero k = omega arith
 
-  pub blocks-stand : noFault ≡ blocksFault A C R at → IsBytes C → Stands C at (blocksBytes (blocksAt A C at))
+  pub blocks-stand : Passes (blocksFault A C R at) → IsBytes C → Stands C at (blocksBytes (blocksAt A C at))
   unfolding blocksBytes twoBytes
   blocks-stand e b =
       let p = passed e in
@@ -188,16 +188,18 @@ module _ (A : Automaton) (C : List ℕ) (R : Pairs) (at : ℕ) where
     byte-read : (v : ℕ) → v < A .states → byteAt C (at + 2 + v) ≡ getD blocks v 0
     byte-read v h = blocks-there .bytes v (omega (arith, good .whole))
 
-    pub blocks-pass : noFault ≡ blocksFault A C R at
+    pub blocks-pass : Passes (blocksFault A C R at)
     unfolding blocksFault pairsFault sameBlock
     blocks-pass =
-        first-none _ _ (opens certificateRecord 0x424B (2 + A .states) C at (omega arith) mark-read (omega (arith, blocks-whole)))
+        pass-on
+        (first-none _ _ (opens certificateRecord 0x424B (2 + A .states) C at (omega arith) mark-read (omega (arith, blocks-whole)))
         (first-none _ _
-        (subst (λ (k : ℕ). noFault ≡ numberedFault C (A .states) k 0) (zero-more (at + 2))
+        (subst (λ (k : ℕ). Passes (numberedFault C (A .states) k 0)) (zero-more (at + 2))
         (appear-numbered C (at + 2) (A .states) 0 0 (λ u h. absurd (omega arith)) appear))
         (isTrue _
         (below-all (A .states) _ (λ v h. below-all (A .states) _ (λ u l. iff-agree _ _ (R v u) (shared v u h l))))
-        refl))
+        refl)))
+        refl
       where
         zero-more : (k : ℕ) → k + 0 ≡ k
         zero-more k = omega arith

@@ -12,13 +12,13 @@ use Rattle.rules.specs.definitions.Limits.{Limits}
 use Rattle.rules.specs.definitions.Bytes.{twoAt, twoBytes}
 use Rattle.rules.specs.argument.Standing.{Stands, IsBytes, stands-nothing, stands-all, stands-is, stands-both, stands-first, stands-second, stands-at, mark-stands, after-two, rest-of-two, two-is, length-two}
 use Rattle.rules.specs.definitions.Certificate.{FileRule, refutationCount, certificateHeadFault, afterRefutation, pairsAfter, blocksAt, afterFlow}
-use Rattle.rules.specs.definitions.Faults.{Fault, fault, noFault, certificateRecord}
+use Rattle.rules.specs.definitions.Faults.{Fault, fault, Passes, certificateRecord}
 use Rattle.rules.specs.definitions.Judging.{Judgement, accepted, rejected, rejectAt, Question, questions, judgeFlows, judgeBlocks, judgeRefutations, judgeCertificate}
 use Rattle.rules.specs.definitions.Encoding.{Refutation, FlowRecord, Certificate, listBytes, refutationBytes, blocksBytes, flowBytes, certificateBytes}
 use Rattle.rules.specs.definitions.Accepted.{RuleSays, Kept, GoodRefutations, done, refute, GoodBlocks, GoodFlows, KeepsRules}
 use Rattle.rules.specs.argument.QuestionsLaws.{questions-asked, questions-only}
 use Rattle.rules.specs.argument.RefutationRecords.{refutationAt, refutation-good, refutation-stands, refutation-after, challenger-read, defender-read, after-read, refutation-passes}
-use Rattle.rules.specs.argument.FaultLaws.{no-fault, none-first, first-none, certificate-refuses, opened, opens}
+use Rattle.rules.specs.argument.FaultLaws.{none-first, first-none, certificate-refuses, opened, opens, pass-on, pass-ifLess}
 use Rattle.rules.specs.argument.BlocksRecord.{blocks-good, blocks-stand, blocks-read, blocks-pass}
 use Rattle.rules.specs.argument.FlowRecords.{flowRecordAt, flow-good, flow-stands, flow-after, flow-end, flow-passes}
 
@@ -26,15 +26,15 @@ use Rattle.rules.specs.argument.FlowRecords.{flowRecordAt, flow-good, fl
 not-rejected : (blocks : List ℕ) (f : Fault) (file place : ℕ) → accepted blocks ≡ rejected f file place → ⊥
 not-rejected blocks f file place e = let z : _≡_ {A = ℕ} 0 1 = cc in omega arith
 
-no-reject : (blocks : List ℕ) (f : Fault) (place : ℕ) (next : Judgement) → accepted blocks ≡ rejectAt f place next → (noFault ≡ f) × (accepted blocks ≡ next)
+no-reject : (blocks : List ℕ) (f : Fault) (place : ℕ) (next : Judgement) → accepted blocks ≡ rejectAt f place next → Passes f × (accepted blocks ≡ next)
 unfolding rejectAt
 no-reject blocks f place next e =
     let k = keptSame next (rejected f 2 place) (f .number) 0 (not-rejected blocks f 2 place) e in
-    (ap fault (sym (k .0)), k .1)
+    (k .0, k .1)
 
-go-on : (blocks : List ℕ) (f : Fault) (place : ℕ) (next : Judgement) → noFault ≡ f → accepted blocks ≡ next → accepted blocks ≡ rejectAt f place next
+go-on : (blocks : List ℕ) (f : Fault) (place : ℕ) (next : Judgement) → Passes f → accepted blocks ≡ next → accepted blocks ≡ rejectAt f place next
 unfolding rejectAt
-go-on blocks f place next e h = same (rejected f 2 place) (sym (ap (λ (g : Fault). g .number) e)) h
+go-on blocks f place next e h = same (rejected f 2 place) e h
 
 module _ (L : Limits) (file : FileRule) (says : RuleSays) (decides : Decides file says) (A : Automaton) (narrow : Narrow A) (C : List ℕ) where
   -- the flows that stand from a place to the file's end
@@ -179,12 +179,12 @@ module _ (L : Limits) (file : FileRule) (says : RuleSays) (decides : Decides fil
     pub whole : 4 ≤ length C
     pub few : refutationCount C ≤ L .refutations
 
-  head-passed : noFault ≡ certificateHeadFault L file C → HeadPassed
+  head-passed : Passes (certificateHeadFault L file C) → HeadPassed
   unfolding certificateHeadFault
   head-passed e =
       let a = none-first _ _ e in
       let b = opened certificateRecord (file .mark) 4 C 0 certificate-refuses (a .0) in
-      let d = pastLess (fault 13) _ (L .refutations) (refutationCount C) (no-fault 12) (a .1) in
+      let d = pass-ifLess _ _ _ _ (a .1) (omega arith) in
       record { mark = b .marked; whole = b .whole; few = d .0 }
 
   -- accepted, so kept
@@ -238,7 +238,7 @@ module _ (L : Limits) (file : FileRule) (says : RuleSays) (decides : Decides fil
       let mark : twoAt C 0 ≡ file .mark = two-is C 0 (file .mark) small (stands-first C 0 (twoBytes (file .mark)) _ whole) in
       let count : twoAt C 2 ≡ length (K .refutations) = two-is C 2 (length (K .refutations)) (omega (arith, keeps .few)) (stands-first C 2 (twoBytes (length (K .refutations))) _ second) in
       go-on (K .blocks) _ 0 _
-      (first-none _ _ (opens certificateRecord (file .mark) 4 C 0 (omega arith) mark (omega (arith, body .inside))) (notLess _ (omega (arith, keeps .few)) refl))
+      (pass-on (first-none _ _ (opens certificateRecord (file .mark) 4 C 0 (omega arith) mark (omega (arith, body .inside))) (notLess _ (omega (arith, keeps .few)) refl)) refl)
       (subst (λ (n : ℕ). accepted (K .blocks) ≡ judgeRefutations L file A C n (equalLabels A) 4) (sym count)
       (refutations-accepted (K .blocks) (equalLabels A) (keeps .left) (K .refutations) 4 (keeps .refutations)
       (stands-first C 4 (listBytes refutationBytes (K .refutations)) _ body)

@@ -16,7 +16,8 @@ use Rattle.rules.specs.definitions.Demand3.{HoldsModel, LargestBlocks}
 use Rattle.rules.specs.definitions.Demands.{AcceptedBy, KeepsRulesOn, LargestOf, outcomeBy, Accepting, Demands}
 use Rattle.rules.specs.argument.AnyRule.{AnyCertificateNumber}
 use Rattle.rules.specs.definitions.Quotient.{mergedFile}
-use Rattle.rules.specs.argument.AnswerLaws.{file-number, file-unwritten}
+use Rattle.rules.specs.argument.FaultLaws.{told-fault}
+use Rattle.rules.specs.argument.AnswerLaws.{file-number, file-told, file-unwritten}
 use Rattle.rules.specs.argument.AcceptedExactly.{AcceptedAs, accepted-exactly}
 use Rattle.rules.specs.argument.Demand3Holds.{itself, holds, one-model, holds-read, demand3, largest-of}
 use Rattle.rules.specs.argument.PairOutcome.{FollowsLaws, Followed, outcome-number, outcome-unwritten, outcome-found, outcome-followed}
@@ -90,6 +91,7 @@ unfolding filled answerWithoutPlace Accepting
 blocks-follow =
     record {
       numbered = λ N blocks buffer. inl refl;
+      told = λ N blocks buffer. told-fault 0 (omega arith);
       unwritten = λ N blocks buffer n. absurd (n refl);
       late = λ k h n z. n z;
       notTen = omega arith;
@@ -100,6 +102,7 @@ unfolding Accepting RefusalOf AnyCertificateNumber PlainNumber ModelNumber
 merged-follow =
     record {
       numbered = λ N blocks buffer. file-number 23 (mergedFile N blocks) buffer (λ (k : ℕ). (k ≡ 0) ⊎ (k ≡ 23)) (inl refl) (inr refl);
+      told = λ N blocks buffer. file-told 23 (mergedFile N blocks) buffer (omega arith);
       unwritten = λ N blocks buffer. file-unwritten 23 (mergedFile N blocks) buffer;
       late = λ k h n z.
           ⊎-elim (λ x. omega (arith, x, z))

@@ -6,7 +6,7 @@ use mathlib.Core.List.{List, [], _∷_}
 use lib.ListN.{length, length-append}
 use native.Mathlib.Omega.{arith}
 use Rattle.rules.specs.argument.Standing.{Stands, stands-nothing, stands-both, stands-first, stands-second, stands-at}
-use Rattle.rules.specs.definitions.Faults.{Fault, noFault}
+use Rattle.rules.specs.definitions.Faults.{Fault, Passes}
 use Rattle.rules.specs.definitions.Encoding.{listBytes}
 use Rattle.rules.specs.definitions.Accepted.{Ascends, end, next}
 use Rattle.rules.specs.definitions.SoundModel.{Each}
@@ -46,7 +46,7 @@ module _ (E : Type 0) (size : ℕ) (bytesOf : E → List ℕ) (sized : (e : E) �
 
       -- a judgement of the entries left, one after the other: each is good, and their numbers ascend
       module _ (number : E → ℕ) (judged : (left at lowest : ℕ) → Fault) where
-        pub entries-good : ((left at lowest : ℕ) → noFault ≡ judged (suc left) at lowest → (lowest ≤ number (readAt at)) × Good (readAt at) × (noFault ≡ judged left (at + size) (number (readAt at) + 1))) → (left at lowest : ℕ) → noFault ≡ judged left at lowest → Each Good (entriesFrom size readAt left at) × Ascends number lowest (entriesFrom size readAt left at)
+        pub entries-good : ((left at lowest : ℕ) → Passes (judged (suc left) at lowest) → (lowest ≤ number (readAt at)) × Good (readAt at) × Passes (judged left (at + size) (number (readAt at) + 1))) → (left at lowest : ℕ) → Passes (judged left at lowest) → Each Good (entriesFrom size readAt left at) × Ascends number lowest (entriesFrom size readAt left at)
         unfolding entriesFrom Each
         entries-good turn zero at lowest e = (tt, end)
         entries-good turn (suc left) at lowest e =
@@ -54,7 +54,7 @@ module _ (E : Type 0) (size : ℕ) (bytesOf : E → List ℕ) (sized : (e : E) �
             let r = entries-good turn left (at + size) (number (readAt at) + 1) (t .2) in
             ((t .1, r .0), next (t .0) (r .1))
 
-        pub entries-pass : ((at lowest : ℕ) → noFault ≡ judged 0 at lowest) → ((left at lowest : ℕ) (e : E) → readAt at ≡ e → lowest ≤ number e → Good e → noFault ≡ judged left (at + size) (number e + 1) → noFault ≡ judged (suc left) at lowest) → (es : List E) (at lowest : ℕ) → Each Good es → Ascends number lowest es → Stands C at (listBytes bytesOf es) → noFault ≡ judged (length es) at lowest
+        pub entries-pass : ((at lowest : ℕ) → Passes (judged 0 at lowest)) → ((left at lowest : ℕ) (e : E) → readAt at ≡ e → lowest ≤ number e → Good e → Passes (judged left (at + size) (number e + 1)) → Passes (judged (suc left) at lowest)) → (es : List E) (at lowest : ℕ) → Each Good es → Ascends number lowest es → Stands C at (listBytes bytesOf es) → Passes (judged (length es) at lowest)
         unfolding listBytes Each
         entries-pass last turn [] at lowest g a h = last at lowest
         entries-pass last turn (x ∷ xs) at lowest g (next l a) h =

@@ -1,41 +1,79 @@
 -- Laws of faults: the first of two, and a record that is opened.
-use Prim.Native.Nat.{ℕ, suc, _+_, _≤_, _<_}
+use Prim.Native.Nat.{ℕ, _+_, _≤_, _<_}
 use mathlib.Core.Path.{_≡_, refl, sym, _∙_, ap}
+use mathlib.Core.Logic.{_⊎_, ⊎-elim}
 use mathlib.Core.Bool.{Bool, true, false, cond}
 use mathlib.Core.List.{List}
 use lib.Dec.{eqb}
 use lib.ListN.{length}
+use lib.IntN.{pos}
+use lib.Signed.{_≤ℤ_}
 use borrow.Author.Tests.{eqb-true, eqb-false}
 use native.Mathlib.Omega.{arith}
-use Rattle.bisimulation.specs.definitions.Choice.{ifSame}
-use Rattle.bisimulation.specs.argument.ChoiceLaws.{less, notLess, same, notSame, pastLess, keptSame, eitherLess, eitherSame}
+use Rattle.bisimulation.specs.definitions.Choice.{ifLess, ifSame, unlessLess, unlessSame, unlessTrue}
+use Rattle.bisimulation.specs.argument.ChoiceLaws.{less, notLess, same, notSame, pastLess, keptLess, pastSame, keptSame, keptTrue, eitherLess, eitherSame}
 use Rattle.rules.specs.definitions.Bytes.{twoAt}
-use Rattle.rules.specs.definitions.Faults.{Fault, fault, noFault, firstOf, AnyRecord, modelRecord, certificateRecord, openFault}
+use Rattle.rules.specs.definitions.Faults.{Fault, fault, noFault, Passes, firstOf, AnyRecord, modelRecord, certificateRecord, openFault}
 
--- a refusal is a fault
-pub no-fault : (k : ℕ) → noFault ≡ fault (suc k) → ⊥
-no-fault k e = let q = ap (λ (f : Fault). f .number) e in omega arith
+-- a number other than the three that have a state
+pub record Otherwise (number : ℕ) : Type 0 where
+  pub not16 : number ≡ 16 → ⊥
+  pub not20 : number ≡ 20 → ⊥
+  pub not21 : number ≡ 21 → ⊥
 
--- no first fault: neither of the two is one
-pub none-first : (f next : Fault) → noFault ≡ firstOf f next → (noFault ≡ f) × (noFault ≡ next)
+-- document 02, K2: what the state and the remainder of a fault tell
+pub record Told (f : Fault) : Type 0 where
+  -- 16: the left side is not below the right
+  pub last : f .number ≡ 16 → pos 0 ≤ℤ f .remainder
+  -- 20 and 21: the sides differ
+  pub broken : (f .number ≡ 20) ⊎ (f .number ≡ 21) → f .remainder ≡ pos 0 → ⊥
+  -- 'Otherwise both are 0'
+  pub otherwise : Otherwise (f .number) → (f .state ≡ 0) × (f .remainder ≡ pos 0)
+
+pub told-fault : (k : ℕ) → Otherwise k → Told (fault k)
+told-fault k o =
+    record { last = λ e. absurd (o .not16 e); broken = λ e. absurd (⊎-elim (o .not20) (o .not21) e); otherwise = λ o. (refl, refl) }
+
+-- what a fault that passes is, passes
+pub pass-on : {f z : Fault} → z ≡ f → Passes z → Passes f
+pass-on e p = ap (λ (g : Fault). g .number) (sym e) ∙ p
+
+-- a choice that passes went past the refusal r
+pub pass-ifLess : (r y : Fault) (a b : ℕ) → Passes (ifLess a b r y) → (Passes r → ⊥) → (b ≤ a) × Passes y
+pass-ifLess r y a b p n = let k = pastLess r y a b (λ e. n (pass-on e p)) refl in (k .0, pass-on (k .1) p)
+
+pub pass-unlessLess : (r x : Fault) (a b : ℕ) → Passes (unlessLess a b r x) → (Passes r → ⊥) → (a < b) × Passes x
+pass-unlessLess r x a b p n = let k = keptLess x r a b (λ e. n (pass-on e p)) refl in (k .0, pass-on (k .1) p)
+
+pub pass-ifSame : (r y : Fault) (a b : ℕ) → Passes (ifSame a b r y) → (Passes r → ⊥) → (a ≡ b → ⊥) × Passes y
+pass-ifSame r y a b p n = let k = pastSame r y a b (λ e. n (pass-on e p)) refl in (k .0, pass-on (k .1) p)
+
+pub pass-unlessSame : (r x : Fault) (a b : ℕ) → Passes (unlessSame a b r x) → (Passes r → ⊥) → (a ≡ b) × Passes x
+pass-unlessSame r x a b p n = let k = keptSame x r a b (λ e. n (pass-on e p)) refl in (k .0, pass-on (k .1) p)
+
+pub pass-unlessTrue : (r x : Fault) (b : Bool) → Passes (unlessTrue b r x) → (Passes r → ⊥) → (b ≡ true) × Passes x
+pass-unlessTrue r x b p n = let k = keptTrue x r b (λ e. n (pass-on e p)) refl in (k .0, pass-on (k .1) p)
+
+-- the first of two passes: both do
+pub none-first : (f next : Fault) → Passes (firstOf f next) → Passes f × Passes next
 unfolding firstOf ifSame
 none-first f next = go (eqb (f .number) 0) refl
   where
-    go : (t : Bool) → eqb (f .number) 0 ≡ t → noFault ≡ cond t next f → (noFault ≡ f) × (noFault ≡ next)
-    go true q e = (ap fault (sym (eqb-true (f .number) 0 q)), e)
-    go false q e = absurd (eqb-false (f .number) 0 q (sym (ap (λ (g : Fault). g .number) e)))
+    go : (t : Bool) → eqb (f .number) 0 ≡ t → Passes (cond t next f) → Passes f × Passes next
+    go true q p = (eqb-true (f .number) 0 q, p)
+    go false q p = absurd (eqb-false (f .number) 0 q p)
 
 -- z is the first fault x where that is one, else the next
 pub first-stops : {x : Fault} (f next : Fault) → x ≡ f → (x .number ≡ 0 → ⊥) → x ≡ firstOf f next
 unfolding firstOf
 first-stops {x} f next e n = notSame next (λ z. n (ap (λ (g : Fault). g .number) e ∙ z)) e
 
-pub first-passes : {x z : Fault} (f next : Fault) → x ≡ f → x .number ≡ 0 → z ≡ next → z ≡ firstOf f next
+pub first-none : {z : Fault} (f next : Fault) → Passes f → z ≡ next → z ≡ firstOf f next
 unfolding firstOf
-first-passes f next e n h = same f (ap (λ (g : Fault). g .number) (sym e) ∙ n) h
+first-none f next p h = same f p h
 
-pub first-none : {z : Fault} (f next : Fault) → noFault ≡ f → z ≡ next → z ≡ firstOf f next
-first-none f next e h = first-passes f next e refl h
+pub first-passes : {x z : Fault} (f next : Fault) → x ≡ f → x .number ≡ 0 → z ≡ next → z ≡ firstOf f next
+first-passes f next e n h = first-none f next (pass-on e n) h
 
 -- a property of both is one of the first
 pub either-first {κ} : (P : Fault → Type κ) (f next : Fault) → P f → P next → P (firstOf f next)
@@ -53,27 +91,24 @@ model-refuses = record { ends = omega arith; mark = omega arith }
 pub certificate-refuses : Refuses certificateRecord
 certificate-refuses = record { ends = omega arith; mark = omega arith }
 
-some-fault : (k : ℕ) → 0 < k → noFault ≡ fault k → ⊥
-some-fault k h e = let q = ap (λ (f : Fault). f .number) e in omega arith
-
 module _ (any : AnyRecord) (mark size : ℕ) (s : List ℕ) (at : ℕ) where
   -- what a record that is opened without fault tells
   pub record Opened : Type 0 where
     pub marked : twoAt s at ≡ mark
     pub whole : at + size ≤ length s
 
-  pub opened : Refuses any → noFault ≡ openFault any mark size s at → Opened
+  pub opened : Refuses any → Passes (openFault any mark size s at) → Opened
   unfolding openFault
-  opened refuses e =
-      let a = pastLess (fault (any .ends)) _ (length s) (at + 2) (some-fault _ (refuses .ends)) e in
-      let b = keptSame _ (fault (any .mark)) (twoAt s at) mark (some-fault _ (refuses .mark)) (a .1) in
-      let c = pastLess (fault (any .ends)) _ (length s) (at + size) (some-fault _ (refuses .ends)) (b .1) in
+  opened refuses p =
+      let a = pass-ifLess _ _ _ _ p (omega (arith, refuses .ends)) in
+      let b = pass-unlessSame _ _ _ _ (a .1) (omega (arith, refuses .mark)) in
+      let c = pass-ifLess _ _ _ _ (b .1) (omega (arith, refuses .ends)) in
       record { marked = b .0; whole = c .0 }
 
   -- and the other way round, for a fixed part that begins with the mark
-  pub opens : 2 ≤ size → twoAt s at ≡ mark → at + size ≤ length s → noFault ≡ openFault any mark size s at
+  pub opens : 2 ≤ size → twoAt s at ≡ mark → at + size ≤ length s → Passes (openFault any mark size s at)
   unfolding openFault
-  opens h e whole = notLess _ (omega arith) (same _ e (notLess _ whole refl))
+  opens h e whole = pass-on (notLess _ (omega arith) (same _ e (notLess _ whole refl))) refl
 
   -- each way out: two bytes are not there, the mark is another, the fixed part is cut
   pub open-ends : {z : Fault} → length s < at + 2 → z ≡ fault (any .ends) → z ≡ openFault any mark size s at

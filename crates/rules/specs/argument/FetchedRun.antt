@@ -196,7 +196,7 @@ run-part s start end = go (decLt start end)
     go (yes l) = ap (stretchIn s) (sym (less (answerWithoutPlace 0 0) l refl))
     go (no l) =
         let z : 0 ≡ end - start = omega arith in
-        ap (stretchIn s) (sym (notLess (record { number = 0; file = 0; place = 0; stretchStart = start; stretchLength = end - start; written = 0 }) (omega arith) refl))
+        ap (stretchIn s) (sym (notLess _ (omega arith) refl))
         ∙ ap (λ (n : ℕ). take n (drop start s)) z
 
 -- a fetch hands back the bytes of the transitions that leave the state

@@ -7,20 +7,20 @@ use lib.Dec.{eqb}
 use lib.ListN.{length, length-append}
 use native.Mathlib.Omega.{arith}
 use Rattle.bisimulation.specs.definitions.Choice.{ifTrue, both}
-use Rattle.bisimulation.specs.argument.ChoiceLaws.{less, notLess, same, notSame, isTrue, pastLess, pastSame, keptSame}
+use Rattle.bisimulation.specs.argument.ChoiceLaws.{less, notLess, notSame, isTrue}
 use Rattle.bisimulation.specs.definitions.Automaton.{Automaton}
 use Rattle.bisimulation.specs.definitions.Pairs.{Pairs}
 use Rattle.rules.specs.argument.AnyRule.{Decides, Narrow}
 use Rattle.rules.specs.definitions.Bytes.{byteAt, twoAt, threeAt, fourAt, twoBytes}
 use Rattle.rules.specs.argument.Standing.{Stands, IsBytes, stands-both, stands-first, stands-second, stands-cons, stands-byte, stands-rest, stands-at, mark-stands, after-two, after-four, rest-of-two, rest-of-four, two-is, two-stands, two-small, length-two, length-four, four-is, four-stands, four-small}
 use Rattle.rules.specs.definitions.Certificate.{FileRule, kCountAt, afterK, wCountAt, afterFlow, kOf, wOf, flowAt, kFault, wFault, flowFault}
-use Rattle.rules.specs.definitions.Faults.{fault, noFault, certificateRecord}
+use Rattle.rules.specs.definitions.Faults.{Passes, certificateRecord}
 use Rattle.rules.specs.definitions.Judging.{Question}
 use Rattle.rules.specs.definitions.Encoding.{KEntry, WEntry, FlowRecord, fourBytes, listBytes, kBytes, wBytes, flowBytes, kIn, wIn, flowOf}
 use Rattle.rules.specs.definitions.Accepted.{RuleSays, GoodK, GoodW, GoodFlow, kKey, wKey}
 use Rattle.rules.specs.argument.EntryFaults.{passed-k, passed-w}
 use Rattle.rules.specs.argument.EntryLists.{entriesFrom, length-entriesFrom, length-listBytes, entries-stand, entries-read, entries-good, entries-pass}
-use Rattle.rules.specs.argument.FaultLaws.{no-fault, none-first, first-none, certificate-refuses, opened, opens}
+use Rattle.rules.specs.argument.FaultLaws.{none-first, first-none, certificate-refuses, opened, opens, pass-on, pass-ifLess, pass-ifSame}
 
 -- the entries and the record that stand at a place
 unfoldable pub kAt : List ℕ → ℕ → KEntry
@@ -109,7 +109,7 @@ module _ (file : FileRule) (says : RuleSays) (decides : Decides file says) (A : 
       }
 
   -- one entry judged
-  k-turn : IsBytes C → (left at lowest : ℕ) → noFault ≡ kFault file A C q t (suc left) at lowest → (lowest ≤ kKey (kAt C at)) × GoodK says A q t (kAt C at) × (noFault ≡ kFault file A C q t left (at + 7) (kKey (kAt C at) + 1))
+  k-turn : IsBytes C → (left at lowest : ℕ) → Passes (kFault file A C q t (suc left) at lowest) → (lowest ≤ kKey (kAt C at)) × GoodK says A q t (kAt C at) × Passes (kFault file A C q t left (at + 7) (kKey (kAt C at) + 1))
   unfolding kKey kAt threeAt
   k-turn b left at lowest e =
       let p = passed-k file A C q t left at lowest e in (
@@ -124,19 +124,21 @@ module _ (file : FileRule) (says : RuleSays) (decides : Decides file says) (A : 
         p .rest,
       )
 
-  k-pass : (left at lowest : ℕ) (e : KEntry) → kAt C at ≡ e → lowest ≤ kKey e → GoodK says A q t e → noFault ≡ kFault file A C q t left (at + 7) (kKey e + 1) → noFault ≡ kFault file A C q t (suc left) at lowest
+  k-pass : (left at lowest : ℕ) (e : KEntry) → kAt C at ≡ e → lowest ≤ kKey e → GoodK says A q t e → Passes (kFault file A C q t left (at + 7) (kKey e + 1)) → Passes (kFault file A C q t (suc left) at lowest)
   unfolding kFault kKey kAt threeAt
   k-pass left at lowest e r l g h =
       let layer = ap (λ (x : KEntry). x .layer) r in
       let transition = ap (λ (x : KEntry). x .transition) r in
       let k = ap (λ (x : KEntry). x .k) r in
-      notLess _ (omega arith)
+      pass-on
+      (notLess _ (omega arith)
       (less _ (omega (arith, g .transition))
       (isTrue _ (subst₂ (λ (x y : ℕ). file .inQuestion A q t x y ≡ true) (sym layer) (sym transition) (decides .inQuestion A q t (e .layer) (e .transition) .1 (g .allowed)))
       (less _ (omega (arith, g .some))
-      (h ∙ ap (λ (x : KEntry). kFault file A C q t left (at + 7) (kKey x + 1)) (sym r)))))
+      (ap (λ (x : KEntry). kFault file A C q t left (at + 7) (kKey x + 1)) (sym r))))))
+      h
 
-  w-turn : IsBytes C → (left at lowest : ℕ) → noFault ≡ wFault A C R (suc left) at lowest → (lowest ≤ wKey (wAt C at)) × GoodW A R (wAt C at) × (noFault ≡ wFault A C R left (at + 6) (wKey (wAt C at) + 1))
+  w-turn : IsBytes C → (left at lowest : ℕ) → Passes (wFault A C R (suc left) at lowest) → (lowest ≤ wKey (wAt C at)) × GoodW A R (wAt C at) × Passes (wFault A C R left (at + 6) (wKey (wAt C at) + 1))
   unfolding wKey wAt twoAt
   w-turn b left at lowest e =
       let p = passed-w A C R left at lowest e in (
@@ -145,18 +147,20 @@ module _ (file : FileRule) (says : RuleSays) (decides : Decides file says) (A : 
         p .rest,
       )
 
-  w-pass : (left at lowest : ℕ) (e : WEntry) → wAt C at ≡ e → lowest ≤ wKey e → GoodW A R e → noFault ≡ wFault A C R left (at + 6) (wKey e + 1) → noFault ≡ wFault A C R (suc left) at lowest
+  w-pass : (left at lowest : ℕ) (e : WEntry) → wAt C at ≡ e → lowest ≤ wKey e → GoodW A R e → Passes (wFault A C R left (at + 6) (wKey e + 1)) → Passes (wFault A C R (suc left) at lowest)
   unfolding wFault wKey wAt twoAt
   w-pass left at lowest e r l g h =
       let v = ap (λ (x : WEntry). x .v) r in
       let u = ap (λ (x : WEntry). x .u) r in
       let w = ap (λ (x : WEntry). x .w) r in
-      notLess _ (omega arith)
+      pass-on
+      (notLess _ (omega arith)
       (less _ (omega (arith, g .from))
       (less _ (omega (arith, g .to))
       (isTrue _ (ap₂ R v u ∙ g .related)
       (less _ (omega (arith, g .some))
-      (h ∙ ap (λ (x : WEntry). wFault A C R left (at + 6) (wKey x + 1)) (sym r))))))
+      (ap (λ (x : WEntry). wFault A C R left (at + 6) (wKey x + 1)) (sym r)))))))
+      h
 
 pub length-flow : (f : FlowRecord) → length (flowBytes f) ≡ 10 + 7 * length (f .ks) + 6 * length (f .ws)
 unfolding flowBytes
@@ -183,26 +187,26 @@ module _ (file : FileRule) (A : Automaton) (C : List ℕ) (R : Pairs) (q t at : 
   pub record Passed : Type 0 where
     pub mark : twoAt C at ≡ 0x464C
     pub some : 1 ≤ fourAt C (at + 2)
-    pub ks : noFault ≡ kFault file A C q t (kCountAt C at) (at + 8) 0
+    pub ks : Passes (kFault file A C q t (kCountAt C at) (at + 8) 0)
     pub whole : afterFlow C at ≤ length C
-    pub ws : noFault ≡ wFault A C R (wCountAt C at) (afterK C at + 2) 0
-    pub equations : noFault ≡ file .equationsFault A q t (flowAt C at)
+    pub ws : Passes (wFault A C R (wCountAt C at) (afterK C at + 2) 0)
+    pub equations : Passes (file .equationsFault A q t (flowAt C at))
 
-  pub passed : noFault ≡ flowFault file A C R q t at → Passed
+  pub passed : Passes (flowFault file A C R q t at) → Passed
   unfolding flowFault
   passed e =
       let a = none-first _ _ e in
       let b = opened certificateRecord 0x464C 8 C at certificate-refuses (a .0) in
-      let d = pastSame (fault 19) _ (fourAt C (at + 2)) _ (no-fault 18) (a .1) in
-      let f = pastLess (fault 11) _ (length C) (afterK C at) (no-fault 10) (d .1) in
+      let d = pass-ifSame _ _ _ _ (a .1) (omega arith) in
+      let f = pass-ifLess _ _ _ _ (d .1) (omega arith) in
       let g = none-first _ _ (f .1) in
-      let h = pastLess (fault 11) _ (length C) (afterK C at + 2) (no-fault 10) (g .1) in
-      let i = pastLess (fault 11) _ (length C) (afterFlow C at) (no-fault 10) (h .1) in
+      let h = pass-ifLess _ _ _ _ (g .1) (omega arith) in
+      let i = pass-ifLess _ _ _ _ (h .1) (omega arith) in
       let j = none-first _ _ (i .1) in
       record { mark = b .marked; some = omega (arith, d .0); ks = g .0; whole = i .0; ws = j .0; equations = j .1 }
 
 module _ (file : FileRule) (says : RuleSays) (decides : Decides file says) (A : Automaton) (narrow : Narrow A) (C : List ℕ) (R : Pairs) (x : Question) (at : ℕ) where
-  pub flow-good : noFault ≡ flowFault file A C R (x .challenger) (x .defender) at → IsBytes C → GoodFlow says A R x (flowRecordAt C at)
+  pub flow-good : Passes (flowFault file A C R (x .challenger) (x .defender) at) → IsBytes C → GoodFlow says A R x (flowRecordAt C at)
   unfolding flowRecordAt kCountAt wCountAt
   flow-good e b =
       let p = passed file A C R (x .challenger) (x .defender) at e in
@@ -217,7 +221,7 @@ module _ (file : FileRule) (says : RuleSays) (decides : Decides file says) (A : 
         wFew = subst (λ (n : ℕ). n < 65536) (sym (length-entriesFrom 6 (wAt C) (wCountAt C at) (afterK C at + 2))) (two-small C (afterK C at) b);
         ws = ws .0;
         wOrder = ws .1;
-        equations = decides .equations A (x .challenger) (x .defender) (flowOf (flowRecordAt C at)) .0 (p .equations ∙ ap (file .equationsFault A (x .challenger) (x .defender)) (flow-is C at));
+        equations = decides .equations A (x .challenger) (x .defender) (flowOf (flowRecordAt C at)) .0 (pass-on (ap (file .equationsFault A (x .challenger) (x .defender)) (flow-is C at)) (p .equations));
       }
 
   pub flow-after : afterFlow C at ≡ at + length (flowBytes (flowRecordAt C at))
@@ -230,7 +234,7 @@ module _ (file : FileRule) (says : RuleSays) (decides : Decides file says) (A : 
         length-entriesFrom 6 (wAt C) (wCountAt C at) (at + 8 + 7 * kCountAt C at + 2),
       )
 
-  pub flow-stands : noFault ≡ flowFault file A C R (x .challenger) (x .defender) at → IsBytes C → Stands C at (flowBytes (flowRecordAt C at))
+  pub flow-stands : Passes (flowFault file A C R (x .challenger) (x .defender) at) → IsBytes C → Stands C at (flowBytes (flowRecordAt C at))
   unfolding flowRecordAt flowBytes twoBytes afterK afterFlow
   flow-stands e b =
       let p = passed file A C R (x .challenger) (x .defender) at e in
@@ -322,28 +326,30 @@ module _ (file : FileRule) (says : RuleSays) (decides : Decides file says) (A : 
     pub flow-end : afterFlow C at ≡ at + length (flowBytes f)
     flow-end = flow-after ∙ ap (λ (g : FlowRecord). at + length (flowBytes g)) flow-read
 
-    pub flow-passes : noFault ≡ flowFault file A C R (x .challenger) (x .defender) at
+    pub flow-passes : Passes (flowFault file A C R (x .challenger) (x .defender) at)
     unfolding flowFault
     flow-passes =
         let i = stands .inside in
         let l = flow-end in
         let k = after-ks .inside in
-        first-none _ _ (opens certificateRecord 0x464C 8 C at (omega arith) mark-read (omega (arith, length-flow f)))
+        pass-on
+        (first-none _ _ (opens certificateRecord 0x464C 8 C at (omega arith) mark-read (omega (arith, length-flow f)))
         (notSame _ (omega (arith, D-read, good .some))
         (notLess _ (omega arith)
         (first-none _ _
-        (subst (λ (n : ℕ). noFault ≡ kFault file A C (x .challenger) (x .defender) n (at + 8) 0) (sym k-count)
+        (subst (λ (n : ℕ). Passes (kFault file A C (x .challenger) (x .defender) n (at + 8) 0)) (sym k-count)
         (entries-pass KEntry 7 kBytes length-k C (kAt C) (GoodK says A (x .challenger) (x .defender)) (k-reads file says decides A narrow C R (x .challenger) (x .defender)) kKey (kFault file A C (x .challenger) (x .defender)) (λ at lowest. no-ks at lowest) (k-pass file says decides A narrow C R (x .challenger) (x .defender)) (f .ks) (at + 8) 0 (good .ks) (good .kOrder) ks-there))
         (notLess _ (omega (arith, ws-there .inside))
         (notLess _ (omega arith)
         (first-none _ _
-        (subst (λ (n : ℕ). noFault ≡ wFault A C R n (afterK C at + 2) 0) (sym w-count)
+        (subst (λ (n : ℕ). Passes (wFault A C R n (afterK C at + 2) 0)) (sym w-count)
         (entries-pass WEntry 6 wBytes length-w C (wAt C) (GoodW A R) (w-reads file says decides A narrow C R (x .challenger) (x .defender)) wKey (wFault A C R) (λ at lowest. no-ws at lowest) (w-pass file says decides A narrow C R (x .challenger) (x .defender)) (f .ws) (afterK C at + 2) 0 (good .ws) (good .wOrder) ws-there))
+        refl)))))))
         (decides .equations A (x .challenger) (x .defender) (flowAt C at) .1
-        (subst (says .equations A (x .challenger) (x .defender)) (ap flowOf (sym flow-read) ∙ sym (flow-is C at)) (good .equations)))))))))
+        (subst (says .equations A (x .challenger) (x .defender)) (ap flowOf (sym flow-read) ∙ sym (flow-is C at)) (good .equations)))
       where
-        no-ks : (place lowest : ℕ) → noFault ≡ kFault file A C (x .challenger) (x .defender) 0 place lowest
+        no-ks : (place lowest : ℕ) → Passes (kFault file A C (x .challenger) (x .defender) 0 place lowest)
         no-ks place lowest = unfold kFault in refl
 
-        no-ws : (place lowest : ℕ) → noFault ≡ wFault A C R 0 place lowest
+        no-ws : (place lowest : ℕ) → Passes (wFault A C R 0 place lowest)
         no-ws place lowest = unfold wFault in refl

@@ -17,14 +17,10 @@ use Rattle.rules.specs.definitions.Bytes.{byteAt, twoAt, threeAt}
 use Rattle.rules.specs.definitions.Model.{automatonOf}
 use Rattle.rules.specs.definitions.Reading.{Reading, model, noModel}
 use Rattle.rules.specs.definitions.Faults.{Fault, fault, noFault, firstOf, certificateRecord, openFault}
-use Rattle.rules.specs.argument.FaultLaws.{either-first, either-open}
+use Rattle.rules.specs.argument.FaultLaws.{Told, told-fault, either-first, either-open}
 use Rattle.rules.specs.definitions.Certificate.{FileRule, certificateHeadFault, pairFault, refutationFault, numberedFault, pairsFault, blocksFault, kFault, wFault, flowFault}
 use Rattle.rules.specs.definitions.Judging.{Judgement, accepted, rejected, rejectAt, Question, judgeFlows, judgeBlocks, judgeRefutations, judgeCertificate, judgeReading, judge}
-use Rattle.rules.specs.argument.AnyRule.{AnswersOnly, PairRules, AnyCertificateNumber, RefusalOf}
-
--- no fault, or one of the numbers
-pub record NoneOr (numbers : ℕ → Type 0) (f : Fault) : Type 0 where
-  pub number : (f .number ≡ 0) ⊎ numbers (f .number)
+use Rattle.rules.specs.argument.AnyRule.{NoneOr, AnswersOnly, PairRules, AnyCertificateNumber, RefusalOf}
 
 module _ (numbers : ℕ → Type 0) where
   -- the refusals of a certificate record: those that every rule has, and the rule's own
@@ -32,13 +28,15 @@ module _ (numbers : ℕ → Type 0) where
   Listed f = NoneOr (λ k. AnyCertificateNumber k ⊎ numbers k) f
 
   listed : (k : ℕ) → AnyCertificateNumber k → Listed (fault k)
-  listed k h = record { number = inr (inl h) }
+  unfolding AnyCertificateNumber
+  listed k h =
+      record { number = inr (inl h); told = told-fault k (⊎-elim (λ x. omega arith) (⊎-elim (λ x. omega arith) (λ x. omega arith)) h) }
 
   none-listed : Listed noFault
-  none-listed = record { number = inl refl }
+  none-listed = record { number = inl refl; told = told-fault 0 (omega arith) }
 
-  own-listed : (f : Fault) → (f .number ≡ 0) ⊎ numbers (f .number) → Listed f
-  own-listed f h = record { number = ⊎-elim (λ z. inl z) (λ z. inr (inr z)) h }
+  own-listed : (f : Fault) → NoneOr numbers f → Listed f
+  own-listed f h = record { number = ⊎-elim (λ z. inl z) (λ z. inr (inr z)) (h .number); told = h .told }
 
   orLess : (a b : ℕ) {x y : Fault} → Listed x → Listed y → Listed (ifLess a b x y)
   orLess a b p q = eitherLess Listed a b p q
@@ -139,10 +137,11 @@ module _ (numbers : ℕ → Type 0) where
         (orLess _ _ short
         (orFirst _ _ (w-listed R _ _ 0) (own-listed _ (rule .equations A q t _))))))))
 
--- a refusal of judging: its number is not 0, and one that judging has
+-- a refusal of judging: its number is not 0, and one that judging has; and what it tells
 pub record RefusedWith (by : PairRules) (f : Fault) : Type 0 where
   pub some : f .number ≡ 0 → ⊥
   pub number : RefusalOf by (f .number)
+  pub told : Told f
 
 -- the number of a judgement: acceptance, or a refusal that judging has
 abbrev pub JudgementNumber : PairRules → Judgement → Type 0
@@ -152,7 +151,7 @@ JudgementNumber by (rejected f file place) = RefusedWith by f
 module _ (by : PairRules) where
   refused-with : (f : Fault) → (f .number ≡ 0 → ⊥) → Listed (by .rule .numbers) f → RefusedWith by f
   unfolding RefusalOf
-  refused-with f n l = record { some = n; number = ⊎-elim (λ z. absurd (n z)) (λ z. inr z) (l .number) }
+  refused-with f n l = record { some = n; number = ⊎-elim (λ z. absurd (n z)) (λ z. inr z) (l .number); told = l .told }
 
   numbered : (f : Fault) (place : ℕ) (next : Judgement) → Listed (by .rule .numbers) f → JudgementNumber by next → JudgementNumber by (rejectAt f place next)
   unfolding rejectAt ifSame
@@ -180,7 +179,7 @@ module _ (by : PairRules) where
   -- a model that is not read
   pub unread-number : (M : List ℕ) (f : Fault) (place : ℕ) → by .models .read M ≡ noModel f place → RefusedWith by f
   unfolding RefusalOf
-  unread-number M f place e = let h = by .models .answers M f place e in record { some = h .0; number = inl (h .1) }
+  unread-number M f place e = let h = by .models .answers M f place e in record { some = h .0; number = inl (h .1); told = h .3 }
 
   -- one of the numbers, on every pair of byte strings
   pub judge-number : (M C : List ℕ) → JudgementNumber by (judge (by .limits) (by .models .read) (by .rule .file) M C)

@@ -8,16 +8,18 @@ use lib.ListN.{length}
 use native.Mathlib.Omega.{arith}
 use native.Mathlib.Decide.{decLt}
 use Rattle.bisimulation.specs.definitions.Choice.{ifLess}
-use Rattle.bisimulation.specs.argument.ChoiceLaws.{less, notLess, eitherLess}
+use Rattle.bisimulation.specs.argument.ChoiceLaws.{less, notLess}
 use Rattle.rules.specs.definitions.Limits.{Limits}
 use Rattle.rules.specs.definitions.Model.{Model, automatonOf}
 use Rattle.rules.specs.definitions.Faults.{Fault}
+use Rattle.rules.specs.argument.FaultLaws.{Told, told-fault}
 use Rattle.rules.specs.definitions.Reading.{Reading, model, noModel}
 use Rattle.rules.specs.definitions.Certificate.{FileRule}
 use Rattle.rules.specs.definitions.Judging.{Judgement, accepted, rejected, Reader, judgeCertificate, judgeReading, judge}
 use Rattle.rules.specs.argument.AnyRule.{PairRules, RefusalOf, pairsOf}
 use Rattle.rules.specs.definitions.Answers.{Outcome, refusalIn, answerWithoutPlace, fileOf, judgementAnswer, unwritten, Follows, judgedOutcome, readOutcome, pairOutcome}
 use Rattle.rules.specs.definitions.Demands.{outcomeBy, Accepting}
+use Rattle.rules.specs.argument.AnswerLaws.{faultIn}
 use Rattle.rules.specs.argument.Numbers.{RefusedWith, JudgementNumber, certificate-numbered, unread-number}
 
 module _ (L : Limits) (read : Reader) (file : FileRule) (follows : Follows) (M C buffer : List ℕ) where
@@ -58,9 +60,10 @@ pub record AcceptedModel (L : Limits) (read : Reader) (file : FileRule) (M C : L
   pub blocks : List ℕ
   pub judged : judge L read file M C ≡ accepted blocks
 
--- what follows acceptance answers 0 and the late number alone, and writes on 0 alone; the late number is no other refusal of the call
+-- what follows acceptance answers 0 and the late number alone, tells as K2 says, and writes on 0 alone; the late number is no other refusal of the call
 pub record FollowsLaws (by : PairRules) (follows : Follows) : Type 0 where
   pub numbered : (N : Model) (blocks buffer : List ℕ) → Accepting follows (follows .outcome N blocks buffer .answer .number)
+  pub told : (N : Model) (blocks buffer : List ℕ) → Told (faultIn (follows .outcome N blocks buffer .answer))
   pub unwritten : (N : Model) (blocks buffer : List ℕ) → (follows .outcome N blocks buffer .answer .number ≡ 0 → ⊥) → follows .outcome N blocks buffer .buffer ≡ buffer
   pub late : (k : ℕ) → RefusalOf by k → (k ≡ 0 → ⊥) → k ≡ follows .late → ⊥
   pub notTen : follows .late ≡ 10 → ⊥
@@ -101,6 +104,15 @@ module _ (by : PairRules) (follows : Follows) (laws : FollowsLaws by follows) (M
       (λ f file place h. refusal (f .number) (h .number))
       (λ N h. ten N h)
       (λ N end blocks e room q. ⊎-elim (λ z. subst P (sym z) zero) (λ z. subst P (sym z) late) (laws .numbered N blocks buffer))
+
+  -- what its state and remainder tell
+  pub outcome-told : Told (faultIn (outcomeBy (pairsOf by) follows M C buffer .answer))
+  unfolding unwritten refusalIn answerWithoutPlace
+  outcome-told =
+      outcome-cases (λ o. Told (faultIn (o .answer)))
+      (λ f file place h. h .told)
+      (λ N h. told-fault 10 (omega arith))
+      (λ N end blocks e room q. laws .told N blocks buffer)
 
   -- a refusal leaves the buffer as it was
   pub outcome-unwritten : (numberOf (outcomeBy (pairsOf by) follows M C buffer) ≡ 0 → ⊥) → outcomeBy (pairsOf by) follows M C buffer .buffer ≡ buffer

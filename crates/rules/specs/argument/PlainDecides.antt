@@ -10,7 +10,7 @@ use borrow.Author.Tests.{eqb-true, eq-eqb}
 use native.Mathlib.Omega.{arith}
 use native.Mathlib.Decide.{ℕ-discrete}
 use Rattle.bisimulation.specs.definitions.Choice.{ifSame, ifTrue}
-use Rattle.bisimulation.specs.argument.ChoiceLaws.{same, notSame, isTrue, keptTrue, all-below, below-all, false-not}
+use Rattle.bisimulation.specs.argument.ChoiceLaws.{same, notSame, isTrue, all-below, below-all, false-not}
 use Rattle.bisimulation.specs.definitions.Automaton.{Automaton, SoundAutomaton}
 use Rattle.bisimulation.specs.argument.SumLaws.{sumℤCong}
 use Rattle.bisimulation.specs.definitions.StepRule.{Flow, Sides, Holds, beforeMove, afterMove, internalMove, atTarget}
@@ -18,9 +18,10 @@ use Rattle.bisimulation.specs.definitions.Pairs.{Pairs}
 use Rattle.bisimulation.specs.definitions.Prices.{priceAt, priceOfTargets}
 use Rattle.bisimulation.specs.definitions.Refutation.{PriceCondition, RelatedCondition, LastCondition, RefutesInternal, RefutesExternal, PlainRefutes}
 use Rattle.rules.specs.argument.AnyRule.{Decides}
-use Rattle.rules.specs.definitions.Faults.{fault, noFault}
-use Rattle.rules.specs.definitions.PlainRule.{byKind, plainPriceCount, priceCondition, allWithAction, allRelated, below, internalPricesFault, externalPricesFault, plainPricesFault, plainInQuestion, allHold, internalEquationsFault, externalEquationsFault, plainEquationsFault, plainRule}
-use Rattle.rules.specs.argument.FaultLaws.{no-fault}
+use Rattle.rules.specs.definitions.Faults.{noFault, Passes}
+use Rattle.rules.specs.definitions.PlainRule.{byKind, plainPriceCount, priceCondition, allWithAction, allRelated, below, lastFault, internalPricesFault, externalPricesFault, plainPricesFault, plainInQuestion, firstBreak, internalEquationsFault, externalEquationsFault, plainEquationsFault, plainRule}
+use Rattle.rules.specs.argument.FaultLaws.{pass-on, pass-unlessTrue, none-first, first-none}
+use Rattle.rules.specs.argument.BreakLaws.{break-none, break-passed}
 use Rattle.rules.specs.definitions.PlainSays.{InPlainQuestion, InternalEquations, ExternalEquations, PlainEquations, plainSays}
 
 -- a test and what it says
@@ -85,27 +86,27 @@ module _ (A : Automaton) where
   holds-last X G q t h = T-holds _ (h .holds .lt)
 
   -- prices without fault refute
-  internal-refutes : (R : Pairs) (q t : ℕ) (X G : ℕ → ℤ) → (noFault ≡ internalPricesFault A R q t X G) ↔ RefutesInternal A R q t X G
-  unfolding internalPricesFault
+  internal-refutes : (R : Pairs) (q t : ℕ) (X G : ℕ → ℤ) → Passes (internalPricesFault A R q t X G) ↔ RefutesInternal A R q t X G
+  unfolding internalPricesFault lastFault
   internal-refutes R q t X G = (
     λ e.
-        let a = keptTrue _ (fault 15) (allWithAction A 0 (priceCondition A X X)) (no-fault 14) e in
-        let b = keptTrue _ (fault 15) (allRelated A R X G) (no-fault 14) (a .1) in
-        let c = keptTrue _ (fault 16) (below A X G q t) (no-fault 15) (b .1) in
+        let a = pass-unlessTrue _ _ _ e (omega arith) in
+        let b = pass-unlessTrue _ _ _ (a .1) (omega arith) in
+        let c = pass-unlessTrue _ _ _ (b .1) (omega arith) in
         record { internal = all-conditions 0 X X (a .0); related = all-related R X G (b .0); last = last-holds X G q t (c .0) },
     λ h.
-        isTrue _ (conditions-all 0 X X (h .internal)) (isTrue _ (related-all R X G (h .related)) (isTrue _ (holds-last X G q t (h .last)) refl)),
+        pass-on (isTrue _ (conditions-all 0 X X (h .internal)) (isTrue _ (related-all R X G (h .related)) (isTrue _ (holds-last X G q t (h .last)) refl))) refl,
   )
 
-  external-refutes : (R : Pairs) (q t : ℕ) (X Y G : ℕ → ℤ) → (noFault ≡ externalPricesFault A R q t X Y G) ↔ RefutesExternal A R q t X Y G
-  unfolding externalPricesFault
+  external-refutes : (R : Pairs) (q t : ℕ) (X Y G : ℕ → ℤ) → Passes (externalPricesFault A R q t X Y G) ↔ RefutesExternal A R q t X Y G
+  unfolding externalPricesFault lastFault
   external-refutes R q t X Y G = (
     λ e.
-        let a = keptTrue _ (fault 15) (allWithAction A 0 (priceCondition A X X)) (no-fault 14) e in
-        let b = keptTrue _ (fault 15) (allWithAction A 0 (priceCondition A Y Y)) (no-fault 14) (a .1) in
-        let c = keptTrue _ (fault 15) (allWithAction A (A .action q) (priceCondition A X Y)) (no-fault 14) (b .1) in
-        let d = keptTrue _ (fault 15) (allRelated A R Y G) (no-fault 14) (c .1) in
-        let f = keptTrue _ (fault 16) (below A X G q t) (no-fault 15) (d .1) in
+        let a = pass-unlessTrue _ _ _ e (omega arith) in
+        let b = pass-unlessTrue _ _ _ (a .1) (omega arith) in
+        let c = pass-unlessTrue _ _ _ (b .1) (omega arith) in
+        let d = pass-unlessTrue _ _ _ (c .1) (omega arith) in
+        let f = pass-unlessTrue _ _ _ (d .1) (omega arith) in
         record {
           before = all-conditions 0 X X (a .0);
           after = all-conditions 0 Y Y (b .0);
@@ -114,73 +115,80 @@ module _ (A : Automaton) where
           last = last-holds X G q t (f .0);
         },
     λ h.
-        isTrue _ (conditions-all 0 X X (h .before))
+        pass-on
+        (isTrue _ (conditions-all 0 X X (h .before))
         (isTrue _ (conditions-all 0 Y Y (h .after))
         (isTrue _ (conditions-all (A .action q) X Y (h .move))
-        (isTrue _ (related-all R Y G (h .related)) (isTrue _ (holds-last X G q t (h .last)) refl)))),
+        (isTrue _ (related-all R Y G (h .related)) (isTrue _ (holds-last X G q t (h .last)) refl)))))
+        refl,
   )
 
-  pub plain-refutes : (R : Pairs) (q t : ℕ) (p : ℕ → ℤ) → (noFault ≡ plainPricesFault A R q t p) ↔ PlainRefutes A R q t p
+  pub plain-refutes : (R : Pairs) (q t : ℕ) (p : ℕ → ℤ) → Passes (plainPricesFault A R q t p) ↔ PlainRefutes A R q t p
   unfolding plainPricesFault
   plain-refutes R q t p = (
     λ e.
         record {
-          internal = λ i. internal-refutes R q t p (λ v. p (A .states + v)) .0 (e ∙ sym (kind-internal q _ _ i));
-          external = λ n. external-refutes R q t p (λ v. p (A .states + v)) (λ v. p (2 * A .states + v)) .0 (e ∙ sym (kind-external q _ _ n));
+          internal = λ i. internal-refutes R q t p (λ v. p (A .states + v)) .0 (pass-on (sym (kind-internal q _ _ i)) e);
+          external = λ n. external-refutes R q t p (λ v. p (A .states + v)) (λ v. p (2 * A .states + v)) .0 (pass-on (sym (kind-external q _ _ n)) e);
         },
     λ h. go h (ℕ-discrete (A .action q) 0),
   )
     where
-      go : PlainRefutes A R q t p → Dec (A .action q ≡ 0) → noFault ≡ byKind A q (internalPricesFault A R q t p (λ v. p (A .states + v))) (externalPricesFault A R q t p (λ v. p (A .states + v)) (λ v. p (2 * A .states + v)))
-      go h (yes i) = internal-refutes R q t p (λ v. p (A .states + v)) .1 (h .internal i) ∙ kind-internal q _ _ i
-      go h (no n) = external-refutes R q t p (λ v. p (A .states + v)) (λ v. p (2 * A .states + v)) .1 (h .external n) ∙ kind-external q _ _ n
+      go : PlainRefutes A R q t p → Dec (A .action q ≡ 0) → Passes (byKind A q (internalPricesFault A R q t p (λ v. p (A .states + v))) (externalPricesFault A R q t p (λ v. p (A .states + v)) (λ v. p (2 * A .states + v))))
+      go h (yes i) = pass-on (kind-internal q _ _ i) (internal-refutes R q t p (λ v. p (A .states + v)) .1 (h .internal i))
+      go h (no n) = pass-on (kind-external q _ _ n) (external-refutes R q t p (λ v. p (A .states + v)) (λ v. p (2 * A .states + v)) .1 (h .external n))
 
   -- equations without fault hold
-  pub all-hold : (e : ℕ → Sides) → allHold A e ≡ true → (v : ℕ) → v < A .states → Holds (e v)
-  unfolding allHold
-  all-hold e h v l = record { equal = eqb-true _ _ (all-below (A .states) _ h v l) }
+  pub all-hold : (number : ℕ) (e : ℕ → Sides) → (number ≡ 0 → ⊥) → Passes (firstBreak A number e) → (v : ℕ) → v < A .states → Holds (e v)
+  unfolding firstBreak
+  all-hold number e some p v l = break-passed number e some (A .states) 0 p v (omega arith) (omega arith)
 
-  pub hold-all : (e : ℕ → Sides) → ((v : ℕ) → v < A .states → Holds (e v)) → allHold A e ≡ true
-  unfolding allHold
-  hold-all e h = below-all (A .states) _ (λ v l. eq-eqb _ _ (h v l .equal))
+  pub hold-all : (number : ℕ) (e : ℕ → Sides) → ((v : ℕ) → v < A .states → Holds (e v)) → noFault ≡ firstBreak A number e
+  unfolding firstBreak
+  hold-all number e h = break-none number e (A .states) 0 (λ v l m. h v (omega arith))
 
-  internal-equations : (q t : ℕ) (f : Flow) → (noFault ≡ internalEquationsFault A q t f) ↔ InternalEquations A q t f
+  internal-equations : (q t : ℕ) (f : Flow) → Passes (internalEquationsFault A q t f) ↔ InternalEquations A q t f
   unfolding internalEquationsFault
   internal-equations q t f = (
     λ e.
-        let a = keptTrue _ (fault 20) (allHold A (internalMove A f t)) (no-fault 19) e in
-        let b = keptTrue _ (fault 21) (allHold A (atTarget A f q)) (no-fault 20) (a .1) in
-        record { move = all-hold (internalMove A f t) (a .0); target = all-hold (atTarget A f q) (b .0) },
-    λ h. isTrue _ (hold-all (internalMove A f t) (h .move)) (isTrue _ (hold-all (atTarget A f q) (h .target)) refl),
+        let a = none-first _ _ e in
+        record { move = all-hold 20 (internalMove A f t) (omega arith) (a .0); target = all-hold 21 (atTarget A f q) (omega arith) (a .1) },
+    λ h. pass-on (first-none _ _ (pass-on (hold-all 20 (internalMove A f t) (h .move)) refl) (hold-all 21 (atTarget A f q) (h .target))) refl,
   )
 
-  external-equations : (q t : ℕ) (f : Flow) → (noFault ≡ externalEquationsFault A q t f) ↔ ExternalEquations A q t f
+  external-equations : (q t : ℕ) (f : Flow) → Passes (externalEquationsFault A q t f) ↔ ExternalEquations A q t f
   unfolding externalEquationsFault
   external-equations q t f = (
     λ e.
-        let a = keptTrue _ (fault 20) (allHold A (beforeMove A f t)) (no-fault 19) e in
-        let b = keptTrue _ (fault 20) (allHold A (afterMove A f)) (no-fault 19) (a .1) in
-        let c = keptTrue _ (fault 21) (allHold A (atTarget A f q)) (no-fault 20) (b .1) in
-        record { before = all-hold (beforeMove A f t) (a .0); after = all-hold (afterMove A f) (b .0); target = all-hold (atTarget A f q) (c .0) },
+        let a = none-first _ _ e in
+        let b = none-first _ _ (a .1) in
+        record {
+          before = all-hold 20 (beforeMove A f t) (omega arith) (a .0);
+          after = all-hold 20 (afterMove A f) (omega arith) (b .0);
+          target = all-hold 21 (atTarget A f q) (omega arith) (b .1);
+        },
     λ h.
-        isTrue _ (hold-all (beforeMove A f t) (h .before))
-        (isTrue _ (hold-all (afterMove A f) (h .after)) (isTrue _ (hold-all (atTarget A f q) (h .target)) refl)),
+        pass-on
+        (first-none _ _ (pass-on (hold-all 20 (beforeMove A f t) (h .before)) refl)
+        (first-none _ _ (pass-on (hold-all 20 (afterMove A f) (h .after)) refl)
+        (hold-all 21 (atTarget A f q) (h .target))))
+        refl,
   )
 
-  pub plain-equations : (q t : ℕ) (f : Flow) → (noFault ≡ plainEquationsFault A q t f) ↔ PlainEquations A q t f
+  pub plain-equations : (q t : ℕ) (f : Flow) → Passes (plainEquationsFault A q t f) ↔ PlainEquations A q t f
   unfolding plainEquationsFault
   plain-equations q t f = (
     λ e.
         record {
-          internal = λ i. internal-equations q t f .0 (e ∙ sym (kind-internal q _ _ i));
-          external = λ n. external-equations q t f .0 (e ∙ sym (kind-external q _ _ n));
+          internal = λ i. internal-equations q t f .0 (pass-on (sym (kind-internal q _ _ i)) e);
+          external = λ n. external-equations q t f .0 (pass-on (sym (kind-external q _ _ n)) e);
         },
     λ h. go h (ℕ-discrete (A .action q) 0),
   )
     where
-      go : PlainEquations A q t f → Dec (A .action q ≡ 0) → noFault ≡ byKind A q (internalEquationsFault A q t f) (externalEquationsFault A q t f)
-      go h (yes i) = internal-equations q t f .1 (h .internal i) ∙ kind-internal q _ _ i
-      go h (no n) = external-equations q t f .1 (h .external n) ∙ kind-external q _ _ n
+      go : PlainEquations A q t f → Dec (A .action q ≡ 0) → Passes (byKind A q (internalEquationsFault A q t f) (externalEquationsFault A q t f))
+      go h (yes i) = pass-on (kind-internal q _ _ i) (internal-equations q t f .1 (h .internal i))
+      go h (no n) = pass-on (kind-external q _ _ n) (external-equations q t f .1 (h .external n))
 
   -- an entry passes exactly where it is in the question
   pub in-question : (q layer r : ℕ) → plainInQuestion A q layer r ≡ true → InPlainQuestion A q layer r

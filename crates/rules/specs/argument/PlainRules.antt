@@ -7,24 +7,26 @@ use mathlib.Core.List.{List}
 use lib.ListN.{length}
 use lib.IntN.{ℤ}
 use native.Mathlib.Omega.{arith}
-use Rattle.bisimulation.specs.definitions.Choice.{ifSame, ifTrue}
+use Rattle.bisimulation.specs.definitions.Choice.{ifTrue}
 use Rattle.bisimulation.specs.argument.ChoiceLaws.{eitherSame, eitherTrue}
 use Rattle.bisimulation.specs.definitions.Automaton.{Automaton}
-use Rattle.bisimulation.specs.definitions.StepRule.{Flow}
+use Rattle.bisimulation.specs.definitions.StepRule.{Flow, Sides, beforeMove, afterMove, internalMove, atTarget}
+use Rattle.bisimulation.specs.definitions.Prices.{priceAt, priceOfTargets}
 use Rattle.bisimulation.specs.definitions.Pairs.{Pairs}
 use Rattle.bisimulation.specs.argument.Plain.{plain}
 use Rattle.rules.specs.definitions.Limits.{Limits, limits}
 use Rattle.rules.specs.definitions.SoundModel.{FitsWidths}
 use Rattle.rules.specs.argument.SoundModelLaws.{limits-fit}
 use Rattle.rules.specs.definitions.Faults.{Fault, fault, noFault}
+use Rattle.rules.specs.argument.FaultLaws.{Told, told-fault, either-first}
 use Rattle.rules.specs.definitions.Reading.{Scan, sound, refused, scanWhole, noModel, readingOf, readWhole}
 use Rattle.rules.specs.argument.ReadingLaws.{Tells, whole-tells}
 use Rattle.rules.specs.argument.ReadSound.{read-whole-exactly, read-whole-ends}
-use Rattle.rules.specs.definitions.PlainRule.{byKind, internalPricesFault, externalPricesFault, plainPricesFault, internalEquationsFault, externalEquationsFault, plainEquationsFault, plainRule}
+use Rattle.rules.specs.definitions.PlainRule.{byKind, below, lastFault, firstBreak, internalPricesFault, externalPricesFault, plainPricesFault, internalEquationsFault, externalEquationsFault, plainEquationsFault, plainRule}
 use Rattle.rules.specs.definitions.PlainSays.{plainSays}
 use Rattle.rules.specs.definitions.Accepted.{FileOf}
-use Rattle.rules.specs.argument.AnyRule.{AnswersOnly, CertificateRule, ModelFiles, PairRules}
-use Rattle.rules.specs.argument.Numbers.{NoneOr}
+use Rattle.rules.specs.argument.AnyRule.{NoneOr, AnswersOnly, CertificateRule, ModelFiles, PairRules}
+use Rattle.rules.specs.argument.BreakLaws.{difference-zero, not-below, by-test, break-cases}
 use Rattle.rules.specs.argument.PlainDecides.{plain-decides}
 use Rattle.rules.specs.argument.LargestBlocks.{plain-covers}
 
@@ -36,46 +38,61 @@ abbrev Own : Fault → Type 0
 Own f = NoneOr PlainNumber f
 
 none : Own noFault
-none = record { number = inl refl }
+none = record { number = inl refl; told = told-fault 0 (omega arith) }
 
 price : Own (fault 15)
 unfolding PlainNumber
-price = record { number = inr (inl (omega arith, omega arith)) }
-
-last : Own (fault 16)
-unfolding PlainNumber
-last = record { number = inr (inl (omega arith, omega arith)) }
-
-move : Own (fault 20)
-unfolding PlainNumber
-move = record { number = inr (inr (omega arith, omega arith)) }
-
-target : Own (fault 21)
-unfolding PlainNumber
-target = record { number = inr (inr (omega arith, omega arith)) }
-
-orSame : (a b : ℕ) {x y : Fault} → Own x → Own y → Own (ifSame a b x y)
-orSame a b p q = eitherSame Own a b p q
+price = record { number = inr (inl (omega arith, omega arith)); told = told-fault 15 (omega arith) }
 
 orTrue : (b : Bool) {x y : Fault} → Own x → Own y → Own (ifTrue b x y)
 orTrue b p q = eitherTrue Own b p q
 
+last : (A : Automaton) (X G : ℕ → ℤ) (q t : ℕ) → Own (lastFault A X G q t)
+unfolding lastFault below PlainNumber
+last A X G q t =
+    by-test Own _ (λ e. none)
+    (λ e.
+    record {
+      number = inr (inl (omega arith, omega arith));
+      told =
+          record {
+            last = λ z. not-below (priceAt A X q t) (priceOfTargets A G q) e;
+            broken = λ z. absurd (⊎-elim (λ x. omega arith) (λ x. omega arith) z);
+            otherwise = λ o. absurd (o .not16 refl);
+          };
+    })
+
 prices : (A : Automaton) (R : Pairs) (q t : ℕ) (p : ℕ → ℤ) → Own (plainPricesFault A R q t p)
 unfolding plainPricesFault byKind internalPricesFault externalPricesFault
 prices A R q t p =
-    orSame _ _ (orTrue _ (orTrue _ (orTrue _ none last) price) price)
-    (orTrue _ (orTrue _ (orTrue _ (orTrue _ (orTrue _ none last) price) price) price) price)
+    eitherSame Own _ _ (orTrue _ (orTrue _ (last A _ _ q t) price) price)
+    (orTrue _ (orTrue _ (orTrue _ (orTrue _ (last A _ _ q t) price) price) price) price)
+
+-- a break tells by how much the sides differ
+first-break : (A : Automaton) (number : ℕ) (e : ℕ → Sides) → (number ≡ 20) ⊎ (number ≡ 21) → Own (firstBreak A number e)
+unfolding firstBreak PlainNumber
+first-break A number e is =
+    break-cases number e Own (A .states) 0 none
+    (λ f b.
+    record {
+      number = inr (inr (⊎-elim (λ z. (omega (arith, b .numbered), omega (arith, b .numbered))) (λ z. (omega (arith, b .numbered), omega (arith, b .numbered))) is));
+      told =
+          record {
+            last = λ z. absurd (⊎-elim (λ x. omega (arith, b .numbered)) (λ x. omega (arith, b .numbered)) is);
+            broken = λ k z. b .breaks (record { equal = difference-zero _ _ (sym (b .remainder) ∙ z) });
+            otherwise = λ o. absurd (⊎-elim (λ x. o .not20 (b .numbered ∙ x)) (λ x. o .not21 (b .numbered ∙ x)) is);
+          };
+    })
 
 equations : (A : Automaton) (q t : ℕ) (f : Flow) → Own (plainEquationsFault A q t f)
 unfolding plainEquationsFault byKind internalEquationsFault externalEquationsFault
-equations A q t f = orSame _ _ (orTrue _ (orTrue _ none target) move) (orTrue _ (orTrue _ (orTrue _ none target) move) move)
+equations A q t f =
+    let target = first-break A 21 (atTarget A f q) (inr refl) in
+    eitherSame Own _ _ (either-first Own _ _ (first-break A 20 (internalMove A f t) (inl refl)) target)
+    (either-first Own _ _ (first-break A 20 (beforeMove A f t) (inl refl)) (either-first Own _ _ (first-break A 20 (afterMove A f) (inl refl)) target))
 
 pub plain-answers : AnswersOnly PlainNumber plainRule
-plain-answers =
-    record {
-      prices = λ A R q t p. prices A R q t p .number;
-      equations = λ A q t f. equations A q t f .number;
-    }
+plain-answers = record { prices = prices; equations = equations }
 
 -- document 01's step rule
 abbrev pub plainCertificates : CertificateRule
@@ -95,17 +112,17 @@ plainCertificates =
 unfoldable pub ModelNumber : ℕ → Type 0
 ModelNumber k = (1 ≤ k) × (k ≤ 9)
 
-pub refusal-told : (L : Limits) (bytes : List ℕ) (f : Fault) (place : ℕ) → readWhole L bytes ≡ noModel f place → (f .number ≡ 0 → ⊥) × ModelNumber (f .number) × (place ≤ length bytes)
+pub refusal-told : (L : Limits) (bytes : List ℕ) (f : Fault) (place : ℕ) → readWhole L bytes ≡ noModel f place → (f .number ≡ 0 → ⊥) × ModelNumber (f .number) × (place ≤ length bytes) × Told f
 unfolding readWhole readingOf ModelNumber
 refusal-told L bytes f place e = go (scanWhole L bytes) (whole-tells L bytes) e
   where
-    go : (scan : Scan) → Tells L bytes scan → readingOf bytes scan ≡ noModel f place → (f .number ≡ 0 → ⊥) × ((1 ≤ f .number) × (f .number ≤ 9)) × (place ≤ length bytes)
+    go : (scan : Scan) → Tells L bytes scan → readingOf bytes scan ≡ noModel f place → (f .number ≡ 0 → ⊥) × ((1 ≤ f .number) × (f .number ≤ 9)) × (place ≤ length bytes) × Told f
     go (sound n m count end) t q = let z : _≡_ {A = ℕ} 0 1 = cc in absurd (omega arith)
     go (refused g at) t q =
         let same : g ≡ f = cc in
         let there : at ≡ place = cc in
         let number = ap (λ (x : Fault). x .number) same in
-        (λ z. omega (arith, t .some), (omega (arith, t .some), omega (arith, t .known)), omega (arith, t .inside))
+        (λ z. omega (arith, t .some), (omega (arith, t .some), omega (arith, t .known)), omega (arith, t .inside), subst Told same (t .told))
 
 -- a file that holds a model and nothing else, within the limits
 abbrev pub wholeFiles : (L : Limits) → FitsWidths L → ModelFiles L

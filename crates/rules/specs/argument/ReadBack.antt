@@ -12,8 +12,8 @@ use Rattle.rules.specs.argument.BytesLaws.{past, past-all, stands-inside
 use Rattle.rules.specs.definitions.Model.{Entry, Transition, Model, entriesBytes, transitionBytes, transitionsBytes, headBytes, labelsBytes, modelBytes}
 use Rattle.rules.specs.definitions.Reading.{statesOf, actionsOf, countOf, rangeFault, headFault, labelFault, labelsFault, sourceAt, actionAt, denominatorAt, entryCountAt, afterTransition, fixedFault, fixedFaultAt, entriesFault, transitionFault, Scan, sound, refused, scanTransitions, scanModel, refuseBytesLeft, scanWhole, entriesAt, transitionAt, transitionsAt, modelAt, model, readingOf, readModel, readWhole}
 use Rattle.rules.specs.argument.ReadingLaws.{refuse-passes}
-use Rattle.rules.specs.definitions.Faults.{fault, noFault, modelRecord}
-use Rattle.rules.specs.argument.FaultLaws.{first-none, opens}
+use Rattle.rules.specs.definitions.Faults.{fault, Passes, modelRecord}
+use Rattle.rules.specs.argument.FaultLaws.{first-none, opens, pass-on}
 use Rattle.rules.specs.definitions.SoundModel.{Each, sumOver, TransitionRules, SoundModel, FitsWidths}
 use Rattle.rules.specs.argument.SoundModelLaws.{From, StatesFrom, SourcesFrom, from-lower, from-along}
 
@@ -28,30 +28,30 @@ unfolding transitionBytes twoBytes
 transitionBytes-length t = omega (arith, entriesBytes-length (t .entries))
 
 -- the labels that stand at a place
-labels-back : (L : Limits) (s labels : List ℕ) (at : ℕ) (rest : List ℕ) → drop at s ≡ labels ++ rest → Each (λ (b : ℕ). b ≤ L .label) labels → noFault ≡ labelFault L s (length labels) at
+labels-back : (L : Limits) (s labels : List ℕ) (at : ℕ) (rest : List ℕ) → drop at s ≡ labels ++ rest → Each (λ (b : ℕ). b ≤ L .label) labels → Passes (labelFault L s (length labels) at)
 unfolding labelFault Each
 labels-back L s [] at rest stands known = refl
 labels-back L s (b ∷ labels) at rest stands known =
     let here = first-byte s at stands in
-    notLess _ (omega arith) (labels-back L s labels (at + 1) rest (past s at 1 stands) (known .1))
+    pass-on (notLess _ (omega arith) refl) (labels-back L s labels (at + 1) rest (past s at 1 stands) (known .1))
 
 -- the entries that stand at a place: no fault, and they are read as they are
-entries-back : (s : List ℕ) (n d : ℕ) → d ≤ 65535 → (es : List Entry) (at lowest total : ℕ) (rest : List ℕ) → drop at s ≡ entriesBytes es ++ rest → StatesFrom lowest es → Each (λ (e : Entry). e .state < n) es → Each (λ (e : Entry). 1 ≤ e .weight) es → total + sumOver (λ (e : Entry). e .weight) es ≡ d → (noFault ≡ entriesFault s n d (length es) at lowest total) × (entriesAt s (length es) at ≡ es)
+entries-back : (s : List ℕ) (n d : ℕ) → d ≤ 65535 → (es : List Entry) (at lowest total : ℕ) (rest : List ℕ) → drop at s ≡ entriesBytes es ++ rest → StatesFrom lowest es → Each (λ (e : Entry). e .state < n) es → Each (λ (e : Entry). 1 ≤ e .weight) es → total + sumOver (λ (e : Entry). e .weight) es ≡ d → Passes (entriesFault s n d (length es) at lowest total) × (entriesAt s (length es) at ≡ es)
 unfolding entriesFault entriesAt entriesBytes twoBytes From Each sumOver
-entries-back s n d fits [] at lowest total rest stands from known some whole = (same (fault 7) (omega arith) refl, refl)
+entries-back s n d fits [] at lowest total rest stands from known some whole = (pass-on (same (fault 7) (omega arith) refl) refl, refl)
 entries-back s n d fits (e ∷ es) at lowest total rest stands from known some whole =
     let state : byteAt s at ≡ e .state = first-byte s at stands in
     let weight : twoAt s (at + 1) ≡ e .weight = first-two s (at + 1) (e .weight) _ (past s at 1 stands) (omega arith) in
     let later =
     entries-back s n d fits es (at + 3) (byteAt s at + 1) (total + twoAt s (at + 1)) rest (past s at 3 stands)
     (from-lower _ _ es (byteAt s at + 1) (suc (e .state)) (omega arith) (from .1)) (known .1) (some .1) (omega arith) in (
-      notLess _ (omega arith) (less _ (omega arith) (less _ (omega arith) (later .0))),
+      pass-on (notLess _ (omega arith) (less _ (omega arith) (less _ (omega arith) refl))) (later .0),
       λ i. record { state = state i; weight = weight i } ∷ later .1 i,
     )
 
 -- the transition that stands at a place
 record TransitionBack (L : Limits) (s : List ℕ) (n m last entries at : ℕ) (t : Transition) : Type 0 where
-  fault : noFault ≡ transitionFault L s n m last entries at
+  fault : Passes (transitionFault L s n m last entries at)
   value : transitionAt s at ≡ t
   source : sourceAt s at ≡ t .source
   count : entryCountAt s at ≡ length (t .entries)
@@ -69,22 +69,26 @@ transition-back L s n m last entries at t rest stands rules follows few =
     let shares =
     entries-back s n (t .denominator) (rules .fits) (t .entries) (at + 7) 0 0 rest (past s at 7 stands)
     (from-along _ _ (t .entries) (rules .ascend)) (rules .states) (rules .weights) (omega (arith, rules .whole)) in
-    let fixed : noFault ≡ fixedFaultAt L s n m last entries at =
-    notLess _ (omega arith)
+    let fixed : Passes (fixedFaultAt L s n m last entries at) =
+    pass-on
+    (notLess _ (omega arith)
     (less _ (omega arith)
     (less _ (omega arith)
     (less _ (omega arith)
     (less _ (omega arith)
     (notLess _ (omega arith)
     (notLess _ (omega arith)
-    refl)))))) in
-    let shared : noFault ≡ entriesFault s n (denominatorAt s at) (entryCountAt s at) (at + 7) 0 0 =
-    shares .0 ∙ (λ i. entriesFault s n (sym denominator i) (sym count i) (at + 7) 0 0) in
+    refl)))))))
+    refl in
+    let shared : Passes (entriesFault s n (denominatorAt s at) (entryCountAt s at) (at + 7) 0 0) =
+    pass-on (λ i. entriesFault s n (sym denominator i) (sym count i) (at + 7) 0 0) (shares .0) in
     record {
       fault =
-          first-none _ _ (opens modelRecord 0x5452 7 s at (omega arith) (first-two s at 0x5452 _ stands (omega arith)) (omega arith))
+          pass-on
+          (first-none _ _ (opens modelRecord 0x5452 7 s at (omega arith) (first-two s at 0x5452 _ stands (omega arith)) (omega arith))
           (first-none _ _ fixed
-          (notLess _ (omega arith) shared));
+          (notLess _ (omega arith) refl)))
+          shared;
       value = λ i.
           record {
             source = source i;
@@ -109,7 +113,7 @@ transitions-back L s n m count (t ∷ ts) last entries at end rest stands rules 
     (ap (λ (k : ℕ). drop k s) (back .after) ∙ past-all s at (transitionBytes t) here) (rules .1)
     (from-lower _ _ ts (sourceAt s at) (t .source) (omega arith) (from .1)) (omega arith)
     (omega (arith, length-append (transitionBytes t) (transitionsBytes ts))) in
-    (refuse-passes at (back .fault) refl (later .0), λ i. back .value i ∷ later .1 i)
+    (refuse-passes at refl (back .fault) (later .0), λ i. back .value i ∷ later .1 i)
 
 -- what the scan of a file that begins with a sound model is, and what stands in the file
 record ModelBack (L : Limits) (M : Model) (s : List ℕ) : Type 0 where
@@ -142,8 +146,8 @@ model-back L M fits ok s rest stands =
           (notLess _ (omega arith)
           refl)))))) refl
           (refuse-passes 6
-          (first-none _ _ (opens modelRecord 0x4C42 (2 + statesOf s) s 6 (omega arith) (first-two s 6 0x4C42 _ (past s 0 6 stands) (omega arith)) (omega arith))
-          (rw isN (labels-back L s (M .labels) 8 _ labels (ok .labels)))) refl
+          (first-none _ _ (opens modelRecord 0x4C42 (2 + statesOf s) s 6 (omega arith) (first-two s 6 0x4C42 _ (past s 0 6 stands) (omega arith)) (omega arith)) refl)
+          (rw isN (labels-back L s (M .labels) 8 _ labels (ok .labels)))
           (rw (isN, isM, isCount) (back .0)));
       value = λ i.
           record {

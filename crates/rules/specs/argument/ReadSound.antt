@@ -6,11 +6,11 @@ use mathlib.Core.List.{List, _∷_, _++_, append-assoc}
 use lib.ListN.{length, take, drop, length-append, length-drop, take-append-drop}
 use lib.Seq.{length-take-le, take-at, drop-drop, take-all}
 use native.Mathlib.Omega.{arith}
-use Rattle.bisimulation.specs.argument.ChoiceLaws.{pastLess, keptLess, keptSame}
+use Rattle.bisimulation.specs.argument.ChoiceLaws.{pastLess, keptSame}
 use Rattle.rules.specs.definitions.Limits.{Limits}
 use Rattle.rules.specs.definitions.Bytes.{byteAt, twoAt, twoBytes}
-use Rattle.rules.specs.definitions.Faults.{Fault, fault, noFault}
-use Rattle.rules.specs.argument.FaultLaws.{no-fault}
+use Rattle.rules.specs.definitions.Faults.{Fault, fault, Passes}
+use Rattle.rules.specs.argument.FaultLaws.{pass-ifLess, pass-unlessLess, pass-unlessSame}
 use Rattle.rules.specs.argument.BytesLaws.{byte-then, two-small, two-then}
 use Rattle.rules.specs.definitions.Model.{Entry, Transition, Model, entriesBytes, transitionBytes, transitionsBytes, headBytes, labelsBytes, modelBytes}
 use Rattle.rules.specs.definitions.Reading.{statesOf, actionsOf, countOf, labelFault, sourceAt, actionAt, denominatorAt, entryCountAt, afterTransition, entriesFault, transitionFault, Scan, sound, refused, refuseAt, scanTransitions, scanModel, refuseBytesLeft, scanWhole, entriesAt, transitionAt, transitionsAt, modelAt, model, readingOf, readModel, readWhole}
@@ -20,11 +20,11 @@ use Rattle.rules.specs.argument.SoundModelLaws.{From, StatesFrom, Source
 use Rattle.rules.specs.argument.ReadBack.{read-back, read-back-whole}
 
 -- the labels at a place
-labels-sound : (L : Limits) (s : List ℕ) (n at : ℕ) → at + n ≤ length s → noFault ≡ labelFault L s n at → Each (λ (b : ℕ). b ≤ L .label) (take n (drop at s))
+labels-sound : (L : Limits) (s : List ℕ) (n at : ℕ) → at + n ≤ length s → Passes (labelFault L s n at) → Each (λ (b : ℕ). b ≤ L .label) (take n (drop at s))
 unfolding labelFault Each
 labels-sound L s zero at inside e = tt
 labels-sound L s (suc n) at inside e =
-    let a = pastLess (fault 4) _ (L .label) (byteAt s at) (no-fault 3) e in
+    let a = pass-ifLess _ _ _ _ e (omega arith) in
     rw (byte-then s at (at + 1) refl (omega arith) refl) (a .0, labels-sound L s n (at + 1) (omega arith) (a .1))
 
 -- the entries at a place, up to the place `end`
@@ -36,16 +36,16 @@ record EntriesSound (s : List ℕ) (n d left at lowest total end : ℕ) : Type 0
   whole : total + sumOver (λ (e : Entry). e .weight) (entriesAt s left at) ≡ d
   bytes : drop at s ≡ entriesBytes (entriesAt s left at) ++ drop end s
 
-entries-sound : (s : List ℕ) → Bytes s → (n d left at lowest total end : ℕ) → end ≡ at + 3 * left → end ≤ length s → noFault ≡ entriesFault s n d left at lowest total → EntriesSound s n d left at lowest total end
+entries-sound : (s : List ℕ) → Bytes s → (n d left at lowest total end : ℕ) → end ≡ at + 3 * left → end ≤ length s → Passes (entriesFault s n d left at lowest total) → EntriesSound s n d left at lowest total end
 unfolding entriesFault entriesAt entriesBytes twoBytes Each sumOver From
 entries-sound s bytes n d zero at lowest total end isEnd inside e =
     let place : at ≡ end = omega arith in
-    let a = keptSame _ (fault 7) total d (no-fault 6) e in
+    let a = pass-unlessSame _ _ _ _ e (omega arith) in
     record { count = refl; ascend = tt; states = tt; weights = tt; whole = omega arith; bytes = ap (λ (k : ℕ). drop k s) place }
 entries-sound s bytes n d (suc left) at lowest total end isEnd inside e =
-    let a = pastLess (fault 6) _ (byteAt s at) lowest (no-fault 5) e in
-    let b = keptLess _ (fault 6) (byteAt s at) n (no-fault 5) (a .1) in
-    let c = keptLess _ (fault 6) 0 (twoAt s (at + 1)) (no-fault 5) (b .1) in
+    let a = pass-ifLess _ _ _ _ e (omega arith) in
+    let b = pass-unlessLess _ _ _ _ (a .1) (omega arith) in
+    let c = pass-unlessLess _ _ _ _ (b .1) (omega arith) in
     let later = entries-sound s bytes n d left (at + 3) (byteAt s at + 1) (total + twoAt s (at + 1)) end (omega arith) inside (c .1) in
     record {
       count = ap suc (later .count);
@@ -64,12 +64,12 @@ record TransitionSound (s : List ℕ) (n m at : ℕ) : Type 0 where
   count : length (transitionAt s at .entries) ≡ entryCountAt s at
   bytes : drop at s ≡ transitionBytes (transitionAt s at) ++ drop (afterTransition s at) s
 
-transition-sound : (L : Limits) (s : List ℕ) → Bytes s → (n m last entries at : ℕ) → noFault ≡ transitionFault L s n m last entries at → TransitionSound s n m at
+transition-sound : (L : Limits) (s : List ℕ) → Bytes s → (n m last entries at : ℕ) → Passes (transitionFault L s n m last entries at) → TransitionSound s n m at
 unfolding transitionAt transitionBytes sourceAt actionAt denominatorAt entryCountAt afterTransition twoBytes
 transition-sound L s bytes n m last entries at e =
     let p = transition-passed L s n m last entries at e in
     let fixed : at + 7 ≤ length s = p .fixed in
-    let es = entries-sound s bytes n (denominatorAt s at) (entryCountAt s at) (at + 7) 0 0 (afterTransition s at) refl (p .whole) (sym (p .shares)) in
+    let es = entries-sound s bytes n (denominatorAt s at) (entryCountAt s at) (at + 7) 0 0 (afterTransition s at) refl (p .whole) (p .shares) in
     let mark = p .mark in
     let count = sym (es .count) in
     record {
@@ -101,11 +101,11 @@ transition-sound L s bytes n m last entries at e =
 sound-not : (n m count end : ℕ) (f : Fault) (place : ℕ) → sound n m count end ≡ refused f place → ⊥
 sound-not n m count end f place e = let z : _≡_ {A = ℕ} 0 1 = cc in omega arith
 
-refuse-past : (n m count end : ℕ) (f : Fault) (place : ℕ) (next : Scan) → sound n m count end ≡ refuseAt f place next → (noFault ≡ f) × (sound n m count end ≡ next)
+refuse-past : (n m count end : ℕ) (f : Fault) (place : ℕ) (next : Scan) → sound n m count end ≡ refuseAt f place next → Passes f × (sound n m count end ≡ next)
 unfolding refuseAt
 refuse-past n m count end f place next e =
     let a = keptSame next (refused f place) (f .number) 0 (sound-not n m count end f place) e in
-    (ap fault (sym (a .0)), a .1)
+    (a .0, a .1)
 
 -- the transitions at a place, up to the place `end`
 record TransitionsSound (L : Limits) (s : List ℕ) (n m left last entries at end : ℕ) : Type 0 where

@@ -10,11 +10,11 @@ use native.Mathlib.Omega.{arith}
 use native.Mathlib.Numerals.{add-one}
 use native.Mathlib.Decide.{ℕ-discrete, decLe}
 use Rattle.bisimulation.specs.definitions.Choice.{ifLess, ifSame, unlessLess, unlessSame}
-use Rattle.bisimulation.specs.argument.ChoiceLaws.{via, less, notLess, same, notSame, pastLess, keptLess, keptSame, eitherLess, eitherSame}
+use Rattle.bisimulation.specs.argument.ChoiceLaws.{via, less, notLess, same, notSame, eitherLess, eitherSame}
 use Rattle.rules.specs.definitions.Limits.{Limits}
 use Rattle.rules.specs.definitions.Bytes.{byteAt, twoAt}
-use Rattle.rules.specs.definitions.Faults.{Fault, fault, noFault, modelRecord, openFault}
-use Rattle.rules.specs.argument.FaultLaws.{no-fault, none-first, either-first, model-refuses, opened, either-open}
+use Rattle.rules.specs.definitions.Faults.{Fault, fault, noFault, Passes, modelRecord, openFault}
+use Rattle.rules.specs.argument.FaultLaws.{Told, told-fault, none-first, either-first, model-refuses, opened, either-open, pass-ifLess, pass-unlessLess}
 use Rattle.rules.specs.definitions.Reading.{statesOf, actionsOf, countOf, rangeFault, headFault, labelFault, labelsFault, sourceAt, actionAt, denominatorAt, entryCountAt, afterTransition, fixedFault, fixedFaultAt, entriesFault, transitionFault, Scan, sound, refused, refuseAt, scanTransitions, scanModel, refuseBytesLeft, scanWhole, placeOf, firstNotBelow}
 
 one-less : (left : ℕ) → left ≡ suc left - 1
@@ -90,7 +90,7 @@ pub record PassedTransition (L : Limits) (s : List ℕ) (n m last entries at : �
   pub most : entryCountAt s at ≤ n
   pub few : entries + entryCountAt s at ≤ L .entries
   pub whole : afterTransition s at ≤ length s
-  pub shares : entriesFault s n (denominatorAt s at) (entryCountAt s at) (at + 7) 0 0 ≡ noFault
+  pub shares : Passes (entriesFault s n (denominatorAt s at) (entryCountAt s at) (at + 7) 0 0)
 
 -- a record's fault x refuses at its place, or the next record follows
 pub refuse-stops : {x : Fault} (f : Fault) (place : ℕ) (next : Scan) → x ≡ f → (x .number ≡ 0 → ⊥) → refused x place ≡ refuseAt f place next
@@ -106,20 +106,20 @@ pub head-stops : (L : Limits) (s : List ℕ) {x : Fault} → x ≡ headFault L s
 unfolding scanWhole scanModel refuseBytesLeft
 head-stops L s {x} e h = subst (λ (scan : Scan). refused x 0 ≡ refuseBytesLeft s scan) (refuse-stops _ 0 _ e h) refl
 
-pub transition-passed : (L : Limits) (s : List ℕ) (n m last entries at : ℕ) → noFault ≡ transitionFault L s n m last entries at → PassedTransition L s n m last entries at
+pub transition-passed : (L : Limits) (s : List ℕ) (n m last entries at : ℕ) → Passes (transitionFault L s n m last entries at) → PassedTransition L s n m last entries at
 unfolding transitionFault fixedFaultAt fixedFault
 transition-passed L s n m last entries at e =
     let a = none-first _ _ e in
     let b = opened modelRecord 0x5452 7 s at model-refuses (a .0) in
     let d = none-first _ _ (a .1) in
-    let f = pastLess (fault 5) _ (sourceAt s at) last (no-fault 4) (d .0) in
-    let g = keptLess _ (fault 5) (sourceAt s at) n (no-fault 4) (f .1) in
-    let h = keptLess _ (fault 5) (actionAt s at) m (no-fault 4) (g .1) in
-    let i = keptLess _ (fault 5) 0 (denominatorAt s at) (no-fault 4) (h .1) in
-    let j = keptLess _ (fault 5) 0 (entryCountAt s at) (no-fault 4) (i .1) in
-    let k = pastLess (fault 5) _ n (entryCountAt s at) (no-fault 4) (j .1) in
-    let l = pastLess (fault 8) _ (L .entries) (entries + entryCountAt s at) (no-fault 7) (k .1) in
-    let o = pastLess (fault 1) _ (length s) (afterTransition s at) (no-fault 0) (d .1) in
+    let f = pass-ifLess _ _ _ _ (d .0) (omega arith) in
+    let g = pass-unlessLess _ _ _ _ (f .1) (omega arith) in
+    let h = pass-unlessLess _ _ _ _ (g .1) (omega arith) in
+    let i = pass-unlessLess _ _ _ _ (h .1) (omega arith) in
+    let j = pass-unlessLess _ _ _ _ (i .1) (omega arith) in
+    let k = pass-ifLess _ _ _ _ (j .1) (omega arith) in
+    let l = pass-ifLess _ _ _ _ (k .1) (omega arith) in
+    let o = pass-ifLess _ _ _ _ (d .1) (omega arith) in
     record {
       mark = b .marked;
       fixed = b .whole;
@@ -131,7 +131,7 @@ transition-passed L s n m last entries at e =
       most = k .0;
       few = l .0;
       whole = o .0;
-      shares = sym (o .1);
+      shares = o .1;
     }
 
 -- what a head without fault tells
@@ -144,34 +144,41 @@ pub record PassedHead (L : Limits) (s : List ℕ) : Type 0 where
   pub actions : actionsOf s ≤ L .actions
   pub transitions : countOf s ≤ L .transitions
 
-pub head-passed : (L : Limits) (s : List ℕ) → noFault ≡ headFault L s → PassedHead L s
+pub head-passed : (L : Limits) (s : List ℕ) → Passes (headFault L s) → PassedHead L s
 unfolding headFault rangeFault
 head-passed L s e =
     let a = none-first _ _ e in
     let b = opened modelRecord 0x5041 6 s 0 model-refuses (a .0) in
-    let d = keptLess _ (fault 3) 0 (statesOf s) (no-fault 2) (a .1) in
-    let f = pastLess (fault 3) _ (L .states) (statesOf s) (no-fault 2) (d .1) in
-    let g = keptLess _ (fault 3) 0 (actionsOf s) (no-fault 2) (f .1) in
-    let h = pastLess (fault 3) _ (L .actions) (actionsOf s) (no-fault 2) (g .1) in
-    let i = pastLess (fault 3) _ (L .transitions) (countOf s) (no-fault 2) (h .1) in
+    let d = pass-unlessLess _ _ _ _ (a .1) (omega arith) in
+    let f = pass-ifLess _ _ _ _ (d .1) (omega arith) in
+    let g = pass-unlessLess _ _ _ _ (f .1) (omega arith) in
+    let h = pass-ifLess _ _ _ _ (g .1) (omega arith) in
+    let i = pass-ifLess _ _ _ _ (h .1) (omega arith) in
     record { mark = b .marked; whole = b .whole; some = d .0; states = f .0; someAction = g .0; actions = h .0; transitions = i .0 }
 
 -- what labels without fault tell
 pub record PassedLabels (L : Limits) (s : List ℕ) (n : ℕ) : Type 0 where
   pub mark : twoAt s 6 ≡ 0x4C42
   pub whole : 8 + n ≤ length s
-  pub small : noFault ≡ labelFault L s n 8
+  pub small : Passes (labelFault L s n 8)
 
-pub labels-passed : (L : Limits) (s : List ℕ) (n : ℕ) → noFault ≡ labelsFault L s n → PassedLabels L s n
+pub labels-passed : (L : Limits) (s : List ℕ) (n : ℕ) → Passes (labelsFault L s n) → PassedLabels L s n
 unfolding labelsFault
 labels-passed L s n e =
     let a = none-first _ _ e in
     let b = opened modelRecord 0x4C42 (2 + n) s 6 model-refuses (a .0) in
     record { mark = b .marked; whole = omega (arith, b .whole); small = a .1 }
 
--- every fault of a model record is a number of document 01's model table
-abbrev Small : Fault → Type 0
-Small f = f .number ≤ 8
+-- every fault of a model record is a number of document 01's model table, without a state
+pub record Small (f : Fault) : Type 0 where
+  pub number : f .number ≤ 8
+  pub told : Told f
+
+small : (k : ℕ) → k ≤ 8 → Small (fault k)
+small k h = record { number = h; told = told-fault k (omega arith) }
+
+none-small : Small noFault
+none-small = small 0 (omega arith)
 
 orLess : (a b : ℕ) {x y : Fault} → Small x → Small y → Small (ifLess a b x y)
 orLess a b p q = eitherLess Small a b p q
@@ -180,20 +187,19 @@ orSame : (a b : ℕ) {x y : Fault} → Small x → Small y → Small (ifSame a b
 orSame a b p q = eitherSame Small a b p q
 
 open-small : (mark size : ℕ) (s : List ℕ) (at : ℕ) → Small (openFault modelRecord mark size s at)
-open-small mark size s at = either-open modelRecord mark size s at Small (omega arith) (omega arith) (omega arith)
+open-small mark size s at = either-open modelRecord mark size s at Small (small 1 (omega arith)) (small 2 (omega arith)) none-small
 
 headFault-small : (L : Limits) (s : List ℕ) → Small (headFault L s)
 unfolding headFault rangeFault
 headFault-small L s =
+    let range = small 3 (omega arith) in
     either-first Small _ _ (open-small 0x5041 6 s 0)
-    (orLess _ _
-    (orLess _ _ (omega arith) (orLess _ _ (orLess _ _ (omega arith) (orLess _ _ (omega arith) (omega arith))) (omega arith)))
-    (omega arith))
+    (orLess _ _ (orLess _ _ range (orLess _ _ (orLess _ _ range (orLess _ _ range none-small)) range)) range)
 
 labelFault-small : (L : Limits) (s : List ℕ) (left at : ℕ) → Small (labelFault L s left at)
 unfolding labelFault
-labelFault-small L s zero at = omega arith
-labelFault-small L s (suc left) at = orLess _ _ (omega arith) (labelFault-small L s left (at + 1))
+labelFault-small L s zero at = none-small
+labelFault-small L s (suc left) at = orLess _ _ (small 4 (omega arith)) (labelFault-small L s left (at + 1))
 
 labelsFault-small : (L : Limits) (s : List ℕ) (n : ℕ) → Small (labelsFault L s n)
 unfolding labelsFault
@@ -201,43 +207,39 @@ labelsFault-small L s n = either-first Small _ _ (open-small 0x4C42 (2 + n) s 6)
 
 entriesFault-small : (s : List ℕ) (n d left at lowest total : ℕ) → Small (entriesFault s n d left at lowest total)
 unfolding entriesFault
-entriesFault-small s n d zero at lowest total = orSame _ _ (omega arith) (omega arith)
+entriesFault-small s n d zero at lowest total = orSame _ _ none-small (small 7 (omega arith))
 entriesFault-small s n d (suc left) at lowest total =
-    orLess _ _ (omega arith)
+    let entry = small 6 (omega arith) in
+    orLess _ _ entry
     (orLess _ _
-    (orLess _ _
-    (entriesFault-small s n d left (at + 3) (byteAt s at + 1) (total + twoAt s (at + 1)))
-    (omega arith))
-    (omega arith))
+    (orLess _ _ (entriesFault-small s n d left (at + 3) (byteAt s at + 1) (total + twoAt s (at + 1))) entry)
+    entry)
 
 fixedFault-small : (L : Limits) (n m last entries source action d c : ℕ) → Small (fixedFault L n m last entries source action d c)
 unfolding fixedFault
 fixedFault-small L n m last entries source action d c =
-    orLess _ _ (omega arith)
+    let fixed = small 5 (omega arith) in
+    orLess _ _ fixed
     (orLess _ _
     (orLess _ _
-    (orLess _ _
-    (orLess _ _
-    (orLess _ _ (omega arith) (orLess _ _ (omega arith) (omega arith)))
-    (omega arith))
-    (omega arith))
-    (omega arith))
-    (omega arith))
+    (orLess _ _ (orLess _ _ (orLess _ _ fixed (orLess _ _ (small 8 (omega arith)) none-small)) fixed) fixed)
+    fixed)
+    fixed)
 
 pub transitionFault-small : (L : Limits) (s : List ℕ) (n m last entries at : ℕ) → Small (transitionFault L s n m last entries at)
 unfolding transitionFault fixedFaultAt
 transitionFault-small L s n m last entries at =
     either-first Small _ _ (open-small 0x5452 7 s at)
     (either-first Small _ _ (fixedFault-small L n m last entries _ _ _ _)
-    (orLess _ _ (omega arith) (entriesFault-small s n _ _ (at + 7) 0 0)))
+    (orLess _ _ (small 1 (omega arith)) (entriesFault-small s n _ _ (at + 7) 0 0)))
 
 -- a record's fault refuses at its place, or there is none and the next record decides
-pub refuse-cases {κ} : (P : Scan → Type κ) (f : Fault) (place : ℕ) (next : Scan) → ((f .number ≡ 0 → ⊥) → P (refused f place)) → (noFault ≡ f → P next) → P (refuseAt f place next)
+pub refuse-cases {κ} : (P : Scan → Type κ) (f : Fault) (place : ℕ) (next : Scan) → ((f .number ≡ 0 → ⊥) → P (refused f place)) → (Passes f → P next) → P (refuseAt f place next)
 unfolding refuseAt ifSame
 refuse-cases P f place next p q = go (eqb (f .number) 0) refl
   where
     go : (t : Bool) → eqb (f .number) 0 ≡ t → P (cond t next (refused f place))
-    go true e = q (ap fault (sym (eqb-true (f .number) 0 e)))
+    go true e = q (eqb-true (f .number) 0 e)
     go false e = p (eqb-false (f .number) 0 e)
 
 -- what a scan tells of its places: a sound model ends in the file, and a refusal of document 01 is at a place of it
@@ -251,14 +253,19 @@ pub record Sound (L : Limits) (s : List ℕ) (n m count end : ℕ) : Type 0 wher
   pub last : end ≡ placeOf s count
   pub records : (r : ℕ) → r < count → afterTransition s (placeOf s r) ≤ length s
 
-pub record Placed (s : List ℕ) (number place : ℕ) : Type 0 where
-  pub some : 1 ≤ number
-  pub known : number ≤ 9
+pub record Placed (s : List ℕ) (f : Fault) (place : ℕ) : Type 0 where
+  pub some : 1 ≤ f .number
+  pub known : f .number ≤ 9
+  pub told : Told f
   pub inside : place ≤ length s
+
+-- a small fault is told of at its place
+small-placed : (s : List ℕ) (f : Fault) (place : ℕ) → Small f → (Passes f → ⊥) → place ≤ length s → Placed s f place
+small-placed s f place small n inside = record { some = omega arith; known = omega (arith, small .number); told = small .told; inside = inside }
 
 abbrev pub Tells : Limits → List ℕ → Scan → Type 0
 Tells L s (sound n m count end) = Sound L s n m count end
-Tells L s (refused f place) = Placed s (f .number) place
+Tells L s (refused f place) = Placed s f place
 
 -- the records up to r lie in the file
 Inside : List ℕ → ℕ → Type 0
@@ -288,7 +295,7 @@ transitions-tell L s head labels zero r last entries e before inside =
     }
 transitions-tell L s head labels (suc left) r last entries e before inside =
     refuse-cases (Tells L s) (transitionFault L s (statesOf s) (actionsOf s) last entries (placeOf s r)) (placeOf s r) _
-    (λ n. record { some = omega arith; known = omega (arith, transitionFault-small L s (statesOf s) (actionsOf s) last entries (placeOf s r)); inside = inside })
+    (λ n. small-placed s _ _ (transitionFault-small L s (statesOf s) (actionsOf s) last entries (placeOf s r)) n inside)
     (λ f.
     let p = transition-passed L s (statesOf s) (actionsOf s) last entries (placeOf s r) f in
     transitions-tell L s head labels left (suc r) (sourceAt s (placeOf s r)) (entries + entryCountAt s (placeOf s r)) (omega arith)
@@ -297,11 +304,11 @@ transitions-tell L s head labels (suc left) r last entries e before inside =
 pub scan-tells : (L : Limits) (s : List ℕ) → Tells L s (scanModel L s)
 unfolding scanModel placeOf Inside
 scan-tells L s =
-    refuse-cases (Tells L s) (headFault L s) 0 _ (λ n. record { some = omega arith; known = omega (arith, headFault-small L s); inside = omega arith })
+    refuse-cases (Tells L s) (headFault L s) 0 _ (λ n. small-placed s _ _ (headFault-small L s) n (omega arith))
     (λ h.
     let head = head-passed L s h in
     refuse-cases (Tells L s) (labelsFault L s (statesOf s)) 6 _
-    (λ n. record { some = omega arith; known = omega (arith, labelsFault-small L s (statesOf s)); inside = head .whole })
+    (λ n. small-placed s _ _ (labelsFault-small L s (statesOf s)) n (head .whole))
     (λ l.
     let labels = labels-passed L s (statesOf s) l .whole in
     transitions-tell L s head labels (countOf s) 0 0 0 (omega arith) (λ k less. absurd (omega arith)) labels))
@@ -313,7 +320,7 @@ whole-tells L s = go (scanModel L s) (scan-tells L s)
   where
     go : (scan : Scan) → Tells L s scan → Tells L s (refuseBytesLeft s scan)
     go (sound n m count end) t =
-        eitherLess (Tells L s) end (length s) (record { some = omega arith; known = omega arith; inside = t .inside }) t
+        eitherLess (Tells L s) end (length s) (record { some = omega arith; known = omega arith; told = told-fault 9 (omega arith); inside = t .inside }) t
     go (refused f place) t = t
 
 -- The range of an entry's state may be tested after the last entry: states ascend, so once one is not below n neither is the lowest that

@@ -11,15 +11,15 @@ use lib.Signed.{mag}
 use borrow.Author.Tests.{eqb-true, eqb-false}
 use native.Mathlib.Omega.{arith}
 use Rattle.bisimulation.specs.definitions.Choice.{ifSame}
-use Rattle.bisimulation.specs.argument.ChoiceLaws.{less, notLess, same, notSame, isTrue, pastLess, keptLess, keptSame, pastSame, keptTrue}
+use Rattle.bisimulation.specs.argument.ChoiceLaws.{less, notLess, notSame, isTrue}
 use Rattle.bisimulation.specs.definitions.Automaton.{Automaton}
 use Rattle.bisimulation.specs.definitions.Pairs.{Pairs}
 use Rattle.rules.specs.argument.AnyRule.{Decides, Narrow}
 use Rattle.rules.specs.definitions.Bytes.{twoAt, signedAt, twoBytes}
 use Rattle.rules.specs.argument.Standing.{Stands, IsBytes, stands-first, stands-cons, stands-byte, stands-rest, stands-at, mark-stands, after-two, rest-of-two, two-is, two-stands, length-two, length-four, signed-is, signed-stands, signed-small}
 use Rattle.rules.specs.definitions.Certificate.{FileRule, challengerAt, defenderAt, pricesAt, afterRefutation, pairFault, refutationFault}
-use Rattle.rules.specs.definitions.Faults.{fault, noFault, certificateRecord}
-use Rattle.rules.specs.argument.FaultLaws.{no-fault, none-first, first-none, certificate-refuses, opened, opens}
+use Rattle.rules.specs.definitions.Faults.{Passes, certificateRecord}
+use Rattle.rules.specs.argument.FaultLaws.{none-first, first-none, certificate-refuses, opened, opens, pass-on, pass-ifLess, pass-unlessLess, pass-ifSame, pass-unlessTrue}
 use Rattle.rules.specs.definitions.Encoding.{Refutation, complement, priceBytes, pricesBytes, refutationBytes, pricesOf}
 use Rattle.rules.specs.definitions.Accepted.{RuleSays, GoodRefutation}
 use Rattle.rules.specs.argument.EntryLists.{entriesFrom, length-entriesFrom, length-listBytes, entries-stand, entries-read}
@@ -87,19 +87,19 @@ module _ (file : FileRule) (A : Automaton) (C : List ℕ) (R : Pairs) (at : ℕ)
     pub different : defenderAt C at ≢ A .source (challengerAt C at)
     pub related : R (A .source (challengerAt C at)) (defenderAt C at) ≡ true
     pub whole : afterRefutation file A C at ≤ length C
-    pub prices : noFault ≡ file .pricesFault A R (challengerAt C at) (defenderAt C at) (pricesAt C at)
+    pub prices : Passes (file .pricesFault A R (challengerAt C at) (defenderAt C at) (pricesAt C at))
 
-  pub passed : noFault ≡ refutationFault file A C R at → Passed
+  pub passed : Passes (refutationFault file A C R at) → Passed
   unfolding refutationFault pairFault
   passed e =
       let a = none-first _ _ e in
       let b = opened certificateRecord 0x5058 5 C at certificate-refuses (a .0) in
       let d = none-first _ _ (a .1) in
-      let f = keptLess _ (fault 14) (challengerAt C at) (A .transitions) (no-fault 13) (d .0) in
-      let g = keptLess _ (fault 14) (defenderAt C at) (A .states) (no-fault 13) (f .1) in
-      let h = pastSame (fault 14) _ (defenderAt C at) (A .source (challengerAt C at)) (no-fault 13) (g .1) in
-      let i = keptTrue _ (fault 14) (R (A .source (challengerAt C at)) (defenderAt C at)) (no-fault 13) (h .1) in
-      let j = pastLess (fault 11) _ (length C) (afterRefutation file A C at) (no-fault 10) (d .1) in
+      let f = pass-unlessLess _ _ _ _ (d .0) (omega arith) in
+      let g = pass-unlessLess _ _ _ _ (f .1) (omega arith) in
+      let h = pass-ifSame _ _ _ _ (g .1) (omega arith) in
+      let i = pass-unlessTrue _ _ _ (h .1) (omega arith) in
+      let j = pass-ifLess _ _ _ _ (d .1) (omega arith) in
       record {
         mark = b .marked;
         transition = f .0;
@@ -112,7 +112,7 @@ module _ (file : FileRule) (A : Automaton) (C : List ℕ) (R : Pairs) (at : ℕ)
 
 module _ (file : FileRule) (says : RuleSays) (decides : Decides file says) (A : Automaton) (narrow : Narrow A) (C : List ℕ) (R : Pairs) (at : ℕ) where
   -- it is good, and its encoding stands there
-  pub refutation-good : noFault ≡ refutationFault file A C R at → IsBytes C → GoodRefutation says A R (refutationAt file A C at)
+  pub refutation-good : Passes (refutationFault file A C R at) → IsBytes C → GoodRefutation says A R (refutationAt file A C at)
   unfolding refutationAt pricesOf pricesAt
   refutation-good e b =
       let p = passed file A C R at e in
@@ -129,7 +129,7 @@ module _ (file : FileRule) (says : RuleSays) (decides : Decides file says) (A : 
             (decides .refutes A R _ _ _ .0 (p .prices));
       }
 
-  pub refutation-stands : noFault ≡ refutationFault file A C R at → IsBytes C → Stands C at (refutationBytes (refutationAt file A C at))
+  pub refutation-stands : Passes (refutationFault file A C R at) → IsBytes C → Stands C at (refutationBytes (refutationAt file A C at))
   unfolding refutationAt refutationBytes challengerAt defenderAt afterRefutation twoBytes
   refutation-stands e b =
       let p = passed file A C R at e in
@@ -141,7 +141,7 @@ module _ (file : FileRule) (says : RuleSays) (decides : Decides file says) (A : 
       (stands-at (entries-stand ℤ 4 priceBytes length-price C (signedAt C) (price-stands C b) _ (at + 5) (omega arith)) (omega arith)))
       (omega arith)))
 
-  pub refutation-after : noFault ≡ refutationFault file A C R at → afterRefutation file A C at ≡ at + length (refutationBytes (refutationAt file A C at))
+  pub refutation-after : Passes (refutationFault file A C R at) → afterRefutation file A C at ≡ at + length (refutationBytes (refutationAt file A C at))
   unfolding refutationAt afterRefutation
   refutation-after e =
       omega (arith, length-refutation (refutationAt file A C at), length-entriesFrom 4 (signedAt C) (file .priceCount A (challengerAt C at)) (at + 5))
@@ -178,7 +178,7 @@ module _ (file : FileRule) (says : RuleSays) (decides : Decides file says) (A : 
     unfolding refutationBytes twoBytes
     mark-read = two-is C at 0x5058 (omega arith) (stands-first C at (0x50 ∷ 0x58 ∷ []) _ stands)
 
-    prices-good : noFault ≡ file .pricesFault A R (challengerAt C at) (defenderAt C at) (pricesAt C at)
+    prices-good : Passes (file .pricesFault A R (challengerAt C at) (defenderAt C at) (pricesAt C at))
     unfolding pricesAt pricesOf
     prices-good =
         decides .refutes A R (challengerAt C at) (defenderAt C at) (pricesAt C at) .1
@@ -186,15 +186,19 @@ module _ (file : FileRule) (says : RuleSays) (decides : Decides file says) (A : 
         (λ i less. sym (prices-read C (x .prices) (at + 5) (good .fits) prices-there i (subst (λ (k : ℕ). i < k) (sym (decides .priceCount A (challengerAt C at)) ∙ count-read) less)))
         (subst₂ (λ (q u : ℕ). says .refutes A R q u (pricesOf x)) (sym challenger-read) (sym defender-read) (good .refutes)))
 
-    pub refutation-passes : noFault ≡ refutationFault file A C R at
+    pub refutation-passes : Passes (refutationFault file A C R at)
     unfolding refutationFault pairFault
     refutation-passes =
         let l = length-refutation x in
         let i = stands .inside in
-        first-none _ _ (opens certificateRecord 0x5058 5 C at (omega arith) mark-read (omega arith))
+        pass-on
+        (first-none _ _ (opens certificateRecord 0x5058 5 C at (omega arith) mark-read (omega arith))
         (first-none _ _
+        (pass-on
         (less _ (omega (arith, challenger-read, good .transition))
         (less _ (omega (arith, defender-read, good .state))
         (notSame _ (λ e. good .different (sym defender-read ∙ e ∙ ap (A .source) challenger-read))
         (isTrue _ (ap₂ (λ (q u : ℕ). R (A .source q) u) challenger-read defender-read ∙ good .related) refl))))
-        (notLess _ (omega (arith, after-read)) prices-good))
+        refl)
+        (notLess _ (omega (arith, after-read)) refl)))
+        prices-good

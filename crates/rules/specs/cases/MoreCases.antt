@@ -4,6 +4,7 @@ use Prim.Native.Nat.{ℕ}
 use mathlib.Core.Path.{_≡_, refl}
 use mathlib.Core.List.{List, [], _∷_, _++_}
 use lib.ListN.{length, take, drop, set}
+use lib.IntN.{pos, negsuc}
 use native.Mathlib.Omega.{arith}
 use Rattle.bisimulation.specs.definitions.Choice.{ifLess, ifSame, ifTrue, allBelow, both}
 use Rattle.bisimulation.specs.definitions.Sum.{sum, sumℤ}
@@ -15,8 +16,8 @@ use Rattle.rules.specs.definitions.Model.{weightOf, automatonOf}
 use Rattle.rules.specs.definitions.Reading.{statesOf, actionsOf, countOf, rangeFault, headFault, labelFault, labelsFault, sourceAt, actionAt, denominatorAt, entryCountAt, afterTransition, fixedFault, fixedFaultAt, entriesFault, transitionFault, refuseAt, scanTransitions, scanModel, refuseBytesLeft, scanWhole, entriesAt, transitionAt, transitionsAt, modelAt, readingOf, readWhole, placeOf, firstNotBelow, runFirst, runPast, runStart, runEnd}
 use Rattle.bisimulation.specs.definitions.Pairs.{equalLabels, isPair, removed}
 use Rattle.rules.specs.definitions.Certificate.{refutationCount, certificateHeadFault, challengerAt, defenderAt, pricesAt, afterRefutation, pairFault, refutationFault, pairsAfter, blocksAt, numberedFault, sameBlock, agree, pairsFault, blocksFault, kCountAt, afterK, wCountAt, afterFlow, kOf, wOf, flowAt, kFault, wFault, flowFault}
-use Rattle.rules.specs.definitions.Faults.{fault, firstOf, openFault}
-use Rattle.rules.specs.definitions.PlainRule.{byKind, plainPriceCount, priceCondition, allWithAction, allRelated, below, internalPricesFault, externalPricesFault, plainPricesFault, plainInQuestion, allHold, internalEquationsFault, externalEquationsFault, plainEquationsFault, plainRule}
+use Rattle.rules.specs.definitions.Faults.{faultBy, fault, firstOf, openFault}
+use Rattle.rules.specs.definitions.PlainRule.{byKind, plainPriceCount, priceCondition, allWithAction, allRelated, below, lastFault, internalPricesFault, externalPricesFault, plainPricesFault, plainInQuestion, breakFrom, firstBreak, internalEquationsFault, externalEquationsFault, plainEquationsFault, plainRule}
 use Rattle.rules.specs.definitions.Judging.{Judgement, accepted, rejected, rejectAt, questionsOfPair, questionsOfState, questionsFrom, questions, judgeFlows, judgeBlocks, judgeRefutations, judgeCertificate, judgeReading, judge}
 use Rattle.rules.specs.cases.Cases.{modelS, certificateS, Case, between, cases, judged}
 use Rattle.rules.specs.definitions.SoundModel.{Each, sumOver, TransitionRules}
@@ -58,13 +59,19 @@ moreCases =
     -- B 2 2 1 and G 2 1 1 in the first refutation: B(2) is below G(0), and only the pair that it would remove says so
     ∷ record { model = modelS; certificate = set (set (set certificateS 24 2) 28 2) 36 2; expected = rejected (fault 15) 2 4 }
     -- A(2) = 1 in the second refutation
-    ∷ record { model = modelS; certificate = set certificateS 61 1; expected = rejected (fault 16) 2 45 }
+    ∷ record { model = modelS; certificate = set certificateS 61 1; expected = rejected (faultBy 16 2 (pos 0)) 2 45 }
+    -- C3 with A(2) = 2: at 2 the left side has 1 more
+    ∷ record { model = modelS; certificate = set certificateS 20 2; expected = rejected (faultBy 16 2 (pos 1)) 2 4 }
     -- blocks 1 1 2: right pairs, numbered from 1
     ∷ record { model = modelS; certificate = set (set (set certificateS 76 1) 77 1) 78 2; expected = rejected (fault 17) 2 74 }
     -- blocks 0 1 2 and no flows: 0 and 1 are still related
     ∷ record { model = modelS; certificate = take 76 certificateS ++ (0 ∷ 1 ∷ 2 ∷ []); expected = rejected (fault 18) 2 74 }
     -- D 2 in the last flow
-    ∷ record { model = modelS; certificate = set certificateS 114 2; expected = rejected (fault 20) 2 109 }
+    ∷ record { model = modelS; certificate = set certificateS 114 2; expected = rejected (faultBy 20 0 (pos 1)) 2 109 }
+    -- w(2,2) = 2 in the first flow: the equations before the move hold, and after it the one at 2 breaks
+    ∷ record { model = modelS; certificate = set certificateS 108 2; expected = rejected (faultBy 20 2 (negsuc 0)) 2 79 }
+    -- k of the move 2 in it: those at 0 before the move and at 2 after it break
+    ∷ record { model = modelS; certificate = set certificateS 100 2; expected = rejected (faultBy 20 0 (negsuc 0)) 2 79 }
     -- the last flow twice: one more than there are questions
     ∷ record { model = modelS; certificate = certificateS ++ drop 109 certificateS; expected = rejected (fault 22) 2 125 }
     -- state 0 is asked of 1, then of 2: a flow for each, in this order
@@ -91,7 +98,7 @@ pub record FetchCase : Type 0 where
 
 -- number, file and place 0, with a run
 abbrev pub runOf : (start size : ℕ) → Answer
-runOf start size = record { number = 0; file = 0; place = 0; stretchStart = start; stretchLength = size; written = 0 }
+runOf start size = record { number = 0; file = 0; place = 0; stretchStart = start; stretchLength = size; written = 0; state = 0; remainder = pos 0 }
 
 unfoldable pub fetchCases : List FetchCase
 fetchCases =
@@ -109,11 +116,11 @@ pub record OutcomeCase : Type 0 where
   pub before : List ℕ
   pub expected : Outcome
 
--- number, file and place, where the stretch starts and how long it is, the bytes written, and the buffer
+-- number, file and place, where the stretch starts and how long it is, the bytes written, and the buffer; without a state
 abbrev pub outcomeOf : (number file place start size written : ℕ) → List ℕ → Outcome
 outcomeOf number file place start size written after =
     record {
-      answer = record { number = number; file = file; place = place; stretchStart = start; stretchLength = size; written = written };
+      answer = record { number = number; file = file; place = place; stretchStart = start; stretchLength = size; written = written; state = 0; remainder = pos 0 };
       buffer = after;
     }
 
@@ -125,16 +132,26 @@ outcomeCases =
     ∷ record { certificate = certificateS; before = 9 ∷ 8 ∷ []; expected = outcomeOf 10 0 0 0 0 0 (9 ∷ 8 ∷ []) }
     -- C10, the last byte gone: 11 at 109 of 124 bytes, so a stretch of 15, and nothing written
     ∷ record { certificate = take 124 certificateS; before = 9 ∷ 8 ∷ 7 ∷ 6 ∷ 5 ∷ []; expected = outcomeOf 11 2 109 109 15 0 (9 ∷ 8 ∷ 7 ∷ 6 ∷ 5 ∷ []) }
+    -- C6, the first flow with D 2: the answer has the fault's state and remainder
+    ∷ record {
+      certificate = set certificateS 84 2;
+      before = 9 ∷ 8 ∷ 7 ∷ [];
+      expected =
+          record {
+            answer = record { number = 20; file = 2; place = 79; stretchStart = 79; stretchLength = 46; written = 0; state = 1; remainder = pos 1 };
+            buffer = 9 ∷ 8 ∷ 7 ∷ [];
+          };
+    }
     ∷ []
 
 -- the tables, computed case by case, with C1 to C10 once more: a refusal shows the case that fails
 pub more-cases : Each (λ (c : Case). judged c ≡ c .expected) cases × Each (λ (c : FilesCase). judge limits (readWhole limits) plainRule (c .model) (c .certificate) ≡ c .expected) moreCases × Each (λ (c : FetchCase). fetchAnswer limits (c .model) (c .state) ≡ c .expected) fetchCases × Each (λ (c : OutcomeCase). pairOutcome limits (readWhole limits) plainRule writesBlocks modelS (c .certificate) (c .before) ≡ c .expected) outcomeCases
-unfolding ifLess ifSame ifTrue allBelow sum sumℤ arriving leaving overTargets overSources beforeMove afterMove internalMove atTarget priceAt priceOfTargets byteAt twoAt threeAt fourAt signedAt weightOf automatonOf openFault statesOf actionsOf countOf rangeFault headFault labelFault labelsFault sourceAt actionAt denominatorAt entryCountAt afterTransition fixedFault fixedFaultAt entriesFault transitionFault refuseAt scanTransitions scanModel refuseBytesLeft scanWhole entriesAt transitionAt transitionsAt modelAt readingOf readWhole firstOf both equalLabels isPair removed refutationCount certificateHeadFault challengerAt defenderAt pricesAt afterRefutation pairFault refutationFault pairsAfter blocksAt numberedFault sameBlock agree pairsFault blocksFault kCountAt afterK wCountAt afterFlow kOf wOf flowAt kFault wFault flowFault byKind plainPriceCount priceCondition allWithAction allRelated below internalPricesFault externalPricesFault plainPricesFault plainInQuestion allHold internalEquationsFault externalEquationsFault plainEquationsFault rejectAt questionsOfPair questionsOfState questionsFrom questions judgeFlows judgeBlocks judgeRefutations judgeCertificate judgeReading judge modelS certificateS between cases judged oneStep roundTrip blocksOnly stayFlow placeOf firstNotBelow runFirst runPast runStart runEnd refusalIn answerWithoutPlace runAnswer fetchReading fetchAnswer fileOf judgementAnswer unwritten filled judgedOutcome readOutcome pairOutcome Each moreCases fetchCases outcomeCases
+unfolding ifLess ifSame ifTrue allBelow sum sumℤ arriving leaving overTargets overSources beforeMove afterMove internalMove atTarget priceAt priceOfTargets byteAt twoAt threeAt fourAt signedAt weightOf automatonOf openFault statesOf actionsOf countOf rangeFault headFault labelFault labelsFault sourceAt actionAt denominatorAt entryCountAt afterTransition fixedFault fixedFaultAt entriesFault transitionFault refuseAt scanTransitions scanModel refuseBytesLeft scanWhole entriesAt transitionAt transitionsAt modelAt readingOf readWhole firstOf both equalLabels isPair removed refutationCount certificateHeadFault challengerAt defenderAt pricesAt afterRefutation pairFault refutationFault pairsAfter blocksAt numberedFault sameBlock agree pairsFault blocksFault kCountAt afterK wCountAt afterFlow kOf wOf flowAt kFault wFault flowFault byKind plainPriceCount priceCondition allWithAction allRelated below lastFault internalPricesFault externalPricesFault plainPricesFault plainInQuestion breakFrom firstBreak internalEquationsFault externalEquationsFault plainEquationsFault rejectAt questionsOfPair questionsOfState questionsFrom questions judgeFlows judgeBlocks judgeRefutations judgeCertificate judgeReading judge modelS certificateS between cases judged oneStep roundTrip blocksOnly stayFlow placeOf firstNotBelow runFirst runPast runStart runEnd refusalIn answerWithoutPlace runAnswer fetchReading fetchAnswer fileOf judgementAnswer unwritten filled judgedOutcome readOutcome pairOutcome Each moreCases fetchCases outcomeCases
 more-cases = (
   (refl, (refl, (refl, (refl, (refl, (refl, (refl, (refl, (refl, (refl, tt)))))))))),
-  (refl, (refl, (refl, (refl, (refl, (refl, (refl, (refl, (refl, (refl, (refl, tt))))))))))),
+  (refl, (refl, (refl, (refl, (refl, (refl, (refl, (refl, (refl, (refl, (refl, (refl, (refl, (refl, tt)))))))))))))),
   (refl, (refl, (refl, tt))),
-  (refl, (refl, (refl, tt))),
+  (refl, (refl, (refl, (refl, tt)))),
 )
 
 -- 'weights .. add up to d': one weight of 1 with d 2 keeps no model's rules

@@ -4,6 +4,7 @@ use mathlib.Core.Path.{_≡_}
 use mathlib.Core.Logic.{_⊎_}
 use mathlib.Core.List.{List, [], _∷_, _++_}
 use lib.ListN.{length, take, drop, getD}
+use lib.IntN.{ℤ, pos}
 use Rattle.bisimulation.specs.definitions.Choice.{ifLess, unlessLess}
 use Rattle.rules.specs.definitions.Limits.{Limits}
 use Rattle.rules.specs.definitions.Model.{Model}
@@ -13,8 +14,9 @@ use Rattle.rules.specs.definitions.Certificate.{FileRule}
 use Rattle.rules.specs.definitions.Judging.{Judgement, accepted, rejected, Reader, judge}
 use Rattle.rules.specs.definitions.Quotient.{mergedFile}
 
--- 'its number, the file (1 model, 2 certificate) and the byte place', file 3 being a second model; the stretch, or the run of a fetch, by where it starts and how
--- long it is in its file; and how many bytes were written into the lent buffer
+-- 'its number, the file (1 model, 2 certificate) and the byte place', file 3 being a second model; the stretch, or the run of a fetch, by
+-- where it starts and how long it is in its file; how many bytes were written into the lent buffer; and document 02, K2: 'The answer gains
+-- a state and a signed 64-bit remainder'
 pub record Answer : Type 0 where
   pub number : ℕ
   pub file : ℕ
@@ -22,16 +24,27 @@ pub record Answer : Type 0 where
   pub stretchStart : ℕ
   pub stretchLength : ℕ
   pub written : ℕ
+  pub state : ℕ
+  pub remainder : ℤ
 
 -- 'The stretch .. runs from that place to the file's end': a fault in a file of so many bytes
 unfoldable pub refusalIn : Fault → (file place size : ℕ) → Answer
 refusalIn f file place size =
-    record { number = f .number; file = file; place = place; stretchStart = place; stretchLength = size - place; written = 0 }
+    record {
+      number = f .number;
+      file = file;
+      place = place;
+      stretchStart = place;
+      stretchLength = size - place;
+      written = 0;
+      state = f .state;
+      remainder = f .remainder;
+    }
 
 -- 'For 10, 23, 24, acceptance .. file and place are 0 and the stretch is empty': an empty stretch without a file starts at 0
 unfoldable pub answerWithoutPlace : (number written : ℕ) → Answer
 answerWithoutPlace number written =
-    record { number = number; file = 0; place = 0; stretchStart = 0; stretchLength = 0; written = written }
+    record { number = number; file = 0; place = 0; stretchStart = 0; stretchLength = 0; written = written; state = 0; remainder = pos 0 }
 
 -- what the scan of a model file of so many bytes answers by itself
 unfoldable pub scanAnswer : ℕ → Scan → Answer
@@ -60,7 +73,7 @@ stretchOf files a = stretchIn (fileOf files (a .file)) a
 unfoldable pub runAnswer : (start end : ℕ) → Answer
 runAnswer start end =
     ifLess start end
-    (record { number = 0; file = 0; place = 0; stretchStart = start; stretchLength = end - start; written = 0 })
+    (record { number = 0; file = 0; place = 0; stretchStart = start; stretchLength = end - start; written = 0; state = 0; remainder = pos 0 })
     (answerWithoutPlace 0 0)
 
 -- 'fetch, after the model': 24, 'state not below n', for what reading the model gave

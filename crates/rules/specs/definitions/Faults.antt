@@ -1,21 +1,34 @@
 -- Document 01, 'Refused, and where': what is wrong with a record, and how a record is opened.
 use Prim.Native.Nat.{ℕ, _+_}
+use mathlib.Core.Path.{_≡_}
 use mathlib.Core.List.{List}
 use lib.ListN.{length}
+use lib.IntN.{ℤ, pos}
 use Rattle.bisimulation.specs.definitions.Choice.{ifLess, ifSame, unlessSame}
 use Rattle.rules.specs.definitions.Bytes.{twoAt}
 
--- what is wrong with a record: the number of the refusal, 0 for nothing
+-- what is wrong with a record: the number of the refusal, 0 for nothing; and document 02, K2: 'a state and a signed .. remainder', by how
+-- much the equation or the last price condition is off there
 pub record Fault : Type 0 where
   pub number : ℕ
+  pub state : ℕ
+  pub remainder : ℤ
 
--- the fault of a number
+-- the fault of a number with its state and remainder
+abbrev pub faultBy : (number state : ℕ) → (remainder : ℤ) → Fault
+faultBy n state remainder = record { number = n; state = state; remainder = remainder }
+
+-- the fault of a number that has none: 'Otherwise both are 0'
 abbrev pub fault : ℕ → Fault
-fault n = record { number = n }
+fault n = faultBy n 0 (pos 0)
 
 -- nothing wrong
 abbrev pub noFault : Fault
 noFault = fault 0
+
+-- a record passes by the number of its fault
+abbrev pub Passes : Fault → Type 0
+Passes f = f .number ≡ 0
 
 -- the first of two faults in reading order
 unfoldable pub firstOf : Fault → Fault → Fault

@@ -1,16 +1,23 @@
 -- Document 01's own step rule, as what it decides of a certificate file. X, Y and G stand for the prices A, B and G.
-use Prim.Native.Nat.{ℕ, _+_, _*_}
+use Prim.Native.Nat.{ℕ, zero, suc, _+_, _*_}
 use mathlib.Core.Bool.{Bool, true, false}
 use lib.Dec.{eqb}
-use lib.IntN.{ℤ}
+use lib.IntN.{ℤ, subℕ, _-ℤ_}
 use lib.Signed.{leZ, ltZ}
-use Rattle.bisimulation.specs.definitions.Choice.{ifSame, ifTrue, unlessTrue, allBelow}
+use Rattle.bisimulation.specs.definitions.Choice.{ifSame, ifTrue, unlessSame, unlessTrue, allBelow}
 use Rattle.bisimulation.specs.definitions.Automaton.{Automaton}
 use Rattle.bisimulation.specs.definitions.StepRule.{Flow, Sides, beforeMove, afterMove, internalMove, atTarget}
 use Rattle.bisimulation.specs.definitions.Prices.{priceAt, priceOfTargets}
 use Rattle.bisimulation.specs.definitions.Pairs.{Pairs}
 use Rattle.rules.specs.definitions.Certificate.{FileRule}
-use Rattle.rules.specs.definitions.Faults.{Fault, fault, noFault}
+use Rattle.rules.specs.definitions.Faults.{Fault, faultBy, fault, noFault, firstOf}
+
+-- the first of the states left, from v on, at which an equation breaks, with its left side less its right
+unfoldable pub breakFrom : (number : ℕ) → (ℕ → Sides) → (left v : ℕ) → Fault
+breakFrom number e zero v = noFault
+breakFrom number e (suc left) v =
+    unlessSame (e v .left) (e v .right) (faultBy number v (subℕ (e v .left) (e v .right)))
+    (breakFrom number e left (v + 1))
 
 module _ (A : Automaton) where
   -- x for an internal challenger, y for an external one
@@ -37,13 +44,18 @@ module _ (A : Automaton) where
   unfoldable pub below : (ℕ → ℤ) → (ℕ → ℤ) → (q t : ℕ) → Bool
   below X G q t = ltZ (priceAt A X q t) (priceOfTargets A G q)
 
-  -- the price conditions of an internal challenger: 15, 'a price condition other than the last breaks'; 16, 'the last breaks'
+  -- 16, 'the last breaks'; document 02, K2: 't, and the last condition's left side less its right'
+  unfoldable pub lastFault : (ℕ → ℤ) → (ℕ → ℤ) → (q t : ℕ) → Fault
+  lastFault X G q t =
+      unlessTrue (below X G q t) (faultBy 16 t (priceAt A X q t -ℤ priceOfTargets A G q))
+      noFault
+
+  -- the price conditions of an internal challenger: 15, 'a price condition other than the last breaks'; 16
   unfoldable pub internalPricesFault : Pairs → (q t : ℕ) → (X G : ℕ → ℤ) → Fault
   internalPricesFault R q t X G =
       unlessTrue (allWithAction 0 (priceCondition X X)) (fault 15)
       (unlessTrue (allRelated R X G) (fault 15)
-      (unlessTrue (below X G q t) (fault 16)
-      noFault))
+      (lastFault X G q t))
 
   -- those of an external challenger
   unfoldable pub externalPricesFault : Pairs → (q t : ℕ) → (X Y G : ℕ → ℤ) → Fault
@@ -52,8 +64,7 @@ module _ (A : Automaton) where
       (unlessTrue (allWithAction 0 (priceCondition Y Y)) (fault 15)
       (unlessTrue (allWithAction (A .action q) (priceCondition X Y)) (fault 15)
       (unlessTrue (allRelated R Y G) (fault 15)
-      (unlessTrue (below X G q t) (fault 16)
-      noFault))))
+      (lastFault X G q t))))
 
   -- the prices of a record, by the challenger's kind
   unfoldable pub plainPricesFault : Pairs → (q t : ℕ) → (ℕ → ℤ) → Fault
@@ -72,24 +83,22 @@ module _ (A : Automaton) where
       (ifSame layer 2 (eqb (A .action r) 0)
       false)))
 
-  -- an equation holds at each state
-  unfoldable pub allHold : (ℕ → Sides) → Bool
-  allHold e = allBelow (A .states) (λ v. eqb (e v .left) (e v .right))
+  -- an equation at some state breaks; K2: 'the first v', 'the first u'
+  unfoldable pub firstBreak : (number : ℕ) → (ℕ → Sides) → Fault
+  firstBreak number e = breakFrom number e (A .states) 0
 
   -- the equations of an internal challenger: 20, 'an equation at some v breaks'; 21, 'an equation at some u breaks'
   unfoldable pub internalEquationsFault : (q t : ℕ) → Flow → Fault
   internalEquationsFault q t f =
-      unlessTrue (allHold (internalMove A f t)) (fault 20)
-      (unlessTrue (allHold (atTarget A f q)) (fault 21)
-      noFault)
+      firstOf (firstBreak 20 (internalMove A f t))
+      (firstBreak 21 (atTarget A f q))
 
-  -- those of an external challenger
+  -- those of an external challenger; K2: 'the equations before the move first'
   unfoldable pub externalEquationsFault : (q t : ℕ) → Flow → Fault
   externalEquationsFault q t f =
-      unlessTrue (allHold (beforeMove A f t)) (fault 20)
-      (unlessTrue (allHold (afterMove A f)) (fault 20)
-      (unlessTrue (allHold (atTarget A f q)) (fault 21)
-      noFault))
+      firstOf (firstBreak 20 (beforeMove A f t))
+      (firstOf (firstBreak 20 (afterMove A f))
+      (firstBreak 21 (atTarget A f q)))
 
   -- the equations of a record, by the challenger's kind
   unfoldable pub plainEquationsFault : (q t : ℕ) → Flow → Fault

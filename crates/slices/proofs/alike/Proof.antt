@@ -19,12 +19,12 @@ part-hand-back-end c = search needs
 
 hand-back-requires : tie.Need-hand-back-requires
 hand-back-requires c κs =
-    let found = c .before .before .before .before .before in
+    let found = c .before .before .before .before .before .before .before in
     pair-inside _ (found .alike-answer .ensures .answers .outcome .inside)
 
 returns : tie.Need-returns
 returns c =
-    let found = c .before .before .before .before .before .before in
+    let found = c .before .before .before .before .before .before .before .before in
     alike-handed _ _ (found .alike-answer .ensures) (c .hand-back .ensures) refl
 
 pub alike-spec : {M : Type 1} → statement M

@@ -8,10 +8,10 @@ fetch-answer-requires : tie.Need-fetch-answer-requires
 fetch-answer-requires c κs = search needs
 
 hand-back-requires : tie.Need-hand-back-requires
-hand-back-requires c κs = fetch-stretch _ _ (c .before .before .before .fetch-answer .ensures)
+hand-back-requires c κs = fetch-stretch _ _ (c .before .before .before .before .before .fetch-answer .ensures)
 
 returns : tie.Need-returns
-returns c = fetch-handed _ _ (c .before .before .before .before .fetch-answer .ensures) (c .hand-back .ensures)
+returns c = fetch-handed _ _ (c .before .before .before .before .before .before .fetch-answer .ensures) (c .hand-back .ensures)
 
 pub fetch-spec : {M : Type 1} → statement M
 fetch-spec = tie.close (tie.spec fetch-answer-requires hand-back-requires returns)

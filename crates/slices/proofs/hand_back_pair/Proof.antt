@@ -19,13 +19,13 @@ part-hand-back-end : tie.Need-part-hand-back-end
 part-hand-back-end c = search needs
 
 hand-back-requires : tie.Need-hand-back-requires
-hand-back-requires c κs = pair-inside _ (c .before .before .before .before .before .before .answer-pair .ensures .outcome .inside)
+hand-back-requires c κs = pair-inside _ (c .before .before .before .before .before .before .before .before .answer-pair .ensures .outcome .inside)
 
 same-length : tie.Need-same-length
 same-length c = search needs
 
 returns : tie.Need-returns
-returns c = pair-handed _ _ (c .before .before .before .before .before .before .before .answer-pair .ensures) (c .hand-back .ensures) refl
+returns c = pair-handed _ _ (c .before .before .before .before .before .before .before .before .before .answer-pair .ensures) (c .hand-back .ensures) refl
 
 pub hand-back-pair-spec : {M : Type 1} → statement M
 hand-back-pair-spec =

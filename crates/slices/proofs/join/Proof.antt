@@ -19,7 +19,7 @@ part-hand-back-end c = search needs
 
 hand-back-requires : tie.Need-hand-back-requires
 hand-back-requires c κs =
-    let found = c .before .before .before .before .before .before in
+    let found = c .before .before .before .before .before .before .before .before in
     found .join-answer .ensures .outcome .inside
 
 same-length : tie.Need-same-length
@@ -27,7 +27,7 @@ same-length c = search needs
 
 returns : tie.Need-returns
 returns c =
-    let found = c .before .before .before .before .before .before .before in
+    let found = c .before .before .before .before .before .before .before .before .before in
     join-handed (found .join-answer .ensures) (c .hand-back .ensures) refl
 
 pub join-spec : {M : Type 1} → statement M

@@ -1,7 +1,9 @@
 //! The library beside the plain judge: the same answer and the same bytes in every lent buffer and around it, or the pair in hex.
 #![allow(dead_code)] // each test file uses its own part
 
-use crate::plain::{self, AlikeAnswer, Answer};
+use crate::plain::{self, AlikeAnswer, Answer, Broken};
+use std::cmp::Ordering;
+use std::collections::BTreeSet;
 use std::fmt;
 use zolkirta::raw;
 
@@ -77,10 +79,29 @@ pub fn alike(model: &[u8], certificate: &[u8], [count, s, t]: [u32; 3]) -> Alike
     plain
 }
 
-/// How many answers of document 01's three calls had each number, and how many pairs were sent through.
+/// What breaks where a certificate is refused with 16, 20 or 21, and how its left side is to its right.
+pub type Kind = (Broken, Ordering);
+
+/// The kind of an answer for a pair; none for other numbers.
+pub fn kind(answer: Answer, model: &[u8], certificate: &[u8]) -> Option<Kind> {
+    let broken = || plain::broken(model, certificate).expect("a state and a remainder").0;
+    matches!(answer.number, 16 | 20 | 21).then(|| (broken(), answer.remainder.cmp(&0)))
+}
+
+/// Every kind: in 16 the left side is not below, and an equation is off to either side.
+pub fn every_kind() -> BTreeSet<Kind> {
+    let prices = [Ordering::Equal, Ordering::Greater].map(|order| (Broken::LastPrices, order));
+    let equations = [Broken::AtState, Broken::BeforeMove, Broken::AfterMove, Broken::AtTarget];
+    let off = equations.iter().flat_map(|&broken| [(broken, Ordering::Less), (broken, Ordering::Greater)]);
+    off.chain(prices).collect()
+}
+
+/// How many answers of document 01's three calls had each number, of which kinds those of judging were, and how many pairs were sent
+/// through.
 #[derive(Default)]
 pub struct Counts {
     pub answers: [u64; 25],
+    pub kinds: BTreeSet<Kind>,
     pub pairs: u64,
 }
 
@@ -95,7 +116,9 @@ impl Counts {
         self.pairs += 1;
         self.count(fetch(model, state));
         self.count(reduce(model, certificate, out).0);
-        self.count(judge(model, certificate, blocks).0)
+        let answer = self.count(judge(model, certificate, blocks).0);
+        self.kinds.extend(kind(answer, model, certificate));
+        answer
     }
 
     /// Sends a pair through the three calls, with buffers that are long enough. Hands back what judging answers.
@@ -156,12 +179,25 @@ fn lines(name: &str) -> Vec<(String, Vec<String>)> {
     text.lines().map(|line| (line.into(), line.split(' ').map(String::from).collect())).collect()
 }
 
-/// The answer of a line: five fields from its number to the start of a run, and the bytes written.
+/// The answer of a line: five fields from its number to the start of a run, a state and a remainder where it has them, and the bytes
+/// written.
 fn answer(fields: &[String], fetched: bool, out: &[u8]) -> Answer {
     let [number, file, place, stretch_length, run] = [0, 1, 2, 3, 4].map(|i| fields[i].parse().unwrap());
     // A run's start stands in its own field; a stretch starts at its place, and one without a file at 0.
     let stretch_start = if fetched && number == 0 { run } else { place };
-    Answer { number: number as u32, file: file as u32, place, stretch_start, stretch_length, written: out.len() }
+    let (state, remainder) = match &fields[5..] {
+        [state, remainder] => (state.parse().unwrap(), remainder.parse().unwrap()),
+        _ => (0, 0),
+    };
+    Answer { number: number as u32, file: file as u32, place, stretch_start, stretch_length, written: out.len(), state, remainder }
+}
+
+/// An answer as the vectors from before K2 have it, which tell no state and no remainder.
+pub fn before_k2(answer: Answer) -> Answer {
+    match answer.number {
+        16 | 20 | 21 => Answer { state: 0, remainder: 0, ..answer },
+        _ => answer,
+    }
 }
 
 pub fn vectors() -> Vec<Vector> {
@@ -185,6 +221,7 @@ pub fn vectors() -> Vec<Vector> {
 /// One line of the vectors of a request of document 02.
 pub struct Request {
     pub line: String,
+    before_k2: bool,
     pub call: String,
     pub numbers: Vec<u32>,
     pub files: Vec<Vec<u8>>,
@@ -193,17 +230,17 @@ pub struct Request {
     pub outs: Vec<Vec<u8>>,
 }
 
-pub fn requests(name: &str) -> Vec<Request> {
-    lines(name)
-        .into_iter()
-        .map(|(line, field)| {
+pub fn requests() -> Vec<Request> {
+    let named = ["k1", "k2"].into_iter().flat_map(|name| lines(name).into_iter().map(move |line| (name == "k1", line)));
+    named
+        .map(|(before_k2, (line, field))| {
             let outs: Vec<Vec<u8>> = field[11].split(',').map(bytes).collect();
-            assert_eq!(field[8..10], ["0", "0"], "no call answers with a state and a remainder");
             Request {
                 line,
+                before_k2,
                 numbers: field[1].split(',').map(|number| number.parse().unwrap()).collect(),
                 files: field[2].split(',').map(bytes).collect(),
-                answer: answer(&field[3..8], false, &outs[0]),
+                answer: answer(&field[3..10], false, &outs[0]),
                 yes: field[10].parse().unwrap(),
                 call: field[0].clone(),
                 outs,
@@ -212,22 +249,39 @@ pub fn requests(name: &str) -> Vec<Request> {
         .collect()
 }
 
+/// A call with two files and a lent buffer of this length, and what it writes there.
+pub type Lent = fn(&[u8], &[u8], usize) -> (Answer, Vec<u8>);
+
+/// The calls of document 02's vectors.
+pub struct Calls {
+    pub judge: Lent,
+    pub reduce: Lent,
+    pub join: Lent,
+    pub alike: fn(&[u8], &[u8], [u32; 3]) -> AlikeAnswer,
+}
+
+/// By both, which are compared.
+pub const BOTH: Calls = Calls { judge, reduce, join, alike };
+
 impl Request {
     /// Makes the line's call by one of these, and compares what it says with the line.
-    pub fn holds_for(
-        &self,
-        join: impl FnOnce(&[u8], &[u8], usize) -> (Answer, Vec<u8>),
-        alike: impl FnOnce(&[u8], &[u8], [u32; 3]) -> AlikeAnswer,
-    ) {
-        let (told, out) = match (self.call.as_str(), &self.numbers[..], &self.files[..]) {
-            ("join", &[length], [first, second]) => {
-                let (answer, out) = join(first, second, length as usize);
-                (AlikeAnswer { answer, alike: 0 }, out)
+    pub fn holds_for(&self, calls: &Calls) {
+        let lent = |call: Lent, one: &[u8], other: &[u8], length: u32| {
+            let (answer, out) = call(one, other, length as usize);
+            (answer, 0, out)
+        };
+        let (answer, yes, out) = match (self.call.as_str(), &self.numbers[..], &self.files[..]) {
+            ("judge", &[length], [model, certificate]) => lent(calls.judge, model, certificate, length),
+            ("reduce", &[length], [model, certificate]) => lent(calls.reduce, model, certificate, length),
+            ("join", &[length], [first, second]) => lent(calls.join, first, second, length),
+            ("alike", &[count, s, t], [model, certificate]) => {
+                let said = (calls.alike)(model, certificate, [count, s, t]);
+                (said.answer, said.alike, Vec::new())
             }
-            ("alike", &[count, s, t], [model, certificate]) => (alike(model, certificate, [count, s, t]), Vec::new()),
             _ => panic!("no such call: {}", self.line),
         };
-        assert_eq!((told.answer, told.alike, vec![out]), (self.answer, self.yes, self.outs.clone()), "{}", self.line);
+        let answer = if self.before_k2 { before_k2(answer) } else { answer };
+        assert_eq!((answer, yes, vec![out]), (self.answer, self.yes, self.outs.clone()), "{}", self.line);
     }
 }
 

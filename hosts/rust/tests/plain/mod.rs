@@ -1,5 +1,5 @@
-//! Document 01's judge, reduce and fetch and document 02's join and alike (K1) in plain Rust, written from the documents alone: what the
-//! library is compared with.
+//! Document 01's judge, reduce and fetch, document 02's join and alike (K1), and the state and the remainder of 16, 20 and 21 (K2) in
+//! plain Rust, written from the documents alone: what the library is compared with.
 //!
 //! Every sum fits an i64. Weights of a transition add up to at most 65,535, so weights times prices stay below 2^47 and a difference
 //! of two such sums below 2^48. k times d is below 2^48, and a state's equation has at most 768 of them (each layer and transition
@@ -7,8 +7,36 @@
 
 pub use zolkirta::raw::{AlikeAnswer, Answer};
 
+/// What breaks where a refusal has a state and a remainder.
+#[derive(Clone, Copy, Debug, PartialEq, Eq, PartialOrd, Ord)]
+pub enum Broken {
+    LastPrices,
+    /// An equation at v for an internal challenger.
+    AtState,
+    /// Equations at v for an external challenger.
+    BeforeMove,
+    AfterMove,
+    /// An equation at u.
+    AtTarget,
+}
+
+/// What breaks, at which state, and its left side less its right.
+pub type Off = (Broken, usize, i64);
+
 /// A refusal's number and the place of the record at fault.
-type Fault = (u32, usize);
+pub struct Fault {
+    number: u32,
+    place: usize,
+    off: Option<Off>,
+}
+
+fn fault<T>(number: u32, place: usize) -> Result<T, Fault> {
+    Err(Fault { number, place, off: None })
+}
+
+fn off<T>(number: u32, place: usize, broken: Broken, state: usize, remainder: i64) -> Result<T, Fault> {
+    Err(Fault { number, place, off: Some((broken, state, remainder)) })
+}
 
 pub struct Transition<'a> {
     pub place: usize,
@@ -86,13 +114,13 @@ fn four(s: &[u8], at: usize) -> u32 {
 fn record<'a>(file: &'a [u8], at: usize, mark: &[u8; 2], fixed: usize, ends: u32) -> Result<&'a [u8], Fault> {
     let bytes = &file[at..];
     if bytes.len() < 2 {
-        return Err((ends, at));
+        return fault(ends, at);
     }
     if bytes[..2] != *mark {
-        return Err((ends + 1, at));
+        return fault(ends + 1, at);
     }
     if bytes.len() < fixed {
-        return Err((ends, at));
+        return fault(ends, at);
     }
     Ok(bytes)
 }
@@ -102,11 +130,11 @@ pub fn read(file: &[u8]) -> Result<Model<'_>, Fault> {
     let head = record(file, 0, b"PA", 6, 1)?;
     let (n, m, count) = (usize::from(head[2]), head[3], usize::from(two(head, 4)));
     if !(1..=64).contains(&n) || !(1..=32).contains(&m) || count > 256 {
-        return Err((3, 0));
+        return fault(3, 0);
     }
     let labels = &record(file, 6, b"LB", 2 + n, 1)?[2..2 + n];
     if labels.iter().any(|&label| label > 63) {
-        return Err((4, 6));
+        return fault(4, 6);
     }
     let mut transitions: Vec<Transition> = Vec::with_capacity(count);
     let (mut at, mut last_source, mut total) = (8 + n, 0, 0);
@@ -114,34 +142,34 @@ pub fn read(file: &[u8]) -> Result<Model<'_>, Fault> {
         let bytes = record(file, at, b"TR", 7, 1)?;
         let (source, action, d, c) = (usize::from(bytes[2]), bytes[3], i64::from(two(bytes, 4)), usize::from(bytes[6]));
         if source < last_source || source >= n || action >= m || d == 0 || c == 0 || c > n {
-            return Err((5, at));
+            return fault(5, at);
         }
         total += c;
         if total > 1024 {
-            return Err((8, at));
+            return fault(8, at);
         }
         let size = 7 + 3 * c;
         if bytes.len() < size {
-            return Err((1, at));
+            return fault(1, at);
         }
         let transition = Transition { place: at, source, action, d, entries: &bytes[7..size] };
         let (mut lowest, mut sum) = (0, 0);
         for (state, weight) in transition.weights() {
             if state < lowest || state >= n || weight == 0 {
-                return Err((6, at));
+                return fault(6, at);
             }
             lowest = state + 1;
             sum += weight;
         }
         if sum != d {
-            return Err((7, at));
+            return fault(7, at);
         }
         transitions.push(transition);
         last_source = source;
         at += size;
     }
     if at < file.len() {
-        return Err((9, at));
+        return fault(9, at);
     }
     Ok(Model { m, labels, transitions })
 }
@@ -152,18 +180,18 @@ fn refutation(model: &Model, related: &Related, file: &[u8], at: usize) -> Resul
     let bytes = record(file, at, b"PX", 5, 11)?;
     let (challenger, t) = (usize::from(two(bytes, 2)), usize::from(bytes[4]));
     if challenger >= model.transitions.len() || t >= n {
-        return Err((14, at));
+        return fault(14, at);
     }
     let challenger = &model.transitions[challenger];
     let s = challenger.source;
     if t == s || !related.holds(s, t) {
-        return Err((14, at));
+        return fault(14, at);
     }
     let external = challenger.action != 0;
     let count = if external { 3 * n } else { 2 * n };
     let size = 5 + 4 * count;
     if bytes.len() < size {
-        return Err((11, at));
+        return fault(11, at);
     }
     let mut prices = [0; 3 * 64];
     for (price, field) in prices.iter_mut().zip(bytes[5..size].chunks_exact(4)) {
@@ -173,23 +201,30 @@ fn refutation(model: &Model, related: &Related, file: &[u8], at: usize) -> Resul
     let (a, b, g) = (&prices[..n], &prices[count - 2 * n..count - n], &prices[count - n..count]);
     for r in &model.transitions {
         if r.action == 0 && (r.d * a[r.source] < r.price(a) || external && r.d * b[r.source] < r.price(b)) {
-            return Err((15, at));
+            return fault(15, at);
         }
         if external && r.action == challenger.action && r.d * a[r.source] < r.price(b) {
-            return Err((15, at));
+            return fault(15, at);
         }
     }
     for v in 0..n {
         for u in 0..n {
             if related.holds(v, u) && b[v] < g[u] {
-                return Err((15, at));
+                return fault(15, at);
             }
         }
     }
-    if challenger.d * a[t] >= challenger.price(g) {
-        return Err((16, at));
+    let remainder = challenger.d * a[t] - challenger.price(g);
+    if remainder >= 0 {
+        return off(16, at, Broken::LastPrices, t, remainder);
     }
     Ok((s, t, at + size))
+}
+
+/// The first remainder that is not 0, and where it stands. Apart from the test whether there is one, which every flow takes.
+#[cold]
+fn first_broken(remainders: &[i64]) -> (usize, i64) {
+    remainders.iter().copied().enumerate().find(|&(_, x)| x != 0).expect("an equation that breaks")
 }
 
 /// Judges the flow at a place for a challenger and its defender, refusals 11, 12 and 19 to 21: the place after it.
@@ -198,11 +233,11 @@ fn flow(model: &Model, related: &Related, file: &[u8], challenger: &Transition, 
     let bytes = record(file, at, b"FL", 8, 11)?;
     let (big, k_count) = (i64::from(four(bytes, 2)), usize::from(two(bytes, 6)));
     if big == 0 {
-        return Err((19, at));
+        return fault(19, at);
     }
     let middle = 8 + 7 * k_count;
     if bytes.len() < middle {
-        return Err((11, at));
+        return fault(11, at);
     }
     let external = challenger.action != 0;
     // What arrives at each state less what leaves it: [0] before the move, [1] after it.
@@ -212,7 +247,7 @@ fn flow(model: &Model, related: &Related, file: &[u8], challenger: &Transition, 
     for e in bytes[8..middle].chunks_exact(7) {
         let (layer, r, k) = (e[0], usize::from(two(e, 1)), i64::from(four(e, 3)));
         if last >= Some((layer, r)) || r >= model.transitions.len() || k == 0 {
-            return Err((19, at));
+            return fault(19, at);
         }
         last = Some((layer, r));
         let r = &model.transitions[r];
@@ -220,7 +255,7 @@ fn flow(model: &Model, related: &Related, file: &[u8], challenger: &Transition, 
             0 if r.action == 0 => (0, 0),
             1 if external && r.action == challenger.action => (0, 1),
             2 if external && r.action == 0 => (1, 1),
-            _ => return Err((19, at)),
+            _ => return fault(19, at),
         };
         left[from][r.source] -= k * r.d;
         for (v, p) in r.weights() {
@@ -228,11 +263,11 @@ fn flow(model: &Model, related: &Related, file: &[u8], challenger: &Transition, 
         }
     }
     if bytes.len() < middle + 2 {
-        return Err((11, at));
+        return fault(11, at);
     }
     let size = middle + 2 + 6 * usize::from(two(bytes, middle));
     if bytes.len() < size {
-        return Err((11, at));
+        return fault(11, at);
     }
     let stays = usize::from(external);
     let mut onto = [0; 64];
@@ -240,21 +275,24 @@ fn flow(model: &Model, related: &Related, file: &[u8], challenger: &Transition, 
     for e in bytes[middle + 2..size].chunks_exact(6) {
         let (v, u, w) = (usize::from(e[0]), usize::from(e[1]), i64::from(four(e, 2)));
         if last >= Some((v, u)) || v >= n || u >= n || !related.holds(v, u) || w == 0 {
-            return Err((19, at));
+            return fault(19, at);
         }
         last = Some((v, u));
         left[stays][v] -= w;
         onto[u] += w;
     }
     if left.as_flattened().iter().any(|&x| x != 0) {
-        return Err((20, at));
+        let (i, remainder) = first_broken(left.as_flattened());
+        let broken = if !external { Broken::AtState } else if i < 64 { Broken::BeforeMove } else { Broken::AfterMove };
+        return off(20, at, broken, i % 64, remainder);
     }
     let mut wanted = [0; 64];
     for (u, p) in challenger.weights() {
         wanted[u] = p * big;
     }
     if onto.iter().zip(&wanted).any(|(w, wanted)| challenger.d * w != *wanted) {
-        return Err((21, at));
+        let (u, remainder) = first_broken(&std::array::from_fn::<i64, 64, _>(|u| challenger.d * onto[u] - wanted[u]));
+        return off(21, at, Broken::AtTarget, u, remainder);
     }
     Ok(at + size)
 }
@@ -264,7 +302,7 @@ fn certificate<'a>(model: &Model, file: &'a [u8]) -> Result<&'a [u8], Fault> {
     let n = model.n();
     let count = two(record(file, 0, b"CT", 4, 11)?, 2);
     if count > 2016 {
-        return Err((13, 0));
+        return fault(13, 0);
     }
     let mut related = Related::new(model.labels);
     let mut at = 4;
@@ -277,7 +315,7 @@ fn certificate<'a>(model: &Model, file: &'a [u8]) -> Result<&'a [u8], Fault> {
     let mut seen = 0;
     for &block in blocks {
         if block > seen {
-            return Err((17, at));
+            return fault(17, at);
         }
         if block == seen {
             seen += 1;
@@ -286,7 +324,7 @@ fn certificate<'a>(model: &Model, file: &'a [u8]) -> Result<&'a [u8], Fault> {
     for v in 0..n {
         for u in 0..n {
             if (blocks[v] == blocks[u]) != related.holds(v, u) {
-                return Err((18, at));
+                return fault(18, at);
             }
         }
     }
@@ -300,7 +338,7 @@ fn certificate<'a>(model: &Model, file: &'a [u8]) -> Result<&'a [u8], Fault> {
         }
     }
     if at < file.len() {
-        return Err((22, at));
+        return fault(22, at);
     }
     Ok(blocks)
 }
@@ -368,8 +406,9 @@ fn joined(first: &Model, second: &Model) -> Option<Vec<u8>> {
 }
 
 /// A refusal in a file, with the stretch from its place to the file's end.
-fn refused(file: u32, bytes: &[u8], (number, place): Fault) -> Answer {
-    Answer { number, file, place, stretch_start: place, stretch_length: bytes.len() - place, written: 0 }
+fn refused(file: u32, bytes: &[u8], Fault { number, place, off }: Fault) -> Answer {
+    let (state, remainder) = off.map_or((0, 0), |(_, state, remainder)| (state as u32, remainder));
+    Answer { number, file, place, stretch_start: place, stretch_length: bytes.len() - place, written: 0, state, remainder }
 }
 
 /// An answer without a file.
@@ -402,6 +441,11 @@ fn judged<'a>(model: &'a [u8], certificate_file: &'a [u8], room: usize) -> Resul
     }
     let blocks = certificate(&sound, certificate_file).map_err(|fault| refused(2, certificate_file, fault))?;
     Ok((sound, blocks))
+}
+
+/// What breaks in a certificate that is refused with 16, 20 or 21.
+pub fn broken(model: &[u8], certificate_file: &[u8]) -> Option<Off> {
+    certificate(&read(model).ok()?, certificate_file).err()?.off
 }
 
 /// Judges a certificate for a model; on acceptance the blocks stand first in the buffer.

@@ -17,6 +17,7 @@ pub mod CertificateKept
 pub mod AcceptedExactly
 pub mod Numbers
 pub mod BreakLaws
+pub mod BreakOrder
 pub mod PlainDecides
 pub mod LargestBlocks
 pub mod Demand3Holds

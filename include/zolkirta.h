@@ -19,8 +19,8 @@
 #include <stddef.h>
 #include <stdint.h>
 
-#define ZOLKIRTA_VERSION "0.3.0"
-#define ZOLKIRTA_VERSION_NUMBER 300 /* major * 10000 + minor * 100 + patch */
+#define ZOLKIRTA_VERSION "0.4.0"
+#define ZOLKIRTA_VERSION_NUMBER 400 /* major * 10000 + minor * 100 + patch */
 
 /* The most states that a model has: a block buffer of this length is always long enough. */
 #define ZOLKIRTA_STATES 64
@@ -108,7 +108,8 @@ zolkirta_answer zolkirta_fetch(const uint8_t *model, size_t model_length, uint32
 zolkirta_answer zolkirta_judge(const uint8_t *model, size_t model_length, const uint8_t *certificate, size_t certificate_length,
                                uint8_t *blocks, size_t blocks_length);
 
-/* Judges a certificate for a model and writes the model with each block merged into one state. Number 0: accepted, and the first
+/* Judges a certificate for a model and writes the model with each block merged into one state. Of the transitions of a block with one
+ * action and the same probabilities, in whatever terms, the first is kept, in its own terms. Number 0: accepted, and the first
  * `written` bytes of `out` are the merged model's file, which is no longer than the model's; its later bytes stay. Else a refusal,
  * which writes nothing: 1 to 9 in the model (file 1), 11 to 22 in the certificate (file 2), and 23 where the certificate is accepted
  * and `out` is shorter than the file (no file, no place). */

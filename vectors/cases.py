@@ -2,11 +2,12 @@
 """Writes crates/cases/data/cases and crates/cases/stdout: the cases, and what the program must print for them.
 
 C1 to C10 of document 01; the cases that it lists under 'Also run', files of the most bytes that the program reads, a pair with states
-that reach a move only by internal steps, models joined at the limits, and every truncation of model S, with their answers by hand; and the
-lines of base.txt and k1.txt with the answers that stand there, but for refusals 10, 23 and 26: the program lends buffers that are always
-long enough.
+that reach a move only by internal steps, transitions that are the same in other terms, models joined at the limits, and every truncation of
+model S, with their answers by hand; and the lines of base.txt, k1.txt and k3.txt with the answers that stand there, but for refusals 10, 23
+and 26: the program lends buffers that are always long enough. Merged models of base.txt, which is older than K3, lose what K3 drops.
 """
 import os
+from fractions import Fraction
 
 from files import FIRST, MEETS, S, S_CERTIFICATE, SECOND, STAYS, certificate, flow, model, refutation
 
@@ -134,6 +135,32 @@ def internal_steps():
     yield refused(chain, certificate(split, (0, 1, 1, 1), []), 15, 2, 4)
 
 
+def halves_and_quarters():
+    """Transitions of one block in other terms (K3). No two states are alike, but for the last pair's first two."""
+    half, quarters = [(0, 1), (1, 1)], [(0, 2), (1, 2)]
+
+    def merged(transitions, kept):
+        files = [model(3, 3, (0, 1, 2), x) for x in (transitions, kept)]
+        return reduce(files[0], certificate([], (0, 1, 2), []), (0, 0, 0), files[1])
+
+    yield merged([(0, 1, 2, half), (0, 1, 4, quarters)], [(0, 1, 2, half)])
+    yield merged([(0, 1, 4, quarters), (0, 1, 2, half)], [(0, 1, 4, quarters)])
+    shares = [(0, 1, 2, half), (0, 1, 4, [(0, 1), (1, 3)]), (0, 1, 4, [(0, 3), (1, 1)]), (0, 1, 2, [(0, 2)]), (0, 1, 2, [(1, 2)])]
+    shares += [(0, 1, 2, [(0, 1), (2, 1)]), (0, 1, 4, [(0, 2), (1, 1), (2, 1)])]
+    yield merged(shares, shares)
+    yield merged(shares + [(0, 1, 6, [(0, 3), (1, 3)])], shares)
+    yield merged([(0, 1, 6, [(0, 2), (1, 4)]), (0, 1, 9, [(0, 3), (1, 6)])], [(0, 1, 6, [(0, 2), (1, 4)])])
+    # products that are the same in two bytes, and fractions that hardly differ
+    near = [(0, 1, 256, [(0, 200), (1, 56)]), (0, 1, 512, [(0, 144), (1, 368)])]
+    near += [(0, 1, 65535, [(0, 32768), (1, 32767)]), (0, 1, 65533, [(0, 32767), (1, 32766)])]
+    yield merged(near, near)
+    actions = [(0, 2, 4, quarters), (0, 1, 2, half)]
+    yield merged(actions, actions)
+    both = model(3, 2, (0, 0, 1), [(0, 1, 2, [(0, 1), (2, 1)]), (1, 1, 4, [(1, 2), (2, 2)])])
+    flows = [flow(4, [(1, 1, 1)], [(1, 0, 2), (2, 2, 2)]), flow(2, [(1, 0, 1)], [(0, 1, 1), (2, 2, 1)])]
+    yield reduce(both, certificate([], (0, 0, 1), flows), (0, 0, 0), model(2, 2, (0, 1), [(0, 1, 2, half)]))
+
+
 def truncations():
     for size in range(len(S)):
         yield unsound(S[:size], 1, 0 if size < 6 else 6 if size < 11 else 11 if size < 21 else 21)
@@ -190,16 +217,35 @@ def joined_at_the_limits():
     yield join(wide(full), wide(full + [(16, 0, 1, [(0, 1)])]), (25, 0, 0))
 
 
-def from_requests():
-    for line in open(os.path.join(HERE, 'k1.txt')):
+def request_lines(name):
+    for line in open(os.path.join(HERE, name)):
         call, arguments, files, *numbers, outs = line.split()
         first, second = (b'' if x == '-' else bytes.fromhex(x) for x in files.split(','))
         number, file, place, stretch, run, state, remainder, yes = map(int, numbers)
-        answer = number, file, place
-        if call == 'join' and number != 26:
-            yield join(first, second, answer, b'' if outs == '-' else bytes.fromhex(outs))
+        out = b'' if outs == '-' else bytes.fromhex(outs)
+        yield call, tuple(map(int, arguments.split(','))), first, second, (number, file, place), yes, out
+
+
+def from_requests():
+    for call, arguments, first, second, answer, yes, out in (*request_lines('k1.txt'), *request_lines('k3.txt')):
+        if call == 'join' and answer[0] != 26:
+            yield join(first, second, answer, out)
         if call == 'alike':
-            yield alike(first, second, tuple(map(int, arguments.split(','))), answer, yes == 1)
+            yield alike(first, second, arguments, answer, yes == 1)
+        if call == 'reduce' and answer[0] != 23:
+            yield reduce(first, second, answer, out)
+
+
+def as_fractions(merged):
+    """A merged model from before K3 without the transitions that are the same as an earlier one of their block as fractions."""
+    n = merged[2]
+    at, kept = 8 + n, {}
+    while at < len(merged):
+        d, end = int.from_bytes(merged[at + 4:at + 6], 'big'), at + 7 + 3 * merged[at + 6]
+        shares = tuple((merged[e], Fraction(int.from_bytes(merged[e + 1:e + 3], 'big'), d)) for e in range(at + 7, end, 3))
+        kept.setdefault((merged[at + 2:at + 4], shares), merged[at:end])
+        at = end
+    return merged[:4] + len(kept).to_bytes(2, 'big') + merged[6:8 + n] + b''.join(kept.values())
 
 
 def from_vectors():
@@ -216,7 +262,7 @@ def from_vectors():
         if call == 'judge' and number != 10:
             yield judge(m, c, answer, out)
         if call == 'reduce' and number != 23:
-            yield reduce(m, c, answer, out)
+            yield reduce(m, c, answer, as_fractions(out) if number == 0 else out)
         # and its model by itself
         yield unsound(m, number, place) if file == 1 else no_state(m, ABSENT)
 
@@ -224,7 +270,7 @@ def from_vectors():
 def all_cases():
     """Each case once: where two sources have one case, they must agree."""
     found = {}
-    for source in (proved_cases(), pairs_also_run(), internal_steps(), models_also_run(), truncations(), from_vectors(), joined_at_the_limits(), from_requests()):
+    for source in (proved_cases(), pairs_also_run(), internal_steps(), halves_and_quarters(), models_also_run(), truncations(), from_vectors(), joined_at_the_limits(), from_requests()):
         for data, text in source:
             assert found.setdefault(data, text) == text
     return found

@@ -1,6 +1,7 @@
 #!/usr/bin/env python3
 """Writes data/ and stdout of crates/reduce_pair, the small pair S, and of crates/reduce_repeats: a pair whose merged model drops
-repeated transitions, keeps an equal one of another block, joins two targets, and changes the order. The merged models are by hand.
+repeated transitions, one of them in other terms, keeps an equal one of another block, joins two targets, and changes the order. The merged
+models are by hand.
 """
 import os
 
@@ -12,6 +13,7 @@ REPEATS = model(5, 3, (5, 7, 5, 7, 9), [
     (0, 1, 4, [(1, 1), (3, 1), (4, 2)]),
     (0, 2, 1, [(4, 1)]),
     (1, 2, 1, [(4, 1)]),
+    (2, 0, 1, [(0, 1)]),
     (2, 1, 4, [(1, 2), (4, 2)]),
     (2, 1, 2, [(3, 1), (4, 1)]),
     (2, 2, 1, [(4, 1)]),
@@ -24,9 +26,10 @@ def one_step(d, transition, k, *ws):
 
 
 MEETS_REPEATS = certificate([], (0, 1, 0, 1, 2), [
-    one_step(4, 3, 1, (1, 1, 1), (1, 3, 1), (4, 4, 2)),
-    one_step(1, 5, 1, (4, 4, 1)),
+    one_step(4, 4, 1, (1, 1, 1), (1, 3, 1), (4, 4, 2)),
     one_step(1, 6, 1, (4, 4, 1)),
+    one_step(1, 7, 1, (4, 4, 1)),
+    flow(1, [], [(0, 0, 1)]),
     one_step(4, 0, 1, (1, 1, 1), (3, 1, 1), (4, 4, 2)),
     one_step(4, 0, 1, (1, 3, 1), (3, 3, 1), (4, 4, 2)),
     one_step(1, 1, 1, (4, 4, 1)),
@@ -36,7 +39,7 @@ MEETS_REPEATS = certificate([], (0, 1, 0, 1, 2), [
 MERGED = model(3, 3, (5, 7, 9), [
     (0, 1, 4, [(1, 2), (2, 2)]),
     (0, 2, 1, [(2, 1)]),
-    (0, 1, 2, [(1, 1), (2, 1)]),
+    (0, 0, 1, [(0, 1)]),
     (1, 2, 1, [(2, 1)]),
 ])
 

@@ -10,3 +10,4 @@ pub mod Rule
 pub mod PairsLeft
 pub mod Blocks
 pub mod Largest
+pub mod StandsFor

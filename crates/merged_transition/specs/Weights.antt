@@ -32,9 +32,10 @@ pub record CanAdd (s places : List ℕ) (r : ℕ) (blocks weights : List ℕ) : 
   pub below : (v : ℕ) → v < statesOf s → getD blocks v 0 < limits .states
   pub none : NoWeights weights
 
--- the table has the weights of the entries, added up by target block
-pub record WeightsOf (blocks : List ℕ) (es : List Entry) (weights : List ℕ) : Type 0 where
+-- the table has the weights of the entries, added up by target block, and so many blocks have one
+pub record WeightsOf (blocks : List ℕ) (es : List Entry) (weights : List ℕ) (count : ℕ) : Type 0 where
   pub size : length weights ≡ limits .states
+  pub counted : count ≡ length (weightEntries (weightIn weights) (limits .states))
   pub held : (b : ℕ) → b < limits .states → weightIn weights b ≡ weightToBlock blocks es b
 
 -- a table, and the first k of its blocks
@@ -56,9 +57,10 @@ pub record WroteEntry (b : ℕ) (before after : List ℕ) (at : ℕ) (out writte
   pub gone : weightIn after b ≡ 0
   pub kept : (i : ℕ) → (i ≡ b → ⊥) → weightIn after i ≡ weightIn before i
 
--- the same for the first k blocks
-pub record CanWriteEntries (weights : List ℕ) (k : ℕ) (out : List ℕ) (at : ℕ) : Type 0 where
+-- the same for the first k blocks, of which so many have a weight
+pub record CanWriteEntries (weights : List ℕ) (k count : ℕ) (out : List ℕ) (at : ℕ) : Type 0 where
   pub table : CanCount weights k
+  pub counted : count ≡ length (weightEntries (weightIn weights) k)
   pub light : (b : ℕ) → b < k → weightIn weights b < 65536
   pub room : at + 3 * length (weightEntries (weightIn weights) k) ≤ length out
 

@@ -4,7 +4,7 @@ use mathlib.Core.Path.{_≡_, refl, sym, _∙_, ap, ap₂, subst}
 use mathlib.Core.List.{List, [], _∷_, _++_, append-assoc, append-nil}
 use lib.ListN.{length, getD, set, length-set, length-append, replicate, length-replicate, getD-replicate}
 use lib.Seq.{getD-set-same, getD-set-other}
-use native.Mathlib.Decide.{ℕ-discrete}
+use native.Mathlib.Decide.{ℕ-discrete, decLt}
 use native.Mathlib.Omega.{arith}
 use Rattle.bisimulation.specs.definitions.Choice.{ifSame}
 use Rattle.bisimulation.specs.argument.ChoiceLaws.{same, notSame, eitherSame}
@@ -45,79 +45,6 @@ weight-past blocks n k below (e ∷ es) known b h =
     let there = below (e .state) (known .0) in
     let here : 0 ≡ ifSame (getD blocks (e .state) 0) b (e .weight) 0 = notSame (e .weight) (λ q. absurd (omega arith)) refl in
     omega (arith, here, weight-past blocks n k below es (known .1) b h)
-
--- what is known before each entry of a transition: the weights so far and the entries left make up the whole
-pub record Adding (s blocks : List ℕ) (all : List Entry) (weights : List ℕ) (left at : ℕ) : Type 0 where
-  pub inside : at + 3 * left ≤ length s
-  pub states : Each (λ (e : Entry). e .state < length blocks) (entriesAt s left at)
-  pub below : (v : ℕ) → v < length blocks → getD blocks v 0 < limits .states
-  pub size : length weights ≡ limits .states
-  pub makesUp : (b : ℕ) → b < limits .states → weightIn weights b + weightToBlock blocks (entriesAt s left at) b ≡ weightToBlock blocks all b
-  pub light : (b : ℕ) → weightToBlock blocks all b ≤ 65535
-
-pub adding-start : {s places blocks weights : List ℕ} {r : ℕ} → CanAdd s places r blocks weights → {f : Fields} → FieldsOf s r f → Adding s blocks (entriesOf s r) weights (f .count) (f .entries .at)
-adding-start {s} {places} {blocks} {weights} {r} a {f} t =
-    let k = entries-known (a .transition) in
-    subst (λ (n : ℕ). Adding s blocks (entriesOf s r) weights n (f .entries .at)) (sym (t .count))
-    (subst (λ (p : ℕ). Adding s blocks (entriesOf s r) weights (entryCountAt s (placeOf s r)) p) (sym (t .entries))
-    (record {
-      inside = k .inside;
-      states = subst (λ (n : ℕ). Each (λ (e : Entry). e .state < n) (entriesOf s r)) (sym (a .whole)) (k .states);
-      below = λ v h. a .below v (omega (arith, h, a .whole));
-      size = a .none .size;
-      makesUp = λ b h. omega (arith, a .none .none b h);
-      light = λ b. omega (arith, weight-light blocks (entriesOf s r) b, k .whole, k .light);
-    }))
-
-module _ {s blocks : List ℕ} {all : List Entry} where
-  pub adding-state : (left : ℕ) {at : ℕ} {weights : List ℕ} {e : read.Entry} → Adding s blocks all weights left at → 0 < left → EntryTaken s at e → e .state < length blocks
-  unfolding Each entriesAt
-  adding-state zero h some t = absurd (omega arith)
-  adding-state (suc left) h some t = omega (arith, h .states .0, t .state)
-
-  pub adding-block : (left : ℕ) {at : ℕ} {weights : List ℕ} {e : read.Entry} {b : ℕ} → Adding s blocks all weights left at → 0 < left → EntryTaken s at e → b ≡ getD blocks (e .state) 0 → b < limits .states
-  adding-block left {e = e} h some t q = omega (arith, h .below (e .state) (adding-state left h some t), q)
-
-  pub adding-fits : {left at : ℕ} {weights : List ℕ} {b : ℕ} → Adding s blocks all weights left at → b < limits .states → weightIn weights b ≤ 65535
-  adding-fits {b = b} h less = omega (arith, h .makesUp b less, h .light b)
-
-  one-turn : (left at : ℕ) (weights : List ℕ) (e : read.Entry) (b total : ℕ) → Adding s blocks all weights (suc left) at → EntryTaken s at e → b ≡ getD blocks (e .state) 0 → total ≡ weightIn weights b + e .weight → Adding s blocks all (set weights b total) left (at + 3)
-  unfolding Each entriesAt weightToBlock
-  one-turn left at weights e b total h t q u =
-      record {
-        inside = omega (arith, h .inside);
-        states = h .states .1;
-        below = h .below;
-        size = length-set weights b total ∙ h .size;
-        makesUp = λ i less. go i less (ℕ-discrete i b);
-        light = h .light;
-      }
-    where
-      there : b ≡ getD blocks (byteAt s at) 0
-      there = q ∙ ap (λ (v : ℕ). getD blocks v 0) (t .state)
-
-      go : (i : ℕ) → i < limits .states → Dec (i ≡ b) → weightIn (set weights b total) i + weightToBlock blocks (entriesAt s left (at + 3)) i ≡ weightToBlock blocks all i
-      go i less (yes p) =
-          let here : twoAt s (at + 1) ≡ ifSame (getD blocks (byteAt s at) 0) i (twoAt s (at + 1)) 0 = same 0 (sym there ∙ sym p) refl in
-          let new : weightIn (set weights b total) i ≡ total = ap (weightIn (set weights b total)) p ∙ getD-set-same weights b total 0 (omega (arith, less, p, h .size)) in
-          let old : weightIn weights i ≡ weightIn weights b = ap (weightIn weights) p in
-          omega (arith, h .makesUp i less, here, new, old, u, t .weight)
-      go i less (no p) =
-          let here : 0 ≡ ifSame (getD blocks (byteAt s at) 0) i (twoAt s (at + 1)) 0 = notSame _ (λ d. p (sym d ∙ sym there)) refl in
-          omega (arith, h .makesUp i less, here, getD-set-other weights b i total 0 p)
-
-  pub adding-turn : (left : ℕ) {at : ℕ} {weights : List ℕ} {e : read.Entry} {b total : ℕ} → Adding s blocks all weights left at → 0 < left → EntryTaken s at e → b ≡ getD blocks (e .state) 0 → total ≡ weightIn weights b + e .weight → Adding s blocks all (set weights b total) (left - 1) (e .next .at)
-  adding-turn zero h some t q u = absurd (omega arith)
-  adding-turn (suc left) {at} {weights} {e} {b} {total} h some t q u =
-      let one : left ≡ suc left - 1 = omega arith in
-      subst (λ (k : ℕ). Adding s blocks all (set weights b total) k (e .next .at)) one
-      (subst (λ (p : ℕ). Adding s blocks all (set weights b total) left p) (sym (t .next))
-      (one-turn left at weights e b total h t q u))
-
-  pub adding-end : (left : ℕ) {at : ℕ} {weights : List ℕ} → Adding s blocks all weights left at → left ≤ 0 → WeightsOf blocks all weights
-  unfolding entriesAt weightToBlock
-  adding-end zero h none = record { size = h .size; held = λ b less. omega (arith, h .makesUp b less) }
-  adding-end (suc left) h none = absurd (omega arith)
 
 -- the entries by weights that are the same
 pub entries-same : (f g : ℕ → ℕ) (k : ℕ) → ((b : ℕ) → b < k → f b ≡ g b) → weightEntries f k ≡ weightEntries g k
@@ -206,51 +133,159 @@ entries-shorter s blocks k (suc left) at =
         let here : 0 ≡ ifSame (getD blocks (byteAt s at) 0) b (twoAt s (at + 1)) 0 = notSame (twoAt s (at + 1)) (λ q. o (sym q)) refl in
         omega (arith, here)
 
--- what is known before each block that is counted, from the last one down: the count and the blocks left make up the whole
-pub record Counting (weights : List ℕ) (k b count : ℕ) : Type 0 where
-  pub table : CanCount weights k
-  pub among : b ≤ k
-  pub makesUp : count + length (weightEntries (weightIn weights) b) ≡ length (weightEntries (weightIn weights) k)
-
-pub counting-start : {weights : List ℕ} {k : ℕ} → CanCount weights k → Counting weights k k 0
-counting-start h = record { table = h; among = omega arith; makesUp = omega arith }
-
-pub counting-fits : {weights : List ℕ} {k b count : ℕ} → Counting weights k b count → count ≤ limits .states
-counting-fits {weights} {k} h = omega (arith, h .makesUp, entries-few (weightIn weights) k, h .table .few)
-
-one-counted : (weight b count now : ℕ) → now ≡ ifSame weight 0 count (count + 1) → now ≡ count + length (entryOf weight b)
-one-counted weight b count now e = go (ℕ-discrete weight 0)
+-- where no more entries come, no more weights do
+none-left : (f : ℕ → ℕ) (b k : ℕ) → b ≤ k → length (weightEntries f k) ≤ length (weightEntries f b) → (weightEntries f b ≡ weightEntries f k) × ((i : ℕ) → b ≤ i → i < k → f i ≡ 0)
+unfolding weightEntries
+none-left f b zero le few = let e : b ≡ 0 = omega arith in (ap (weightEntries f) e, λ i from less. absurd (omega arith))
+none-left f b (suc k) le few = go (ℕ-discrete b (suc k)) (ℕ-discrete b k) (ℕ-discrete (f k) 0) (none-left f b k)
   where
-    go : Dec (weight ≡ 0) → now ≡ count + length (entryOf weight b)
-    go (yes q) =
-        let this : count ≡ ifSame weight 0 count (count + 1) = same _ q refl in
-        omega (arith, e, this, ap length (entry-none b q))
-    go (no q) =
-        let this : count + 1 ≡ ifSame weight 0 count (count + 1) = notSame _ q refl in
-        omega (arith, e, this, ap length (entry-some b q))
+    Left : ℕ → Type 0
+    Left n = (weightEntries f b ≡ weightEntries f n) × ((i : ℕ) → b ≤ i → i < n → f i ≡ 0)
 
-pub counting-turn : {weights : List ℕ} {k : ℕ} (b : ℕ) {count now : ℕ} → Counting weights k b count → 0 < b → now ≡ ifSame (weightIn weights (b - 1)) 0 count (count + 1) → Counting weights k (b - 1) now
+    sizes : length (weightEntries f (suc k)) ≡ length (weightEntries f k) + length (entryOf (f k) k)
+    sizes = unfold weightEntries in length-append (weightEntries f k) (entryOf (f k) k)
+
+    least : Dec (b ≡ k) → b ≤ k → length (weightEntries f b) ≤ length (weightEntries f k)
+    least (yes e) h = omega (arith, ap (λ (i : ℕ). length (weightEntries f i)) e)
+    least (no n) h = omega (arith, entries-grow f b k (omega arith))
+
+    go : Dec (b ≡ suc k) → Dec (b ≡ k) → Dec (f k ≡ 0) → (b ≤ k → length (weightEntries f k) ≤ length (weightEntries f b) → Left k) → Left (suc k)
+    go (yes e) d z ih = (ap (weightEntries f) e, λ i from less. absurd (omega arith))
+    go (no n) d (no z) ih = absurd (omega (arith, sizes, ap length (entry-some k z), least d (omega arith)))
+    go (no n) d (yes z) ih =
+        let rest = ih (omega arith) (omega (arith, sizes)) in (
+          unfold weightEntries in rest .0 ∙ sym (append-nil (weightEntries f k)) ∙ ap (λ (l : List Entry). weightEntries f k ++ l) (entry-none k z),
+          λ i from less. at i from less (ℕ-discrete i k) (rest .1),
+        )
+      where
+        at : (i : ℕ) → b ≤ i → i < suc k → Dec (i ≡ k) → ((i : ℕ) → b ≤ i → i < k → f i ≡ 0) → f i ≡ 0
+        at i from less (yes e) before = ap f e ∙ z
+        at i from less (no o) before = before i from (omega arith)
+
+-- a block with another weight changes the count of entries by its own entry
+one-length : (weight b : ℕ) → length (entryOf weight b) ≡ ifSame weight 0 0 1
+one-length weight b = go (ℕ-discrete weight 0)
+  where
+    go : Dec (weight ≡ 0) → length (entryOf weight b) ≡ ifSame weight 0 0 1
+    go (yes q) = same 1 q (sym (ap length (entry-none b q)))
+    go (no q) = notSame 0 q (sym (ap length (entry-some b q)))
+
+entries-set : (weights : List ℕ) (b total n : ℕ) → b < length weights → b < n → length (weightEntries (weightIn (set weights b total)) n) + length (entryOf (weightIn weights b) b) ≡ length (weightEntries (weightIn weights) n) + length (entryOf total b)
 unfolding weightEntries
-counting-turn zero h some e = absurd (omega arith)
-counting-turn {weights} {k} (suc b) {count} {now} h some e =
-    let one : suc b - 1 ≡ b = omega arith in
-    subst (λ (i : ℕ). Counting weights k i now) (sym one)
+entries-set weights b total zero inside less = absurd (omega arith)
+entries-set weights b total (suc n) inside less = go (ℕ-discrete b n) (entries-set weights b total n inside)
+  where
+    f : ℕ → ℕ
+    f = weightIn weights
+
+    g : ℕ → ℕ
+    g = weightIn (set weights b total)
+
+    other : (i : ℕ) → (i ≡ b → ⊥) → g i ≡ f i
+    other i n = getD-set-other weights b i total 0 n
+
+    go : Dec (b ≡ n) → (b < n → length (weightEntries g n) + length (entryOf (f b) b) ≡ length (weightEntries f n) + length (entryOf total b)) → length (weightEntries g n ++ entryOf (g n) n) + length (entryOf (f b) b) ≡ length (weightEntries f n ++ entryOf (f n) n) + length (entryOf total b)
+    go (yes e) ih =
+        let below : length (weightEntries g n) ≡ length (weightEntries f n) = ap length (entries-same g f n (λ i l. other i (λ q. absurd (omega arith)))) in
+        let here : g n ≡ total = ap g (sym e) ∙ getD-set-same weights b total 0 inside in
+        omega (arith, below, length-append (weightEntries g n) (entryOf (g n) n), length-append (weightEntries f n) (entryOf (f n) n), ap (λ (i : ℕ). length (entryOf (f i) i)) e, ap (λ (w : ℕ). length (entryOf w n)) here, ap (λ (i : ℕ). length (entryOf total i)) e)
+    go (no q) ih =
+        let last : g n ≡ f n = other n (λ e. q (sym e)) in
+        omega (arith, ih (omega arith), length-append (weightEntries g n) (entryOf (g n) n), length-append (weightEntries f n) (entryOf (f n) n), ap (λ (w : ℕ). length (entryOf w n)) last)
+
+-- blocks without a weight have no entries
+pub entries-beyond : (f : ℕ → ℕ) (k more : ℕ) → ((i : ℕ) → k ≤ i → i < more + k → f i ≡ 0) → weightEntries f (more + k) ≡ weightEntries f k
+unfolding weightEntries
+entries-beyond f k zero h = let e : 0 + k ≡ k = omega arith in ap (weightEntries f) e
+entries-beyond f k (suc more) h =
+    let e : suc more + k ≡ suc (more + k) = omega arith in
+    ap (weightEntries f) e
+    ∙ ap (λ (l : List Entry). weightEntries f (more + k) ++ l) (sym (entry-none (more + k) (h (more + k) (omega arith) (omega arith))))
+    ∙ append-nil (weightEntries f (more + k))
+    ∙ entries-beyond f k more (λ i from less. h i from (omega arith))
+
+-- what is known before each entry of a transition: the weights so far and the entries left make up the whole
+pub record Adding (s blocks : List ℕ) (all : List Entry) (weights : List ℕ) (count left at : ℕ) : Type 0 where
+  pub counted : count ≡ length (weightEntries (weightIn weights) (limits .states))
+  pub inside : at + 3 * left ≤ length s
+  pub states : Each (λ (e : Entry). e .state < length blocks) (entriesAt s left at)
+  pub below : (v : ℕ) → v < length blocks → getD blocks v 0 < limits .states
+  pub size : length weights ≡ limits .states
+  pub makesUp : (b : ℕ) → b < limits .states → weightIn weights b + weightToBlock blocks (entriesAt s left at) b ≡ weightToBlock blocks all b
+  pub light : (b : ℕ) → weightToBlock blocks all b ≤ 65535
+
+pub adding-start : {s places blocks weights : List ℕ} {r : ℕ} → CanAdd s places r blocks weights → {f : Fields} → FieldsOf s r f → Adding s blocks (entriesOf s r) weights 0 (f .count) (f .entries .at)
+adding-start {s} {places} {blocks} {weights} {r} a {f} t =
+    let k = entries-known (a .transition) in
+    subst (λ (n : ℕ). Adding s blocks (entriesOf s r) weights 0 n (f .entries .at)) (sym (t .count))
+    (subst (λ (p : ℕ). Adding s blocks (entriesOf s r) weights 0 (entryCountAt s (placeOf s r)) p) (sym (t .entries))
     (record {
-      table = h .table;
-      among = omega (arith, h .among);
-      makesUp =
-          omega (
-            arith,
-            h .makesUp,
-            length-append (weightEntries (weightIn weights) b) (entryOf (weightIn weights b) b),
-            one-counted (weightIn weights b) b count now (subst (λ (i : ℕ). now ≡ ifSame (weightIn weights i) 0 count (count + 1)) one e),
-          );
-    })
+      counted = ap length (no-entries (λ b. 0) (λ b. refl) (limits .states) ∙ sym (entries-same (weightIn weights) (λ b. 0) (limits .states) (λ b h. a .none .none b h)));
+      inside = k .inside;
+      states = subst (λ (n : ℕ). Each (λ (e : Entry). e .state < n) (entriesOf s r)) (sym (a .whole)) (k .states);
+      below = λ v h. a .below v (omega (arith, h, a .whole));
+      size = a .none .size;
+      makesUp = λ b h. omega (arith, a .none .none b h);
+      light = λ b. omega (arith, weight-light blocks (entriesOf s r) b, k .whole, k .light);
+    }))
 
-pub counting-end : {weights : List ℕ} {k : ℕ} (b : ℕ) {count : ℕ} → Counting weights k b count → b ≤ 0 → count ≡ length (weightEntries (weightIn weights) k)
-unfolding weightEntries
-counting-end zero h none = omega (arith, h .makesUp)
-counting-end (suc b) h none = absurd (omega arith)
+module _ {s blocks : List ℕ} {all : List Entry} where
+  pub adding-state : (left : ℕ) {at : ℕ} {weights : List ℕ} {count : ℕ} {e : read.Entry} → Adding s blocks all weights count left at → 0 < left → EntryTaken s at e → e .state < length blocks
+  unfolding Each entriesAt
+  adding-state zero h some t = absurd (omega arith)
+  adding-state (suc left) h some t = omega (arith, h .states .0, t .state)
+
+  pub adding-block : (left : ℕ) {at : ℕ} {weights : List ℕ} {count : ℕ} {e : read.Entry} {b : ℕ} → Adding s blocks all weights count left at → 0 < left → EntryTaken s at e → b ≡ getD blocks (e .state) 0 → b < limits .states
+  adding-block left {e = e} h some t q = omega (arith, h .below (e .state) (adding-state left h some t), q)
+
+  pub adding-fits : {left at : ℕ} {weights : List ℕ} {count b : ℕ} → Adding s blocks all weights count left at → b < limits .states → weightIn weights b ≤ 65535
+  adding-fits {b = b} h less = omega (arith, h .makesUp b less, h .light b)
+
+  one-turn : (left at : ℕ) (weights : List ℕ) (count more : ℕ) (e : read.Entry) (b total : ℕ) → Adding s blocks all weights count (suc left) at → EntryTaken s at e → b ≡ getD blocks (e .state) 0 → total ≡ weightIn weights b + e .weight → more + ifSame (weightIn weights b) 0 0 1 ≡ count + ifSame total 0 0 1 → Adding s blocks all (set weights b total) more left (at + 3)
+  unfolding Each entriesAt weightToBlock
+  one-turn left at weights count more e b total h t q u v =
+      record {
+        counted = omega (arith, h .counted, v, entries-set weights b total (limits .states) (omega (arith, h .size, known)) known, one-length (weightIn weights b) b, one-length total b);
+        inside = omega (arith, h .inside);
+        states = h .states .1;
+        below = h .below;
+        size = length-set weights b total ∙ h .size;
+        makesUp = λ i less. go i less (ℕ-discrete i b);
+        light = h .light;
+      }
+    where
+      known : b < limits .states
+      known = adding-block (suc left) h (omega arith) t q
+
+      there : b ≡ getD blocks (byteAt s at) 0
+      there = q ∙ ap (λ (v : ℕ). getD blocks v 0) (t .state)
+
+      go : (i : ℕ) → i < limits .states → Dec (i ≡ b) → weightIn (set weights b total) i + weightToBlock blocks (entriesAt s left (at + 3)) i ≡ weightToBlock blocks all i
+      go i less (yes p) =
+          let here : twoAt s (at + 1) ≡ ifSame (getD blocks (byteAt s at) 0) i (twoAt s (at + 1)) 0 = same 0 (sym there ∙ sym p) refl in
+          let new : weightIn (set weights b total) i ≡ total = ap (weightIn (set weights b total)) p ∙ getD-set-same weights b total 0 (omega (arith, less, p, h .size)) in
+          let old : weightIn weights i ≡ weightIn weights b = ap (weightIn weights) p in
+          omega (arith, h .makesUp i less, here, new, old, u, t .weight)
+      go i less (no p) =
+          let here : 0 ≡ ifSame (getD blocks (byteAt s at) 0) i (twoAt s (at + 1)) 0 = notSame _ (λ d. p (sym d ∙ sym there)) refl in
+          omega (arith, h .makesUp i less, here, getD-set-other weights b i total 0 p)
+
+  pub adding-turn : (left : ℕ) {at : ℕ} {weights : List ℕ} {count more : ℕ} {e : read.Entry} {b total : ℕ} → Adding s blocks all weights count left at → 0 < left → EntryTaken s at e → b ≡ getD blocks (e .state) 0 → total ≡ weightIn weights b + e .weight → more + ifSame (weightIn weights b) 0 0 1 ≡ count + ifSame total 0 0 1 → Adding s blocks all (set weights b total) more (left - 1) (e .next .at)
+  adding-turn zero h some t q u v = absurd (omega arith)
+  adding-turn (suc left) {at} {weights} {count} {more} {e} {b} {total} h some t q u v =
+      let one : left ≡ suc left - 1 = omega arith in
+      subst (λ (k : ℕ). Adding s blocks all (set weights b total) more k (e .next .at)) one
+      (subst (λ (p : ℕ). Adding s blocks all (set weights b total) more left p) (sym (t .next))
+      (one-turn left at weights count more e b total h t q u v))
+
+  pub adding-end : (left : ℕ) {at : ℕ} {weights : List ℕ} {count : ℕ} → Adding s blocks all weights count left at → left ≤ 0 → WeightsOf blocks all weights count
+  unfolding entriesAt weightToBlock
+  adding-end zero h none = record { size = h .size; counted = h .counted; held = λ b less. omega (arith, h .makesUp b less) }
+  adding-end (suc left) h none = absurd (omega arith)
+
+  -- no more blocks have a weight than there are
+  pub adding-few : {left at : ℕ} {weights : List ℕ} {count : ℕ} → Adding s blocks all weights count left at → count ≤ limits .states
+  adding-few {weights = weights} h = omega (arith, h .counted, entries-few (weightIn weights) (limits .states))
 
 -- the bytes of entries after entries
 entries-bytes : (xs ys : List Entry) → entriesBytes (xs ++ ys) ≡ entriesBytes xs ++ entriesBytes ys
@@ -284,13 +319,13 @@ module _ {weights : List ℕ} {b : ℕ} {out : List ℕ} {at : ℕ} (h : CanWrit
       }
 
 -- what is known before each block that is written: the entries of those before it stand
-pub record Writing (before : List ℕ) (k : ℕ) (out : List ℕ) (at : ℕ) (weights written : List ℕ) (b next : ℕ) : Type 0 where
-  pub asked : CanWriteEntries before k out at
+pub record Writing (before : List ℕ) (k count : ℕ) (out : List ℕ) (at : ℕ) (weights written : List ℕ) (b next : ℕ) : Type 0 where
+  pub asked : CanWriteEntries before k count out at
   pub among : b ≤ k
   pub done : WroteEntries b before weights at out written next
 
-module _ {before : List ℕ} {k : ℕ} {out : List ℕ} {at : ℕ} where
-  pub writing-start : CanWriteEntries before k out at → Writing before k out at before out 0 at
+module _ {before : List ℕ} {k count : ℕ} {out : List ℕ} {at : ℕ} where
+  pub writing-start : CanWriteEntries before k count out at → Writing before k count out at before out 0 at
   unfolding weightEntries entriesBytes
   writing-start h =
       record {
@@ -299,7 +334,7 @@ module _ {before : List ℕ} {k : ℕ} {out : List ℕ} {at : ℕ} where
         done = record { appended = append-none out at (omega (arith, h .room)); size = h .table .size; gone = λ i less. absurd (omega arith); kept = λ i le. refl };
       }
 
-  pub writing-asks : {weights written : List ℕ} {b next : ℕ} → Writing before k out at weights written b next → b < k → CanWriteEntry weights b written next
+  pub writing-asks : {weights written : List ℕ} {b next : ℕ} → Writing before k count out at weights written b next → b < k → CanWriteEntry weights b written next
   writing-asks {weights} {written} {b} {next} h less =
       let here : weightIn weights b ≡ weightIn before b = h .done .kept b (omega arith) in
       let entry : length (entryOf (weightIn weights b) b) ≡ length (entryOf (weightIn before b) b) = ap (λ (w : ℕ). length (entryOf w b)) here in
@@ -310,7 +345,7 @@ module _ {before : List ℕ} {k : ℕ} {out : List ℕ} {at : ℕ} where
         room = omega (arith, entry, h .asked .room, h .done .appended .place, h .done .appended .size, entriesBytes-length (weightEntries (weightIn before) b), entries-grow (weightIn before) b k less);
       }
 
-  pub writing-turn : {weights written after more : List ℕ} {b next past : ℕ} → Writing before k out at weights written b next → b < k → WroteEntry b weights after next written more past → Writing before k out at after more (b + 1) past
+  pub writing-turn : {weights written after more : List ℕ} {b next past : ℕ} → Writing before k count out at weights written b next → b < k → WroteEntry b weights after next written more past → Writing before k count out at after more (b + 1) past
   unfolding weightEntries
   writing-turn {weights} {written} {after} {more} {b} {next} {past} h less w =
       record {
@@ -338,7 +373,23 @@ module _ {before : List ℕ} {k : ℕ} {out : List ℕ} {at : ℕ} where
       go i l (yes q) = ap (weightIn after) q ∙ w .gone
       go i l (no q) = w .kept i q ∙ h .done .gone i (omega arith)
 
-  pub writing-end : {weights written : List ℕ} {b next : ℕ} → Writing before k out at weights written b next → k ≤ b → WroteEntries k before weights at out written next
+  pub writing-end : {weights written : List ℕ} {b next : ℕ} → Writing before k count out at weights written b next → k ≤ b → WroteEntries k before weights at out written next
   writing-end {weights} {written} {b} {next} h past =
       let e : b ≡ k = omega (arith, h .among, past) in
       subst (λ (i : ℕ). WroteEntries i before weights at out written next) e (h .done)
+
+  -- or as many entries as there are
+  pub writing-full : {weights written : List ℕ} {b next end : ℕ} → Writing before k count out at weights written b next → end ≡ at + 3 * count → next ≡ end → WroteEntries k before weights at out written next
+  writing-full {weights} {written} {b} {next} h e full =
+      let f = weightIn before in
+      let left = none-left f b k (h .among) (omega (arith, e, full, h .asked .counted, h .done .appended .place, entriesBytes-length (weightEntries f b))) in
+      record {
+        appended = subst (λ (es : List Entry). Appends (entriesBytes es) at out written next) (left .0) (h .done .appended);
+        size = h .done .size;
+        gone = λ i less. go i less (decLt i b) (left .1 i);
+        kept = λ i from. h .done .kept i (omega (arith, from, h .among));
+      }
+    where
+      go : (i : ℕ) → i < k → Dec (i < b) → (b ≤ i → i < k → weightIn before i ≡ 0) → weightIn weights i ≡ 0
+      go i less (yes l) none = h .done .gone i l
+      go i less (no n) none = h .done .kept i (omega arith) ∙ none (omega arith) less

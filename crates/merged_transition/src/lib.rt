@@ -6,7 +6,7 @@ ghost use Rattle.bisimulation.specs.definitions.Choice.{ifSame};
 ghost use Rattle.rules.specs.definitions.Limits.{limits};
 ghost use Rattle.transition.specs.Known.{entriesOf};
 ghost use Rattle.merged_transition.specs.MergedTransition.{NoWeights, CanMerge, Merged};
-ghost use Rattle.merged_transition.specs.Weights.{weightIn, weightEntries, CanAdd, WeightsOf, CanCount, CanWriteEntry, WroteEntry, CanWriteEntries, WroteEntries};
+ghost use Rattle.merged_transition.specs.Weights.{CanAdd, WeightsOf, CanWriteEntry, WroteEntry, CanWriteEntries, WroteEntries};
 use limits::STATES;
 use model::Places;
 
@@ -27,46 +27,40 @@ pub fn block_of(blocks: &[u8], v: usize) -> usize
     blocks[v] as usize
 }
 
-// The weights of the transition r added up by target block.
-fn add_weights(s: &[u8], places: &Places, r: usize, blocks: &[u8], weights: &mut Weights)
+// How many blocks have a weight, after the weight of one of them has grown.
+fn counted(count: usize, before: usize, after: usize) -> usize
+    requires { ⌜ (count ≤ limits .states) × (before ≤ after) ⌝ }
+    ensures { λ r. ⌜ r + ifSame before 0 0 1 ≡ count + ifSame after 0 0 1 ⌝ }
+{
+    if before != 0 {
+        return count;
+    }
+    if after == 0 {
+        return count;
+    }
+    count + 1
+}
+
+// The weights of the transition r added up by target block. Hands back how many blocks have one.
+fn add_weights(s: &[u8], places: &Places, r: usize, blocks: &[u8], weights: &mut Weights) -> usize
     requires { ⌜ CanAdd (now s) (now places) r (now blocks) (now weights) ⌝ }
-    ensures { λ x. ⌜ WeightsOf (now (blocks .entry)) (entriesOf (now (s .entry)) r) (now (weights .exit)) ⌝ }
+    ensures { λ x. ⌜ WeightsOf (now (blocks .entry)) (entriesOf (now (s .entry)) r) (now (weights .exit)) x ⌝ }
 {
     let t = transition::fields_of(s, places, r);
     let mut left = t.count;
     let mut place = t.entries;
+    let mut count = 0;
     while 0 < left {
         let entry = transition::entry_at(s, place);
         let b = block_of(blocks, entry.state);
-        let sum = weights[b] + entry.weight;
+        let weight = weights[b];
+        let sum = weight + entry.weight;
+        count = counted(count, weight, sum);
         weights[b] = sum;
         place = entry.next;
         left -= 1;
     }
-}
-
-// How many of the first k blocks have a weight.
-fn some_weights(weights: &Weights, k: usize) -> usize
-    requires { ⌜ CanCount (now weights) k ⌝ }
-    ensures { λ r. ⌜ r ≡ length (weightEntries (weightIn (now (weights .entry))) k) ⌝ }
-{
-    let mut b = k;
-    let mut count = 0;
-    while 0 < b {
-        b -= 1;
-        count = one_more(count, weights[b]);
-    }
     count
-}
-
-fn one_more(count: usize, weight: usize) -> usize
-    requires { ⌜ count ≤ limits .states ⌝ }
-    ensures { λ r. ⌜ r ≡ ifSame weight 0 count (count + 1) ⌝ }
-{
-    if weight == 0 {
-        return count;
-    }
-    count + 1
 }
 
 // The entry of a block, if it has a weight, which is zero then.
@@ -82,13 +76,18 @@ fn write_entry(weights: &mut Weights, b: usize, out: &mut [u8], at: usize) -> us
     writer::entry(out, at, b, weight)
 }
 
-fn write_entries(weights: &mut Weights, k: usize, out: &mut [u8], at: usize) -> usize
-    requires { ⌜ CanWriteEntries (now weights) k (now out) at ⌝ }
+// The entries of the first k blocks, of which so many have a weight: behind the last of them there is nothing to write.
+fn write_entries(weights: &mut Weights, k: usize, count: usize, out: &mut [u8], at: usize) -> usize
+    requires { ⌜ CanWriteEntries (now weights) k count (now out) at ⌝ }
     ensures { λ x. ⌜ WroteEntries k (now (weights .entry)) (now (weights .exit)) at (now (out .entry)) (now (out .exit)) x ⌝ }
 {
+    let end = at + 3 * count;
     let mut b = 0;
     let mut next = at;
     while b < k {
+        if next == end {
+            return next;
+        }
         next = write_entry(weights, b, out, next);
         b += 1;
     }
@@ -111,8 +110,7 @@ pub fn write_merged(
 {
     let t = transition::fields_of(s, places, r);
     let source = block_of(blocks, t.source);
-    add_weights(s, places, r, blocks, weights);
-    let count = some_weights(weights, k);
+    let count = add_weights(s, places, r, blocks, weights);
     let next = writer::fixed(out, at, source, t.action, t.denominator, count);
-    write_entries(weights, k, out, next)
+    write_entries(weights, k, count, out, next)
 }

@@ -5,7 +5,7 @@ use mathlib.Core.List.{List, [], _++_}
 use lib.ListN.{length, take}
 use Rattle.rules.specs.definitions.Model.{Transition, transitionsBytes}
 use Rattle.rules.specs.definitions.Reading.{modelAt}
-use Rattle.rules.specs.definitions.Quotient.{fromBlock, distinct, byBlock}
+use Rattle.rules.specs.definitions.Quotient.{blockCount, fromBlock, distinct, byBlock}
 use Rattle.limits.specs.Sizes.{records}
 use Rattle.transition.specs.Known.{Known}
 use Rattle.merged_transition.specs.MergedTransition.{NoWeights, BlocksBelow}
@@ -27,7 +27,7 @@ before blocks ts b = byBlock blocks ts b 0
 
 -- those of the block b among the first r
 abbrev pub here : List ℕ → List Transition → (b r : ℕ) → List Transition
-here blocks ts b r = distinct [] (fromBlock blocks (take r ts) b)
+here blocks ts b r = distinct (blockCount blocks) [] (fromBlock blocks (take r ts) b)
 
 -- both, with the records of the block b from a place on
 pub record InBlock (s blocks : List ℕ) (b r start : ℕ) (out : List ℕ) (kept : Kept) : Type 0 where

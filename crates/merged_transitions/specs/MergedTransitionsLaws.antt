@@ -26,7 +26,7 @@ use Rattle.transition.specs.KnownLaws.{known-own, known-states, known-transitio
 use Rattle.writer.specs.Appends.{Appends}
 use Rattle.writer.specs.AppendsLaws.{front-kept, appended-part, appended-front, transitions-append}
 use Rattle.merged_transition.specs.MergedTransition.{NoWeights, BlocksBelow, CanMerge, Merged}
-use Rattle.same_transition.specs.SameTransition.{Fits, FitsFrom, StandAs, Stand, IsRepeated}
+use Rattle.same_transition.specs.SameTransition.{StandAs, IsRepeated}
 use Rattle.merged_transitions.specs.declared.Kept.{Kept}
 use Rattle.merged_transitions.specs.MergedTransitions.{transitionsIn, Holds, before, here, InBlock, CanKeep, Keeps}
 use Rattle.merged_transitions.specs.DistinctLaws.{distinct-more, from-more, by-block-more}
@@ -46,12 +46,6 @@ sizes : (ts : List Transition) → sumOver sizeOf ts ≡ 7 * sumOver (λ t. 1) t
 unfolding sumOver
 sizes [] = omega arith
 sizes (t ∷ ts) = omega (arith, sizes ts, transitionBytes-length t)
-
--- a weight is at most the sum
-part-most : (es : List Entry) → Each (λ (e : Entry). e .weight ≤ sumOver (λ (x : Entry). x .weight) es) es
-unfolding Each sumOver
-part-most [] = tt
-part-most (e ∷ es) = (omega arith, each-map _ _ (λ x l. omega arith) es (part-most es))
 
 -- the model's transitions
 module _ {s places : List ℕ} {n count : ℕ} (k : Known s n count places) where
@@ -86,26 +80,14 @@ module _ {s places : List ℕ} {n count : ℕ} (k : Known s n count places) wher
     shorter =
         each-map _ _ (λ t h. omega (arith, transitionBytes-length t, transitionBytes-length (mergedTransition blocks t), merged-few blocks (length (modelAt s .labels)) (modelAt s .actions) t h below-count)) (transitionsIn s) (k .sound .transitions)
 
-    -- the fields of a merged transition fit its record
-    merged-fits : (t : Transition) → TransitionRules (length (modelAt s .labels)) (modelAt s .actions) t → Fits (mergedTransition blocks t)
-    merged-fits t h =
-        let r = merged-rules blocks (length (modelAt s .labels)) (modelAt s .actions) t h below-count in
-        record {
-          source = omega (arith, r .source, b .count, b .few);
-          action = omega (arith, r .action, k .sound .actions);
-          denominator = omega (arith, r .fits);
-          count = omega (arith, r .most, b .count, b .few);
-          states = each-map _ _ (λ e l. omega (arith, l, b .count, b .few)) (mergedTransition blocks t .entries) (r .states);
-          weights = each-map _ _ (λ e l. omega (arith, l, r .whole, r .fits)) (mergedTransition blocks t .entries) (part-most (mergedTransition blocks t .entries));
-        }
+    -- a merged transition keeps the rules of the merged model, and so do those of a block
+    merged-sound : (t : Transition) → TransitionRules (length (modelAt s .labels)) (modelAt s .actions) t → TransitionRules (blockCount blocks) (modelAt s .actions) (mergedTransition blocks t)
+    merged-sound t h = merged-rules blocks (length (modelAt s .labels)) (modelAt s .actions) t h below-count
 
-    -- those of a block have its number as their source
-    here-fits : (c r : ℕ) → Each (FitsFrom c) (here blocks (transitionsIn s) c r)
-    unfolding mergedTransition
-    here-fits c r =
-        each-distinct (FitsFrom c) [] (fromBlock blocks (take r (transitionsIn s)) c)
-        (each-from blocks (FitsFrom c) c (take r (transitionsIn s))
-        (each-first _ r (transitionsIn s) (each-map _ _ (λ t h e. record { fits = merged-fits t h; from = e }) (transitionsIn s) (k .sound .transitions))))
+    block-sound : (c r : ℕ) → Each (TransitionRules (blockCount blocks) (modelAt s .actions)) (fromBlock blocks (take r (transitionsIn s)) c)
+    block-sound c r =
+        each-from blocks _ c (take r (transitionsIn s))
+        (each-first _ r (transitionsIn s) (each-map _ _ (λ t h e. merged-sound t h) (transitionsIn s) (k .sound .transitions)))
 
 -- a transition of another block changes nothing
 pub keep-other : {s places : List ℕ} {n count : ℕ} {blocks : List ℕ} {k b r : ℕ} {weights out : List ℕ} {start : ℕ} {kept : Kept} → CanKeep s places n count blocks k b r weights out start kept → r < count → (getD blocks (getD (transitionsIn s) r noTransition .source) 0 ≡ b → ⊥) → Keeps s blocks b r weights out out start kept
@@ -122,7 +104,7 @@ keep-other {s} {blocks = blocks} {b = b} {r = r} {out = out} {start} {kept} c le
   where
     same-here : here blocks (transitionsIn s) b (r + 1) ≡ here blocks (transitionsIn s) b r
     same-here =
-        ap (distinct [])
+        ap (distinct (blockCount blocks) [])
         (from-more blocks b (transitionsIn s) r (omega (arith, less, count-is (c .known)))
         ∙ ap (λ (l : List Transition). fromBlock blocks (take r (transitionsIn s)) b ++ l) (sym (notSame _ other refl))
         ∙ append-nil (fromBlock blocks (take r (transitionsIn s)) b))
@@ -170,7 +152,7 @@ module _ {s places : List ℕ} {n count : ℕ} {blocks : List ℕ} {k b r : ℕ}
     place-is =
         omega (arith, c .held .holds .size, ap length parts, length-append (transitionsBytes (before blocks (transitionsIn s) b)) (transitionsBytes (here blocks (transitionsIn s) b r)), c .held .starts)
 
-    pub stands : StandAs out′ start (kept .size) next (here blocks (transitionsIn s) b r) added
+    pub stands : StandAs out′ start (kept .size) next (blockCount blocks) (modelAt s .actions) (here blocks (transitionsIn s) b r) added
     unfolding mergedTransition
     stands =
         record {
@@ -179,19 +161,19 @@ module _ {s places : List ℕ} {n count : ℕ} {blocks : List ℕ} {k b r : ℕ}
           inside = omega (arith, appended .room, appended .size);
           records = middle out′ (transitionsBytes (before blocks (transitionsIn s) b)) (transitionsBytes (here blocks (transitionsIn s) b r)) start (kept .size) (front ∙ parts) (c .held .starts) place-is (omega (arith, appended .place, appended .room, appended .size));
           record-bytes = appended-part appended;
-          fits = merged-fits (c .known) (c .merging) (getD (transitionsIn s) r noTransition) next-rules;
-          alike = subst (λ (x : ℕ). Each (FitsFrom x) (here blocks (transitionsIn s) b r)) (sym of) (here-fits (c .known) (c .merging) b r);
+          rules = merged-sound (c .known) (c .merging) (getD (transitionsIn s) r noTransition) next-rules;
+          alike = each-distinct (blockCount blocks) _ [] (fromBlock blocks (take r (transitionsIn s)) b) (block-sound (c .known) (c .merging) b r);
         }
 
-    one-more : here blocks (transitionsIn s) b (r + 1) ≡ here blocks (transitionsIn s) b r ++ ifTrue (isAmong added (here blocks (transitionsIn s) b r)) [] (added ∷ [])
+    one-more : here blocks (transitionsIn s) b (r + 1) ≡ here blocks (transitionsIn s) b r ++ ifTrue (isAmong (blockCount blocks) added (here blocks (transitionsIn s) b r)) [] (added ∷ [])
     one-more =
-        ap (distinct [])
+        ap (distinct (blockCount blocks) [])
         (from-more blocks b (transitionsIn s) r below
         ∙ ap (λ (l : List Transition). fromBlock blocks (take r (transitionsIn s)) b ++ l) (sym (same [] of refl)))
-        ∙ distinct-more (fromBlock blocks (take r (transitionsIn s)) b) added
+        ∙ distinct-more (blockCount blocks) (fromBlock blocks (take r (transitionsIn s)) b) added (each-map _ _ (λ t h. h .positive) (fromBlock blocks (take r (transitionsIn s)) b) (block-sound (c .known) (c .merging) b r))
 
     -- the same as one before it
-    pub keep-repeated : {x : Bool} → x ≡ true → IsRepeated out′ start (kept .size) next x → Keeps s blocks b r weights′ out out′ start kept
+    pub keep-repeated : {x : Bool} → x ≡ true → IsRepeated out′ start (kept .size) x → Keeps s blocks b r weights′ out out′ start kept
     keep-repeated e h =
         record {
           held =
@@ -208,11 +190,11 @@ module _ {s places : List ℕ} {n count : ℕ} {blocks : List ℕ} {k b r : ℕ}
         no-more : here blocks (transitionsIn s) b (r + 1) ≡ here blocks (transitionsIn s) b r
         no-more =
             one-more
-            ∙ ap (λ (l : List Transition). here blocks (transitionsIn s) b r ++ l) (sym (isTrue _ (sym (h .tells _ added stands) ∙ e) refl))
+            ∙ ap (λ (l : List Transition). here blocks (transitionsIn s) b r ++ l) (sym (isTrue _ (sym (h .tells _ _ _ _ added stands) ∙ e) refl))
             ∙ append-nil (here blocks (transitionsIn s) b r)
 
     -- a new one
-    pub keep-new : {x : Bool} {counted : ℕ} → x ≡ false → IsRepeated out′ start (kept .size) next x → counted ≡ kept .count + 1 → Keeps s blocks b r weights′ out out′ start (record { count = counted; size = next })
+    pub keep-new : {x : Bool} {counted : ℕ} → x ≡ false → IsRepeated out′ start (kept .size) x → counted ≡ kept .count + 1 → Keeps s blocks b r weights′ out out′ start (record { count = counted; size = next })
     unfolding transitionsBytes
     keep-new e h f =
         record {
@@ -233,7 +215,7 @@ module _ {s places : List ℕ} {n count : ℕ} {blocks : List ℕ} {k b r : ℕ}
         list-more : before blocks (transitionsIn s) b ++ here blocks (transitionsIn s) b (r + 1) ≡ done ++ (added ∷ [])
         list-more =
             ap (λ (l : List Transition). before blocks (transitionsIn s) b ++ l)
-            (one-more ∙ ap (λ (l : List Transition). here blocks (transitionsIn s) b r ++ l) (sym (isFalse _ (sym (h .tells _ added stands) ∙ e) refl)))
+            (one-more ∙ ap (λ (l : List Transition). here blocks (transitionsIn s) b r ++ l) (sym (isFalse _ (sym (h .tells _ _ _ _ added stands) ∙ e) refl)))
             ∙ sym (append-assoc (before blocks (transitionsIn s) b) (here blocks (transitionsIn s) b r) (added ∷ []))
 
         bytes-more : transitionsBytes (before blocks (transitionsIn s) b ++ here blocks (transitionsIn s) b (r + 1)) ≡ transitionsBytes done ++ transitionBytes added
@@ -252,8 +234,8 @@ pub block-ends : (s blocks : List ℕ) (b r start : ℕ) {out : List ℕ} {kept 
 block-ends s blocks b r start {out} {kept} e h =
     let z : b ≡ 0 + b = omega arith in
     subst (λ (l : List Transition). Holds l out kept)
-    (ap (λ (l : List Transition). before blocks (transitionsIn s) b ++ distinct [] (fromBlock blocks l b)) (take-all r (transitionsIn s) (omega arith))
-    ∙ ap (λ (c : ℕ). before blocks (transitionsIn s) b ++ distinct [] (fromBlock blocks (transitionsIn s) c)) z
+    (ap (λ (l : List Transition). before blocks (transitionsIn s) b ++ distinct (blockCount blocks) [] (fromBlock blocks l b)) (take-all r (transitionsIn s) (omega arith))
+    ∙ ap (λ (c : ℕ). before blocks (transitionsIn s) b ++ distinct (blockCount blocks) [] (fromBlock blocks (transitionsIn s) c)) z
     ∙ sym (by-block-more blocks (transitionsIn s) b 0))
     (h .holds)
 

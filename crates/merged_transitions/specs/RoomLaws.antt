@@ -11,7 +11,7 @@ use Rattle.bisimulation.specs.definitions.Sum.{sum}
 use Rattle.bisimulation.specs.argument.SumLaws.{sumMono}
 use Rattle.rules.specs.definitions.Model.{Transition, transitionBytes, noTransition}
 use Rattle.rules.specs.definitions.SoundModel.{Each, sumOver}
-use Rattle.rules.specs.definitions.Quotient.{mergedTransition, fromBlock, distinct, byBlock}
+use Rattle.rules.specs.definitions.Quotient.{blockCount, mergedTransition, fromBlock, distinct, byBlock}
 use Rattle.rules.specs.argument.KeyedSums.{sum-next, sumOver-append, sumOver-most, sumAt, sumAt-all}
 use Rattle.rules.specs.argument.QuotientLaws.{sum-distinct, sum-from, sum-by-block}
 use Rattle.merged_transitions.specs.MergedTransitions.{before, here}
@@ -74,7 +74,7 @@ module _ (blocks : List ℕ) (ts : List Transition) where
         let own = same {z = sizeOf (getD ts r noTransition)} 0 e refl in
         let upto = sum-upto (b + 1) rest (sumAt blockFrom sizeOf ts) in
         omega
-        (arith, sumOver-append sizeOf (before blocks ts b) (here blocks ts b r), sum-by-block blocks ts sizeOf b 0 b (omega arith), sumMono b (λ c. sumOver sizeOf (fromBlock blocks ts c)) (sumAt blockFrom sizeOf ts) (λ c l. whole-most c), sum-distinct sizeOf [] (fromBlock blocks (take r ts) b), here-most, more, own, first-most (λ (t : Transition). ifSame (blockFrom t) b (sizeOf t) 0) (suc r) ts, sum-next b (sumAt blockFrom sizeOf ts), upto, ap (λ (x : ℕ). sum x (sumAt blockFrom sizeOf ts)) all, sumAt-all blockFrom sizeOf k ts below)
+        (arith, sumOver-append sizeOf (before blocks ts b) (here blocks ts b r), sum-by-block blocks ts sizeOf b 0 b (omega arith), sumMono b (λ c. sumOver sizeOf (fromBlock blocks ts c)) (sumAt blockFrom sizeOf ts) (λ c l. whole-most c), sum-distinct (blockCount blocks) sizeOf [] (fromBlock blocks (take r ts) b), here-most, more, own, first-most (λ (t : Transition). ifSame (blockFrom t) b (sizeOf t) 0) (suc r) ts, sum-next b (sumAt blockFrom sizeOf ts), upto, ap (λ (x : ℕ). sum x (sumAt blockFrom sizeOf ts)) all, sumAt-all blockFrom sizeOf k ts below)
       where
         whole-most : (c : ℕ) → sumOver sizeOf (fromBlock blocks ts c) ≤ sumAt blockFrom sizeOf ts c
         whole-most c =

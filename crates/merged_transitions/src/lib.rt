@@ -1,4 +1,4 @@
-// The transitions of the merged model: by block and then by original place, of equal ones of a block the first.
+// The transitions of the merged model: by block and then by original place, of those of a block that are the same the first.
 ghost use Prim.Native.Nat.{_≤_, _<_};
 ghost use lib.ListN.{length};
 ghost use Rattle.limits.specs.Sizes.{records};
@@ -41,7 +41,7 @@ fn keep_of_block(
         count: kept.count + 1,
         size: next,
     };
-    if same_transition::is_repeated(out, start, kept.size, next) {
+    if same_transition::is_repeated(out, start, kept.size) {
         return kept; // the next record is written over it
     }
     longer

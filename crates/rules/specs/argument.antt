@@ -23,7 +23,11 @@ pub mod LargestBlocks
 pub mod Demand3Holds
 pub mod PlainRules
 pub mod KeyedSums
+pub mod Lists
+pub mod SameTransitions
 pub mod QuotientLaws
+pub mod KeptTransitions
+pub mod MergedSpelling
 pub mod QuotientHolds
 pub mod AnswerLaws
 pub mod ModelAutomaton

@@ -1,2 +1,3 @@
 pub mod SameTransition
+pub mod SharesLaws
 pub mod SameTransitionLaws

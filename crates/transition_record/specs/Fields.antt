@@ -14,6 +14,7 @@ pub record FieldsAt (s : List ℕ) (at : ℕ) (r : Fields) : Type 0 where
   pub action : r .action ≡ actionAt s at
   pub denominator : r .denominator ≡ denominatorAt s at
   pub count : r .count ≡ entryCountAt s at
+  pub fits : r .denominator < 65536
   pub small : r .count < 256
   pub entries : r .entries .at ≡ at + 7
 

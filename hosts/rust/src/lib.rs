@@ -276,7 +276,8 @@ pub fn judge<'a, 'b>(model: &'a [u8], certificate: &'a [u8], buffer: &'b mut [u8
 }
 
 /// Judges a certificate for a model and writes the merged model: each block is one state. On acceptance the first bytes of `buffer`
-/// are the merged model's file, and they are what is handed back; the buffer's later bytes stay.
+/// are the merged model's file, and they are what is handed back; the buffer's later bytes stay. Of the transitions of a block with one
+/// action and the same probabilities, in whatever terms, the first is kept, in its own terms.
 ///
 /// Refusals: 1 to 9 in the model, 11 to 22 in the certificate, and 23 where the certificate is accepted and the buffer is shorter
 /// than the file. A buffer as long as the model is always enough, and so is one of [`MODEL`] bytes.

@@ -51,19 +51,33 @@ impl Drop for Missed {
     }
 }
 
+/// How many transitions the merged model leaves out that differ from an earlier one of their block in their terms alone.
+fn dropped_in_other_terms(model: &Model, blocks: &[u8], merged: &Model) -> usize {
+    let mut fields = BTreeSet::new();
+    for r in &model.transitions {
+        let mut weights = [0; 64];
+        r.weights.iter().for_each(|&(v, p)| weights[usize::from(blocks[v])] += p);
+        fields.insert((blocks[r.source], r.action, r.d, weights));
+    }
+    fields.len() - merged.transitions.len()
+}
+
 #[test]
 fn all_certificates_of_an_automaton_name_the_same_blocks() {
     let mut numbers = Numbers::new(1);
     let mut missed = Missed::default();
     let (mut several, mut apart, mut refuted, mut met, mut detours) = (0, 0, 0, 0, 0);
+    let (mut spellings, mut dropped) = (0, 0);
     let models = rounds(800);
     for _ in 0..models {
         let model = random_model(&mut numbers, 10);
-        let mut all = Vec::new();
+        let (mut all, mut merged_files) = (Vec::new(), BTreeSet::new());
         for (file, times) in [(model.respelled(1), 1), (model.respelled(4), 1), (model.longest(), 1), (model.clone(), 3)] {
             let made: Vec<Certificate> = (0..times).filter_map(|_| missed.certificate(&file, &mut numbers)).collect();
             let merged: BTreeSet<Vec<u8>> = made.iter().map(|certificate| accepted(&file, certificate)).collect();
             assert!(merged.len() <= 1, "one model file has one merged model: {file:?}");
+            merged_files.extend(merged.iter().cloned());
+            dropped += made.first().zip(merged.first()).map_or(0, |(one, merged)| dropped_in_other_terms(&file, &one.blocks, &Model::read(merged)));
             several += u64::from(made.iter().map(Certificate::bytes).collect::<BTreeSet<_>>().len() == 3);
             for certificate in &made {
                 let pair = (file.bytes(), certificate.bytes());
@@ -71,6 +85,9 @@ fn all_certificates_of_an_automaton_name_the_same_blocks() {
             }
             all.extend(made);
         }
+        let automata: BTreeSet<Vec<u8>> = merged_files.iter().map(|merged| Model::read(merged).lowest().bytes()).collect();
+        assert!(automata.len() <= 1, "one automaton has one merged automaton: {model:?}");
+        spellings += u64::from(merged_files.len() > 1);
         let named: BTreeSet<&Vec<u8>> = all.iter().map(|certificate| &certificate.blocks).collect();
         assert!(named.len() <= 1, "{named:?} for {model:?}");
         apart += u64::from(named.iter().any(|blocks| (2..model.n()).contains(&BTreeSet::from_iter(*blocks).len())));
@@ -82,6 +99,8 @@ fn all_certificates_of_an_automaton_name_the_same_blocks() {
     }
     println!("{models} models, {several} with three different certificates, {apart} with more blocks than one and fewer than states");
     println!("{refuted} refutations, {met} flows, {detours} with internal steps");
+    println!("{spellings} merged models in several spellings, {dropped} transitions dropped that differed in their terms alone");
+    assert!(2 * spellings > models && dropped as u64 > models);
     assert!(4 * several > 3 * models && 4 * apart > models);
     assert!(refuted > 10 * models && met > 100 * models && detours > 50 * models);
 }

@@ -123,6 +123,12 @@ pastSame {z = z} r y a b n = go (eqb a b) refl
 pub false-not : false ≡ true → ⊥
 false-not e = subst (λ (t : Bool). cond t ⊥ (Unit {0})) e tt
 
+-- two tests that hold together
+pub one-test : (a b : Bool) → (a ≡ true → b ≡ true) → (b ≡ true → a ≡ true) → a ≡ b
+one-test true b f g = sym (f refl)
+one-test false true f g = g refl
+one-test false false f g = refl
+
 -- both tests hold exactly where each does
 pub both-true : (a b : Bool) → both a b ≡ true → (a ≡ true) × (b ≡ true)
 unfolding both

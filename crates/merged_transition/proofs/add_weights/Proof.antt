@@ -1,17 +1,18 @@
 -- `add_weights` meets its contract. The invariant is `Adding`.
 use native.Mathlib.Omega.{arith}
+use mathlib.Core.Path.{refl}
 use borrow.Author.Needs.{needs}
 use Rattle.transition.specs.Known.{entriesOf}
-use Rattle.merged_transition.specs.WeightsLaws.{Adding, adding-start, adding-state, adding-block, adding-fits, adding-turn, adding-end}
+use Rattle.merged_transition.specs.WeightsLaws.{Adding, adding-start, adding-state, adding-block, adding-fits, adding-turn, adding-end, adding-few}
 use Rattle.merged_transition.proofs.add_weights.Statement.{statement}
 use Rattle.merged_transition.proofs.add_weights.Tie as tie
 
 abbrev Inv-loop : tie.InvT-loop
-Inv-loop s places r blocks weights₀ left₀ place₀ weights left place =
-    Adding s blocks (entriesOf s r) weights left (place .at)
+Inv-loop s places r blocks weights₀ left₀ place₀ count₀ weights left place count =
+    Adding s blocks (entriesOf s r) weights count left (place .at)
 
 abbrev μ-loop : tie.MeasureT-loop
-μ-loop s places r blocks weights₀ left₀ place₀ weights left place = left
+μ-loop s places r blocks weights₀ left₀ place₀ count₀ weights left place count = left
 
 fields-of-requires : tie.Need-fields-of-requires Inv-loop μ-loop
 fields-of-requires c κs = search needs
@@ -25,24 +26,27 @@ entry-at-requires c κs = omega arith
 block-of-requires : tie.Need-block-of-requires Inv-loop μ-loop
 block-of-requires c κs = adding-state _ (c .before .before .loop .inv) (omega arith) (c .entry-at .ensures)
 
-element-copy-out-sum : tie.Need-element-copy-out-sum Inv-loop μ-loop
-element-copy-out-sum c =
+element-copy-out-weight : tie.Need-element-copy-out-weight Inv-loop μ-loop
+element-copy-out-weight c =
     adding-block _ (c .before .before .before .loop .inv) (omega arith) (c .before .entry-at .ensures) (c .block-of .ensures .0)
 
-mul-sum : tie.Need-mul-sum Inv-loop μ-loop
-mul-sum c = record { fits = omega (arith, element-copy-out-sum c) }
+mul-weight : tie.Need-mul-weight Inv-loop μ-loop
+mul-weight c = record { fits = omega (arith, element-copy-out-weight c) }
 
 add-sum : tie.Need-add-sum Inv-loop μ-loop
 add-sum c =
     record {
-      fits = omega (arith, adding-fits (c .before .before .before .before .before .loop .inv) (element-copy-out-sum (c .before .before)), c .before .before .before .entry-at .ensures .small);
+      fits = omega (arith, adding-fits (c .before .before .before .before .before .loop .inv) (element-copy-out-weight (c .before .before)), c .before .before .before .entry-at .ensures .small);
     }
 
+counted-requires : tie.Need-counted-requires Inv-loop μ-loop
+counted-requires c κs = (adding-few (c .before .before .before .before .before .loop .inv), omega arith)
+
 mul-weights : tie.Need-mul-weights Inv-loop μ-loop
-mul-weights c = record { fits = omega (arith, element-copy-out-sum (c .before .before)) }
+mul-weights c = record { fits = omega (arith, element-copy-out-weight (c .before .before .before)) }
 
 element-write-weights : tie.Need-element-write-weights Inv-loop μ-loop
-element-write-weights c = element-copy-out-sum (c .before .before)
+element-write-weights c = element-copy-out-weight (c .before .before .before)
 
 sub-left : tie.Need-sub-left Inv-loop μ-loop
 sub-left c = omega arith
@@ -52,7 +56,7 @@ loop-less c = omega arith
 
 loop-again : tie.Need-loop-again Inv-loop μ-loop
 loop-again c =
-    adding-turn _ (c .before .before .before .before .before .before .loop .inv) (omega arith) (c .before .before .before .before .entry-at .ensures) (c .before .before .before .block-of .ensures .0) (omega arith)
+    adding-turn _ (c .before .before .before .before .before .before .before .loop .inv) (omega arith) (c .before .before .before .before .before .entry-at .ensures) (c .before .before .before .before .block-of .ensures .0) refl (c .before .counted .ensures)
 
 returns : tie.Need-returns Inv-loop μ-loop
 returns c = adding-end _ (c .before .loop .inv) (omega arith)
@@ -67,9 +71,10 @@ add-weights-spec =
     loop-holds
     entry-at-requires
     block-of-requires
-    mul-sum
-    element-copy-out-sum
+    mul-weight
+    element-copy-out-weight
     add-sum
+    counted-requires
     mul-weights
     element-write-weights
     sub-left

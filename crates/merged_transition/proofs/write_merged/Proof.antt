@@ -16,23 +16,20 @@ block-of-requires c κs = search needs
 add-weights-requires : tie.Need-add-weights-requires
 add-weights-requires c κs = merging-adds (c .before .before .before .before .before .before .pre)
 
-some-weights-requires : tie.Need-some-weights-requires
-some-weights-requires c κs = search needs
-
 fixed-requires : tie.Need-fixed-requires
 fixed-requires c κs =
-    let at-add = c .before .before .before in
+    let at-add = c .before in
     let at-fields = at-add .before .before .before in
     let m = at-fields .before .before .before .before .pre in
     let t = at-fields .fields-of .ensures in
-    let few = count-small m (at-add .add-weights .ensures) (c .before .some-weights .ensures) in
+    let few = count-small m (at-add .add-weights .ensures) in
     (omega arith, omega (arith, t .from, few-states (m .transition .known)), omega (arith, fields-small (m .transition) t), omega (arith, t .small, few), omega (arith, few))
 
 write-entries-requires : tie.Need-write-entries-requires
 write-entries-requires c κs =
     let at-fixed = c .before .before .before .before in
-    let at-add = at-fixed .before .before .before .before in
-    merging-writes (at-add .before .before .before .before .before .before .before .pre) (at-add .add-weights .ensures) _ _ _ _ (at-fixed .fixed .ensures)
+    let at-add = at-fixed .before .before in
+    merging-writes (at-add .before .before .before .before .before .before .before .pre) (at-add .add-weights .ensures) _ _ _ (at-fixed .fixed .ensures)
 
 same-length : tie.Need-same-length
 same-length c =
@@ -41,12 +38,11 @@ same-length c =
 returns : tie.Need-returns
 returns c =
     let at-fixed = c .before .before .before .before .before .before .before in
-    let at-count = at-fixed .before .before in
-    let at-add = at-count .before .before in
+    let at-add = at-fixed .before .before in
     let at-block = at-add .before .before in
     let at-fields = at-block .before in
-    merged-done (at-fields .before .before .before .before .pre) (at-add .add-weights .ensures) _ _ _ _ (at-fixed .fixed .ensures) (at-fields .fields-of .ensures)
-    (at-block .block-of .ensures .0) (omega arith) (omega arith) (at-count .some-weights .ensures) (c .before .before .write-entries .ensures)
+    merged-done (at-fields .before .before .before .before .pre) (at-add .add-weights .ensures) _ _ _ (at-fixed .fixed .ensures) (at-fields .fields-of .ensures)
+    (at-block .block-of .ensures .0) (omega arith) (omega arith) (c .before .before .write-entries .ensures)
 
 pub write-merged-spec : {M : Type 1} → statement M
 write-merged-spec =
@@ -55,7 +51,6 @@ write-merged-spec =
     fields-of-requires
     block-of-requires
     add-weights-requires
-    some-weights-requires
     fixed-requires
     write-entries-requires
     same-length

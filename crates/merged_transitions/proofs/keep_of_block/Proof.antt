@@ -48,7 +48,7 @@ is-repeated-requires c κs =
     let written = c .before .before .before .before in
     let asked = written .before .before .before in
     let pre = start-of asked .pre in
-    record { kept = _; last = _; stands = stands (pre .0) (pre .1) (in-block asked) (written .write-merged .ensures) }
+    record { next = _; states = _; actions = _; kept = _; last = _; stands = stands (pre .0) (pre .1) (in-block asked) (written .write-merged .ensures) }
 
 same-length : tie.Need-same-length
 same-length c = c .before .before .before .before .before .before .write-merged .ensures .appended .size

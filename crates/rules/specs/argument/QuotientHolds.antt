@@ -1,20 +1,23 @@
--- The merged model of files: its laws hold whenever a certificate is accepted, and all accepted certificates for one model give one merged file.
+-- The merged model of files: its laws hold whenever a certificate is accepted; all accepted certificates for one model give one merged file, and
+-- those for one automaton merged models that hold one automaton.
 use Prim.Native.Nat.{ℕ, _≤_, _<_}
 use mathlib.Core.Path.{_≡_, sym, ap, subst}
 use mathlib.Core.List.{List}
 use lib.ListN.{length}
 use Rattle.rules.specs.definitions.Limits.{Limits}
-use Rattle.rules.specs.definitions.Model.{Model, automatonOf}
+use Rattle.rules.specs.definitions.Model.{Model, automatonOf, HoldOneAutomaton}
 use Rattle.rules.specs.definitions.SoundModel.{FitsWidths, Bytes}
 use Rattle.rules.specs.argument.ReadSound.{read-whole-sound}
 use Rattle.rules.specs.definitions.Judging.{NameSameBlocks}
 use Rattle.rules.specs.argument.AnyRule.{CertificateRule, PairRules, pairsOf}
 use Rattle.rules.specs.definitions.Demand3.{HoldsModel}
 use Rattle.rules.specs.definitions.Demands.{AcceptedBy}
-use Rattle.rules.specs.definitions.Quotient.{mergedFile}
+use Rattle.rules.specs.definitions.Quotient.{quotient, mergedFile}
 use Rattle.rules.specs.definitions.Merged.{MergedModel, Merges}
 use Rattle.rules.specs.argument.Demand3Holds.{itself, facts-of, demand3}
 use Rattle.rules.specs.argument.PlainRules.{wholeRules}
+use Rattle.rules.specs.argument.KeptTransitions.{stand-for-each-other, no-two-same}
+use Rattle.rules.specs.argument.MergedSpelling.{merged-one}
 use Rattle.rules.specs.argument.QuotientLaws.{NumberedBlocks, quotient-sound, merged-reads, merged-length, merged-states, merged-below, merged-label, merged-each}
 
 -- the blocks of an accepted certificate are numbered by first appearance, one a state
@@ -42,8 +45,15 @@ module _ (L : Limits) (widths : FitsWidths L) (few : L .refutations < 65536) (ru
               below = merged-below L M ok blocks named;
               label = merged-label L M ok blocks named (λ u v h l e. unfold automatonOf in facts .largest .itself .keepsLabels u v (record { first = h; second = l; same = e }));
               each = merged-each L M ok blocks named;
+              transitions = stand-for-each-other L M ok blocks named;
+              apart = no-two-same L M ok blocks named;
             };
         oneFile = λ bytes C₁ blocks₁ C₂ blocks₂ b c₁ c₂ a₁ a₂ M h.
             ap (mergedFile M)
             (demand3 (wholeRules L widths few rule) .oneAnswer bytes C₁ blocks₁ bytes C₂ blocks₂ b c₁ b c₂ a₁ a₂ M M h h (itself M));
+        oneAutomaton = λ bytes₁ C₁ blocks₁ bytes₂ C₂ blocks₂ b₁ c₁ b₂ c₂ a₁ a₂ M N h k one.
+            let by = wholeRules L widths few rule in
+            subst (λ (blocks : List ℕ). HoldOneAutomaton (quotient M blocks₁) (quotient N blocks))
+            (demand3 by .oneAnswer bytes₁ C₁ blocks₁ bytes₂ C₂ blocks₂ b₁ c₁ b₂ c₂ a₁ a₂ M N h k one)
+            (merged-one L M N (facts-of by bytes₁ C₁ blocks₁ b₁ c₁ a₁ M h .sound) (facts-of by bytes₂ C₂ blocks₂ b₂ c₂ a₂ N k .sound) one blocks₁ (accepted-numbered by bytes₁ C₁ blocks₁ b₁ c₁ a₁ h));
       }

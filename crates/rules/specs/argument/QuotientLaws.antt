@@ -9,13 +9,13 @@ use native.Mathlib.Nat.{add-zero}
 use Rattle.bisimulation.specs.definitions.Choice.{ifSame, ifTrue}
 use Rattle.bisimulation.specs.argument.ChoiceLaws.{same, notSame, eitherSame, eitherTrue}
 use Rattle.bisimulation.specs.definitions.Sum.{sum}
-use Rattle.bisimulation.specs.argument.SumLaws.{sumCong}
+use Rattle.bisimulation.specs.argument.SumLaws.{sumCong, sumZero}
 use Rattle.rules.specs.definitions.Limits.{Limits}
 use Rattle.rules.specs.definitions.Bytes.{twoBytes}
-use Rattle.rules.specs.definitions.Model.{Entry, Transition, Model, transitionBytes, transitionsBytes, headBytes, labelsBytes, modelBytes}
+use Rattle.rules.specs.definitions.Model.{Entry, Transition, Model, weightOf, transitionBytes, transitionsBytes, headBytes, labelsBytes, modelBytes}
 use Rattle.rules.specs.definitions.Reading.{readWhole, model}
 use Rattle.rules.specs.definitions.SoundModel.{Each, sumOver, TransitionRules, SoundModel, FitsWidths}
-use Rattle.rules.specs.argument.SoundModelLaws.{each-map, each-append, From, from-lower, along-from, StatesFrom, SourcesFrom}
+use Rattle.rules.specs.argument.SoundModelLaws.{each-map, each-append, From, from-lower, along-from, StatesFrom, SourcesFrom, no-weight, sum-with}
 use Rattle.rules.specs.argument.ReadBack.{transitionBytes-length, read-back-whole}
 use Rattle.rules.specs.argument.LargestBlocks.{Numbered}
 use Rattle.rules.specs.definitions.Quotient.{blockCount, labelOfBlock, blockLabels, weightToBlock, blockEntries, mergedTransition, fromBlock, isAmong, distinct, byBlock, quotient, mergedFile}
@@ -176,6 +176,51 @@ module _ (blocks : List ℕ) where
       } in
       whichSame (λ (xs : List Entry). EntriesTo es b end (xs ++ later)) weight 0 without with
 
+  -- the weight of a block's entry is what is added up to it
+  pub weight-at : (es : List Entry) (left b c : ℕ) → b ≤ c → c < b + left → weightOf (blockEntries blocks es left b) c ≡ weightToBlock blocks es c
+  unfolding blockEntries weightOf
+  weight-at es zero b c from less = absurd (omega arith)
+  weight-at es (suc left) b c from less = go (ℕ-discrete b c) (λ above. weight-at es left (b + 1) c (omega arith) (omega arith))
+    where
+      later : List Entry
+      later = blockEntries blocks es left (b + 1)
+
+      weight : ℕ
+      weight = weightToBlock blocks es b
+
+      At : List Entry → Type 0
+      At xs = weightOf (xs ++ later) c ≡ weightToBlock blocks es c
+
+      go : Dec (b ≡ c) → (b < c → weightOf later c ≡ weightToBlock blocks es c) → At (ifSame weight 0 [] (record { state = b; weight = weight } ∷ []))
+      go (yes e) ih =
+          let here : weight ≡ weightToBlock blocks es c = ap (weightToBlock blocks es) e in
+          whichSame At weight 0
+          (λ none. no-weight later (b + 1) c (entries-to es left (b + 1) (b + 1 + left) refl .from) (omega arith) ∙ sym none ∙ here)
+          (λ some. unfold weightOf in sym (same (weightOf later c) e (sym here)))
+      go (no n) ih =
+          let rest = ih (omega arith) in
+          whichSame At weight 0 (λ none. rest) (λ some. unfold weightOf in sym (notSame weight n (sym rest)))
+
+  -- it is the sum of the weights of the block's states
+  pub weights-into : (n : ℕ) (es : List Entry) (lowest : ℕ) → StatesFrom lowest es → Each (λ (e : Entry). e .state < n) es → (c : ℕ) → weightToBlock blocks es c ≡ sum n (λ v. ifSame (getD blocks v 0) c (weightOf es v) 0)
+  unfolding weightToBlock weightOf From Each
+  weights-into n [] lowest from known c = sym (sumZero n _ (λ v l. sym (eitherSame (λ (x : ℕ). 0 ≡ x) (getD blocks v 0) c refl refl)))
+  weights-into n (e ∷ es) lowest from known c =
+      let f : ℕ → ℕ = λ v. ifSame (getD blocks v 0) c (weightOf es v) 0 in
+      let own = ifSame (getD blocks (e .state) 0) c (e .weight) 0 in
+      let none : f (e .state) ≡ 0 =
+      ap (λ (x : ℕ). ifSame (getD blocks (e .state) 0) c x 0) (no-weight es (suc (e .state)) (e .state) (from .1) (omega arith))
+      ∙ sym (eitherSame (λ (x : ℕ). 0 ≡ x) (getD blocks (e .state) 0) c refl refl) in
+      ap (λ (x : ℕ). own + x) (weights-into n es (suc (e .state)) (from .1) (known .1) c)
+      ∙ sym (sum-with (e .state) own f none n (known .0))
+      ∙ sumCong n _ _ (λ v l. at v)
+    where
+      at : (v : ℕ) → ifSame (e .state) v (ifSame (getD blocks (e .state) 0) c (e .weight) 0) (ifSame (getD blocks v 0) c (weightOf es v) 0) ≡ ifSame (getD blocks v 0) c (ifSame (e .state) v (e .weight) (weightOf es v)) 0
+      at v =
+          whichSame (λ (x : ℕ). x ≡ ifSame (getD blocks v 0) c (ifSame (e .state) v (e .weight) (weightOf es v)) 0) (e .state) v
+          (λ s. ap (λ (u : ℕ). ifSame (getD blocks u 0) c (e .weight) 0) s ∙ ap (λ (x : ℕ). ifSame (getD blocks v 0) c x 0) (same (weightOf es v) s refl))
+          (λ n. ap (λ (x : ℕ). ifSame (getD blocks v 0) c x 0) (notSame (e .weight) n refl))
+
   -- a merged transition keeps the rules, with no more entries
   module _ (n m : ℕ) (t : Transition) (rules : TransitionRules n m t) (below : (v : ℕ) → v < n → getD blocks v 0 < blockCount blocks) where
     entry-blocks : Each (λ (e : Entry). blockOf e < blockCount blocks) (t .entries)
@@ -211,19 +256,19 @@ module _ (blocks : List ℕ) where
         }
 
 -- dropping what came before keeps each, and adds up to no more
-pub each-distinct : (P : Transition → Type 0) (before ts : List Transition) → Each P ts → Each P (distinct before ts)
+pub each-distinct : (k : ℕ) (P : Transition → Type 0) (before ts : List Transition) → Each P ts → Each P (distinct k before ts)
 unfolding distinct Each
-each-distinct P before [] h = tt
-each-distinct P before (t ∷ ts) h =
-    each-append P (ifTrue (isAmong t before) [] (t ∷ [])) (distinct (t ∷ before) ts)
-    (eitherTrue (Each P) (isAmong t before) {x = []} {y = t ∷ []} tt (h .0, tt)) (each-distinct P (t ∷ before) ts (h .1))
+each-distinct k P before [] h = tt
+each-distinct k P before (t ∷ ts) h =
+    each-append P (ifTrue (isAmong k t before) [] (t ∷ [])) (distinct k (t ∷ before) ts)
+    (eitherTrue (Each P) (isAmong k t before) {x = []} {y = t ∷ []} tt (h .0, tt)) (each-distinct k P (t ∷ before) ts (h .1))
 
-pub sum-distinct : (g : Transition → ℕ) (before ts : List Transition) → sumOver g (distinct before ts) ≤ sumOver g ts
+pub sum-distinct : (k : ℕ) (g : Transition → ℕ) (before ts : List Transition) → sumOver g (distinct k before ts) ≤ sumOver g ts
 unfolding distinct sumOver
-sum-distinct g before [] = omega arith
-sum-distinct g before (t ∷ ts) =
-    let ih = sum-distinct g (t ∷ before) ts in
-    eitherTrue (λ (xs : List Transition). sumOver g (xs ++ distinct (t ∷ before) ts) ≤ g t + sumOver g ts) (isAmong t before) (omega arith) (omega arith)
+sum-distinct k g before [] = omega arith
+sum-distinct k g before (t ∷ ts) =
+    let ih = sum-distinct k g (t ∷ before) ts in
+    eitherTrue (λ (xs : List Transition). sumOver g (xs ++ distinct k (t ∷ before) ts) ≤ g t + sumOver g ts) (isAmong k t before) (omega arith) (omega arith)
 
 -- transitions of one source, before others of higher ones
 sources-level : (b : ℕ) (ts us : List Transition) (low : ℕ) → low ≤ b → Each (λ (t : Transition). t .source ≡ b) ts → SourcesFrom (b + 1) us → SourcesFrom low (ts ++ us)
@@ -253,19 +298,19 @@ module _ (blocks : List ℕ) where
       sumOver-append g (ifSame (sourceBlock t) b (m ∷ []) []) (fromBlock blocks ts b) ∙ ap₂ _+_ first (sum-from g b ts)
 
   module _ (ts : List Transition) where
-    each-by-block : (P : Transition → Type 0) → Each (λ (t : Transition). P (mergedTransition blocks t)) ts → (left b : ℕ) → Each P (byBlock blocks ts left b)
+    pub each-by-block : (P : Transition → Type 0) → Each (λ (t : Transition). P (mergedTransition blocks t)) ts → (left b : ℕ) → Each P (byBlock blocks ts left b)
     unfolding byBlock Each
     each-by-block P h zero b = tt
     each-by-block P h (suc left) b =
-        each-append P (distinct [] (fromBlock blocks ts b)) (byBlock blocks ts left (b + 1))
-        (each-distinct P [] (fromBlock blocks ts b) (each-from P b ts (each-map _ _ (λ t k e. k) ts h))) (each-by-block P h left (b + 1))
+        each-append P (distinct (blockCount blocks) [] (fromBlock blocks ts b)) (byBlock blocks ts left (b + 1))
+        (each-distinct (blockCount blocks) P [] (fromBlock blocks ts b) (each-from P b ts (each-map _ _ (λ t k e. k) ts h))) (each-by-block P h left (b + 1))
 
     sources-by-block : (left b : ℕ) → SourcesFrom b (byBlock blocks ts left b)
     unfolding byBlock From mergedTransition
     sources-by-block zero b = tt
     sources-by-block (suc left) b =
-        sources-level b (distinct [] (fromBlock blocks ts b)) (byBlock blocks ts left (b + 1)) b (omega arith)
-        (each-distinct _ [] (fromBlock blocks ts b) (each-from _ b ts (each-all _ (λ t e. e) ts))) (sources-by-block left (b + 1))
+        sources-level b (distinct (blockCount blocks) [] (fromBlock blocks ts b)) (byBlock blocks ts left (b + 1)) b (omega arith)
+        (each-distinct (blockCount blocks) _ [] (fromBlock blocks ts b) (each-from _ b ts (each-all _ (λ t e. e) ts))) (sources-by-block left (b + 1))
 
     pub sum-by-block : (g : Transition → ℕ) (left b end : ℕ) → b + left ≡ end → sum b (λ c. sumOver g (fromBlock blocks ts c)) + sumOver g (byBlock blocks ts left b) ≤ sum end (λ c. sumOver g (fromBlock blocks ts c))
     unfolding byBlock sum sumOver
@@ -273,9 +318,9 @@ module _ (blocks : List ℕ) where
         let here : b ≡ end = omega arith in
         omega (arith, ap (λ (k : ℕ). sum k (λ c. sumOver g (fromBlock blocks ts c))) here)
     sum-by-block g (suc left) b end isEnd =
-        let parts : sumOver g (byBlock blocks ts (suc left) b) ≡ sumOver g (distinct [] (fromBlock blocks ts b)) + sumOver g (byBlock blocks ts left (b + 1)) =
-        sumOver-append g (distinct [] (fromBlock blocks ts b)) (byBlock blocks ts left (b + 1)) in
-        omega (arith, parts, sum-by-block g left (b + 1) end (omega arith), sum-next b (λ c. sumOver g (fromBlock blocks ts c)), sum-distinct g [] (fromBlock blocks ts b))
+        let parts : sumOver g (byBlock blocks ts (suc left) b) ≡ sumOver g (distinct (blockCount blocks) [] (fromBlock blocks ts b)) + sumOver g (byBlock blocks ts left (b + 1)) =
+        sumOver-append g (distinct (blockCount blocks) [] (fromBlock blocks ts b)) (byBlock blocks ts left (b + 1)) in
+        omega (arith, parts, sum-by-block g left (b + 1) end (omega arith), sum-next b (λ c. sumOver g (fromBlock blocks ts c)), sum-distinct (blockCount blocks) g [] (fromBlock blocks ts b))
 
     -- numbers that merging a transition does not raise add up to no more
     sum-merged : (g : Transition → ℕ) → Each (λ (t : Transition). sourceBlock t < blockCount blocks) ts → Each (λ (t : Transition). g (mergedTransition blocks t) ≤ g t) ts → sumOver g (byBlock blocks ts (blockCount blocks) 0) ≤ sumOver g ts

@@ -24,6 +24,12 @@ each-at P [] i d h less = absurd (omega arith)
 each-at P (x ∷ xs) zero d h less = h .0
 each-at P (x ∷ xs) (suc i) d h less = each-at P xs i d (h .1) (omega arith)
 
+-- and the other way round
+pub at-each : {A : Type 0} (P : A → Type 0) (xs : List A) (d : A) → ((i : ℕ) → i < length xs → P (getD xs i d)) → Each P xs
+unfolding Each
+at-each P [] d h = tt
+at-each P (x ∷ xs) d h = (h 0 (omega arith), at-each P xs d (λ i less. h (suc i) (omega arith)))
+
 -- what follows from P of one element follows of each, and each of two lists are each of the two in a row
 pub each-map : {A : Type 0} (P Q : A → Type 0) → ((x : A) → P x → Q x) → (xs : List A) → Each P xs → Each Q xs
 unfolding Each
@@ -34,6 +40,11 @@ pub each-append : {A : Type 0} (P : A → Type 0) (xs ys : List A) → Each P xs
 unfolding Each
 each-append P [] ys h k = k
 each-append P (x ∷ xs) ys h k = (h .0, each-append P xs ys (h .1) k)
+
+pub each-parts : {A : Type 0} (P : A → Type 0) (xs ys : List A) → Each P (xs ++ ys) → Each P xs × Each P ys
+unfolding Each
+each-parts P [] ys h = (tt, h)
+each-parts P (x ∷ xs) ys h = let k = each-parts P xs ys (h .1) in ((h .0, k .0), k .1)
 
 -- the first number is not below `lowest`, and none is below what `next` says of the element before it
 unfoldable pub From : {A : Type 0} → (A → ℕ) → (A → ℕ) → ℕ → List A → Type 0

@@ -16,7 +16,7 @@ use Rattle.rules.specs.definitions.Certificate.{refutationCount, certifi
 use Rattle.rules.specs.definitions.Faults.{fault, firstOf, openFault}
 use Rattle.rules.specs.definitions.PlainRule.{byKind, plainPriceCount, priceCondition, allWithAction, allRelated, below, lastFault, internalPricesFault, externalPricesFault, plainPricesFault, plainInQuestion, breakFrom, firstBreak, internalEquationsFault, externalEquationsFault, plainEquationsFault, plainRule}
 use Rattle.rules.specs.definitions.Judging.{Judgement, accepted, rejected, rejectAt, questionsOfPair, questionsOfState, questionsFrom, questions, judgeFlows, judgeBlocks, judgeRefutations, judgeCertificate, judgeReading, judge}
-use Rattle.rules.specs.definitions.Quotient.{blockCount, labelOfBlock, blockLabels, weightToBlock, blockEntries, mergedTransition, fromBlock, sameEntries, sameTransition, isAmong, distinct, byBlock, quotient, mergedFile}
+use Rattle.rules.specs.definitions.Quotient.{blockCount, labelOfBlock, blockLabels, weightToBlock, blockEntries, mergedTransition, fromBlock, sameTransition, isAmong, distinct, byBlock, quotient, mergedFile}
 use Rattle.rules.specs.definitions.SoundModel.{Each}
 use Rattle.rules.specs.cases.Cases.{modelS, certificateS}
 use Rattle.rules.specs.cases.MoreCases.{OutcomeCase, outcomeOf}
@@ -59,16 +59,44 @@ fourStates =
     }
 
 -- of block 0 the first transition, whose targets join, is kept and the last, the same, is not; that of state 1 is the same but for its
--- block, and is kept; that of state 3 has another d
+-- block, and is kept; that of state 3 is the same as it in other terms
 unfoldable pub fourMerged : List ℕ
 fourMerged =
-    0x50 ∷ 0x41 ∷ 2 ∷ 2 ∷ 0 ∷ 4
+    0x50 ∷ 0x41 ∷ 2 ∷ 2 ∷ 0 ∷ 3
     ∷ 0x4C ∷ 0x42 ∷ 5 ∷ 6
     ∷ 0x54 ∷ 0x52 ∷ 0 ∷ 1 ∷ 0 ∷ 4 ∷ 1 ∷ 1 ∷ 0 ∷ 4
     ∷ 0x54 ∷ 0x52 ∷ 0 ∷ 0 ∷ 0 ∷ 2 ∷ 2 ∷ 0 ∷ 0 ∷ 1 ∷ 1 ∷ 0 ∷ 1
-    ∷ 0x54 ∷ 0x52 ∷ 1 ∷ 1 ∷ 0 ∷ 4 ∷ 1 ∷ 1 ∷ 0 ∷ 4
-    ∷ 0x54 ∷ 0x52 ∷ 1 ∷ 1 ∷ 0 ∷ 2 ∷ 1 ∷ 1 ∷ 0 ∷ 2 ∷ []
+    ∷ 0x54 ∷ 0x52 ∷ 1 ∷ 1 ∷ 0 ∷ 4 ∷ 1 ∷ 1 ∷ 0 ∷ 4 ∷ []
 
-pub merged-cases : (mergedFile fourStates (0 ∷ 1 ∷ 0 ∷ 1 ∷ []) ≡ fourMerged) × Each (λ (c : OutcomeCase). pairOutcome limits (readWhole limits) plainRule writesMerged modelS (c .certificate) (c .before) ≡ c .expected) reduceCases
-unfolding ifLess ifSame ifTrue allBelow sum sumℤ arriving leaving overTargets overSources beforeMove afterMove internalMove atTarget priceAt priceOfTargets byteAt twoAt threeAt fourAt signedAt weightOf automatonOf openFault statesOf actionsOf countOf rangeFault headFault labelFault labelsFault sourceAt actionAt denominatorAt entryCountAt afterTransition fixedFault fixedFaultAt entriesFault transitionFault refuseAt scanTransitions scanModel refuseBytesLeft scanWhole entriesAt transitionAt transitionsAt modelAt readingOf readWhole firstOf both equalLabels isPair removed refutationCount certificateHeadFault challengerAt defenderAt pricesAt afterRefutation pairFault refutationFault pairsAfter blocksAt numberedFault sameBlock agree pairsFault blocksFault kCountAt afterK wCountAt afterFlow kOf wOf flowAt kFault wFault flowFault byKind plainPriceCount priceCondition allWithAction allRelated below lastFault internalPricesFault externalPricesFault plainPricesFault plainInQuestion breakFrom firstBreak internalEquationsFault externalEquationsFault plainEquationsFault rejectAt questionsOfPair questionsOfState questionsFrom questions judgeFlows judgeBlocks judgeRefutations judgeCertificate judgeReading judge modelS certificateS refusalIn answerWithoutPlace fileOf judgementAnswer unwritten filled judgedOutcome readOutcome pairOutcome Each twoBytes headBytes labelsBytes entriesBytes transitionBytes transitionsBytes modelBytes blockCount labelOfBlock blockLabels weightToBlock blockEntries mergedTransition fromBlock sameEntries sameTransition isAmong distinct byBlock quotient mergedFile fileOutcome mergedS reduceCases fourStates fourMerged
-merged-cases = (refl, (refl, (refl, (refl, (refl, tt)))))
+-- states 0 and 3 are one block, 1 and 2 one each: halves and two quarters
+unfoldable pub halves : Model
+halves =
+    record {
+      actions = 2;
+      labels = 5 ∷ 6 ∷ 7 ∷ 5 ∷ [];
+      transitions =
+          record { source = 0; action = 1; denominator = 2; entries = record { state = 0; weight = 1 } ∷ record { state = 1; weight = 1 } ∷ [] }
+          ∷ record { source = 0; action = 1; denominator = 4; entries = record { state = 0; weight = 2 } ∷ record { state = 1; weight = 1 } ∷ record { state = 2; weight = 1 } ∷ [] }
+          ∷ record { source = 0; action = 1; denominator = 2; entries = record { state = 0; weight = 1 } ∷ record { state = 2; weight = 1 } ∷ [] }
+          ∷ record { source = 0; action = 0; denominator = 4; entries = record { state = 0; weight = 2 } ∷ record { state = 1; weight = 2 } ∷ [] }
+          ∷ record { source = 0; action = 1; denominator = 2; entries = record { state = 0; weight = 2 } ∷ [] }
+          ∷ record { source = 3; action = 1; denominator = 4; entries = record { state = 0; weight = 1 } ∷ record { state = 1; weight = 2 } ∷ record { state = 3; weight = 1 } ∷ [] }
+          ∷ record { source = 3; action = 0; denominator = 2; entries = record { state = 1; weight = 1 } ∷ record { state = 3; weight = 1 } ∷ [] }
+          ∷ [];
+    }
+
+-- of state 0 all are kept, of which three lead to block 0 with the same probability and two have the same but for the action; the two of state 3
+-- are the same as the first and the fourth, whose denominators stand
+unfoldable pub halvesMerged : List ℕ
+halvesMerged =
+    0x50 ∷ 0x41 ∷ 3 ∷ 2 ∷ 0 ∷ 5
+    ∷ 0x4C ∷ 0x42 ∷ 5 ∷ 6 ∷ 7
+    ∷ 0x54 ∷ 0x52 ∷ 0 ∷ 1 ∷ 0 ∷ 2 ∷ 2 ∷ 0 ∷ 0 ∷ 1 ∷ 1 ∷ 0 ∷ 1
+    ∷ 0x54 ∷ 0x52 ∷ 0 ∷ 1 ∷ 0 ∷ 4 ∷ 3 ∷ 0 ∷ 0 ∷ 2 ∷ 1 ∷ 0 ∷ 1 ∷ 2 ∷ 0 ∷ 1
+    ∷ 0x54 ∷ 0x52 ∷ 0 ∷ 1 ∷ 0 ∷ 2 ∷ 2 ∷ 0 ∷ 0 ∷ 1 ∷ 2 ∷ 0 ∷ 1
+    ∷ 0x54 ∷ 0x52 ∷ 0 ∷ 0 ∷ 0 ∷ 4 ∷ 2 ∷ 0 ∷ 0 ∷ 2 ∷ 1 ∷ 0 ∷ 2
+    ∷ 0x54 ∷ 0x52 ∷ 0 ∷ 1 ∷ 0 ∷ 2 ∷ 1 ∷ 0 ∷ 0 ∷ 2 ∷ []
+
+pub merged-cases : (mergedFile fourStates (0 ∷ 1 ∷ 0 ∷ 1 ∷ []) ≡ fourMerged) × (mergedFile halves (0 ∷ 1 ∷ 2 ∷ 0 ∷ []) ≡ halvesMerged) × Each (λ (c : OutcomeCase). pairOutcome limits (readWhole limits) plainRule writesMerged modelS (c .certificate) (c .before) ≡ c .expected) reduceCases
+unfolding ifLess ifSame ifTrue allBelow sum sumℤ arriving leaving overTargets overSources beforeMove afterMove internalMove atTarget priceAt priceOfTargets byteAt twoAt threeAt fourAt signedAt weightOf automatonOf openFault statesOf actionsOf countOf rangeFault headFault labelFault labelsFault sourceAt actionAt denominatorAt entryCountAt afterTransition fixedFault fixedFaultAt entriesFault transitionFault refuseAt scanTransitions scanModel refuseBytesLeft scanWhole entriesAt transitionAt transitionsAt modelAt readingOf readWhole firstOf both equalLabels isPair removed refutationCount certificateHeadFault challengerAt defenderAt pricesAt afterRefutation pairFault refutationFault pairsAfter blocksAt numberedFault sameBlock agree pairsFault blocksFault kCountAt afterK wCountAt afterFlow kOf wOf flowAt kFault wFault flowFault byKind plainPriceCount priceCondition allWithAction allRelated below lastFault internalPricesFault externalPricesFault plainPricesFault plainInQuestion breakFrom firstBreak internalEquationsFault externalEquationsFault plainEquationsFault rejectAt questionsOfPair questionsOfState questionsFrom questions judgeFlows judgeBlocks judgeRefutations judgeCertificate judgeReading judge modelS certificateS refusalIn answerWithoutPlace fileOf judgementAnswer unwritten filled judgedOutcome readOutcome pairOutcome Each twoBytes headBytes labelsBytes entriesBytes transitionBytes transitionsBytes modelBytes blockCount labelOfBlock blockLabels weightToBlock blockEntries mergedTransition fromBlock sameTransition isAmong distinct byBlock quotient mergedFile fileOutcome mergedS reduceCases fourStates fourMerged halves halvesMerged
+merged-cases = (refl, refl, (refl, (refl, (refl, (refl, tt)))))

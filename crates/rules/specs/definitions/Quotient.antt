@@ -1,11 +1,11 @@
--- Document 01, 'The merged model': a model and blocks give a model, whose bytes are the merged file.
-use Prim.Native.Nat.{ℕ, zero, suc, _+_}
+-- Document 01, 'The merged model', and document 02, K3: a model and blocks give a model, whose bytes are the merged file.
+use Prim.Native.Nat.{ℕ, zero, suc, _+_, _*_}
 use mathlib.Core.List.{List, [], _∷_, _++_}
 use mathlib.Core.Bool.{Bool, true, false}
 use lib.Dec.{eqb}
 use lib.ListN.{getD}
-use Rattle.bisimulation.specs.definitions.Choice.{ifLess, ifSame, ifTrue, both}
-use Rattle.rules.specs.definitions.Model.{Entry, Transition, Model, modelBytes}
+use Rattle.bisimulation.specs.definitions.Choice.{ifLess, ifSame, ifTrue, both, allBelow}
+use Rattle.rules.specs.definitions.Model.{Entry, Transition, Model, weightOf, modelBytes}
 
 -- 'one state for each block': block numbers count up from 0, so there is one more than the highest
 unfoldable pub blockCount : List ℕ → ℕ
@@ -51,32 +51,27 @@ fromBlock blocks [] b = []
 fromBlock blocks (t ∷ ts) b =
     ifSame (getD blocks (t .source) 0) b (mergedTransition blocks t ∷ []) [] ++ fromBlock blocks ts b
 
--- 'weights are equal field by field'
-unfoldable pub sameEntries : List Entry → List Entry → Bool
-sameEntries [] [] = true
-sameEntries [] (f ∷ fs) = false
-sameEntries (e ∷ es) [] = false
-sameEntries (e ∷ es) (f ∷ fs) = both (eqb (e .state) (f .state)) (both (eqb (e .weight) (f .weight)) (sameEntries es fs))
-
--- 'the same when action, d and weights are equal field by field'
-unfoldable pub sameTransition : Transition → Transition → Bool
-sameTransition t u =
-    both (eqb (t .action) (u .action)) (both (eqb (t .denominator) (u .denominator)) (sameEntries (t .entries) (u .entries)))
+-- K3: 'two transitions of one block are the same when action and probabilities agree as fractions', p(c)·d' = p'(c)·d for each of the k
+-- blocks c
+unfoldable pub sameTransition : ℕ → Transition → Transition → Bool
+sameTransition k t u =
+    both (eqb (t .action) (u .action))
+    (allBelow k (λ c. eqb (weightOf (t .entries) c * u .denominator) (weightOf (u .entries) c * t .denominator)))
 
 -- the same as one of the transitions before it
-unfoldable pub isAmong : Transition → List Transition → Bool
-isAmong t [] = false
-isAmong t (u ∷ us) = ifTrue (sameTransition t u) true (isAmong t us)
+unfoldable pub isAmong : ℕ → Transition → List Transition → Bool
+isAmong k t [] = false
+isAmong k t (u ∷ us) = ifTrue (sameTransition k t u) true (isAmong k t us)
 
--- 'the first is kept': those that are the same as none before them
-unfoldable pub distinct : (before rest : List Transition) → List Transition
-distinct before [] = []
-distinct before (t ∷ ts) = ifTrue (isAmong t before) [] (t ∷ []) ++ distinct (t ∷ before) ts
+-- 'the first is kept', with 'its own denominator': those that are the same as none before them
+unfoldable pub distinct : ℕ → (before rest : List Transition) → List Transition
+distinct k before [] = []
+distinct k before (t ∷ ts) = ifTrue (isAmong k t before) [] (t ∷ []) ++ distinct k (t ∷ before) ts
 
 -- 'Order: by block, then by original place', for the blocks left, from b on
 unfoldable pub byBlock : List ℕ → List Transition → (left b : ℕ) → List Transition
 byBlock blocks ts zero b = []
-byBlock blocks ts (suc left) b = distinct [] (fromBlock blocks ts b) ++ byBlock blocks ts left (b + 1)
+byBlock blocks ts (suc left) b = distinct (blockCount blocks) [] (fromBlock blocks ts b) ++ byBlock blocks ts left (b + 1)
 
 -- 'one state for each block, with its members' label, and the same m'
 unfoldable pub quotient : Model → List ℕ → Model

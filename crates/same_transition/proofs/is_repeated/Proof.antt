@@ -4,37 +4,37 @@ use Prim.Native.Nat.{_-_}
 use mathlib.Core.Path.{sym, _∙_, subst⁻¹}
 use native.Mathlib.Omega.{arith}
 use Rattle.rules.specs.definitions.Reading.{afterTransition}
-use Rattle.same_transition.specs.SameTransitionLaws.{Walked, walk-start, walk-inside, walk-found, walk-turn, walk-end}
+use Rattle.same_transition.specs.SameTransitionLaws.{last-inside, Walked, walk-start, walk-inside, walk-found, walk-turn, walk-end}
 use Rattle.same_transition.proofs.is_repeated.Statement.{statement}
 use Rattle.same_transition.proofs.is_repeated.Tie as tie
 
 abbrev Inv-loop : tie.InvT-loop
-Inv-loop s start at next place₀ place = Walked s start at next place
+Inv-loop s start at place₀ place = Walked s start at place
 
 abbrev μ-loop : tie.MeasureT-loop
-μ-loop s start at next place₀ place = at - place
+μ-loop s start at place₀ place = at - place
 
 loop-holds : tie.Need-loop-holds Inv-loop μ-loop
 loop-holds c = walk-start
 
-sub-same-bytes : tie.Need-sub-same-bytes Inv-loop μ-loop
-sub-same-bytes c = omega (arith, c .before .before .before .pre .stands .second)
-
-same-bytes-requires : tie.Need-same-bytes-requires Inv-loop μ-loop
-same-bytes-requires c κs =
-    let h = c .before .before .before .pre .stands in
-    omega (arith, h .second, h .inside)
+same-record-requires : tie.Need-same-record-requires Inv-loop μ-loop
+unfolding afterTransition
+same-record-requires c κs =
+    let h = c .before .before .before .pre in
+    let inside = last-inside h in
+    omega (arith, inside .0, inside .1, walk-inside (c .before .loop .inv) (c .loop-test .taken) h)
 
 returns : tie.Need-returns Inv-loop μ-loop
 returns c =
     let b = c .before .before in
-    walk-found (b .before .loop .inv) (b .loop-test .taken) (sym (c .before .same-bytes .ensures) ∙ c .if1 .taken)
+    walk-found (b .before .loop .inv) (b .loop-test .taken) (sym (c .before .same-record .ensures) ∙ c .if1 .taken)
 
 after-transition-requires : tie.Need-after-transition-requires Inv-loop μ-loop
+unfolding afterTransition
 after-transition-requires c κs =
     let b = c .before .before in
     let h = b .before .before .before .pre in
-    omega (arith, walk-inside (b .before .loop .inv) (b .loop-test .taken) h, h .stands .second, h .stands .inside)
+    omega (arith, last-inside h .0, walk-inside (b .before .loop .inv) (b .loop-test .taken) h)
 
 loop-less : tie.Need-loop-less Inv-loop μ-loop
 unfolding afterTransition
@@ -43,8 +43,8 @@ loop-less c = omega arith
 loop-again : tie.Need-loop-again Inv-loop μ-loop
 loop-again c =
     let b = c .before .before .before in
-    subst⁻¹ (Walked _ _ _ _) (c .after-transition .ensures)
-    (walk-turn (b .before .loop .inv) (b .loop-test .taken) (sym (c .before .before .same-bytes .ensures) ∙ c .before .if1 .left))
+    subst⁻¹ (Walked _ _ _) (c .after-transition .ensures)
+    (walk-turn (b .before .loop .inv) (b .loop-test .taken) (sym (c .before .before .same-record .ensures) ∙ c .before .if1 .left))
 
 returns-2 : tie.Need-returns-2 Inv-loop μ-loop
 returns-2 c = walk-end (c .before .loop .inv) (c .loop-test .left)
@@ -56,8 +56,7 @@ is-repeated-spec =
     Inv-loop
     μ-loop
     loop-holds
-    sub-same-bytes
-    same-bytes-requires
+    same-record-requires
     returns
     after-transition-requires
     loop-less

@@ -32,6 +32,7 @@ returns c =
       action = taken-at (c .before .before .before .byte2 .ensures) _ (omega arith);
       denominator = taken-at (c .before .before .pair .ensures) _ (omega arith);
       count = taken-at (c .before .byte3 .ensures) _ (omega arith);
+      fits = omega arith;
       small = omega arith;
       entries = omega arith;
     }

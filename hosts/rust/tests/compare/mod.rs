@@ -3,7 +3,7 @@
 
 use crate::plain::{self, AlikeAnswer, Answer, Broken};
 use std::cmp::Ordering;
-use std::collections::BTreeSet;
+use std::collections::{BTreeSet, HashMap};
 use std::fmt;
 use zolkirta::raw;
 
@@ -200,8 +200,56 @@ pub fn before_k2(answer: Answer) -> Answer {
     }
 }
 
+/// A line that reduces: its files, the length of its buffer, and what it must get.
+struct Reduced<'a> {
+    files: [&'a [u8]; 2],
+    length: usize,
+    answer: &'a mut Answer,
+    out: &'a mut Vec<u8>,
+}
+
+/// A merged model from before K3 without the transitions that are the same as an earlier one of their block as fractions.
+fn as_fractions(merged: &[u8]) -> Vec<u8> {
+    let model = plain::read(merged).ok().expect("a merged model");
+    let ends = model.transitions.iter().skip(1).map(|r| r.place).chain([merged.len()]);
+    let mut out = merged[..8 + model.n()].to_vec();
+    let mut kept: Vec<&plain::Transition> = Vec::new();
+    for (r, end) in model.transitions.iter().zip(ends) {
+        let shares = |r: &plain::Transition, d: i64| r.weights().map(|(c, p)| (c, p * d)).collect::<Vec<_>>();
+        let same = |q: &&plain::Transition| (q.source, q.action) == (r.source, r.action) && shares(q, r.d) == shares(r, q.d);
+        if !kept.iter().any(same) {
+            kept.push(r);
+            out.extend(&merged[r.place..end]);
+        }
+    }
+    out[4..6].copy_from_slice(&(kept.len() as u16).to_be_bytes());
+    out
+}
+
+/// What lines from before K3 must get since: the merged file is that of K3, and a buffer that was shorter than the old one may hold it. Hands
+/// back which of them still tell something: 23 for files that no line has the merged file of does not.
+fn since_k3(lines: Vec<Reduced>) -> Vec<bool> {
+    let accepted = lines.iter().filter(|line| line.answer.number == 0);
+    let merged: HashMap<_, _> = accepted.map(|line| (line.files.map(<[u8]>::to_vec), as_fractions(line.out))).collect();
+    let told = |line: Reduced| {
+        let Some(file) = merged.get(&line.files.map(<[u8]>::to_vec)) else { return line.answer.number != 23 };
+        if file.len() <= line.length {
+            *line.answer = Answer { written: file.len(), ..Answer::default() };
+            line.out.clone_from(file);
+        }
+        true
+    };
+    lines.into_iter().map(told).collect()
+}
+
+impl Vector {
+    fn reduced(&mut self) -> Reduced<'_> {
+        Reduced { files: [&self.model, &self.certificate], length: self.argument, answer: &mut self.answer, out: &mut self.out }
+    }
+}
+
 pub fn vectors() -> Vec<Vector> {
-    lines("base")
+    let mut all: Vec<Vector> = lines("base")
         .into_iter()
         .map(|(line, field)| {
             let out = bytes(&field[9]);
@@ -215,13 +263,17 @@ pub fn vectors() -> Vec<Vector> {
                 out,
             }
         })
-        .collect()
+        .collect();
+    let reducing = all.iter_mut().filter(|v| v.call == "reduce");
+    let mut told = since_k3(reducing.map(Vector::reduced).collect()).into_iter();
+    all.retain(|v| v.call != "reduce" || told.next() == Some(true));
+    all
 }
 
 /// One line of the vectors of a request of document 02.
 pub struct Request {
     pub line: String,
-    before_k2: bool,
+    name: &'static str,
     pub call: String,
     pub numbers: Vec<u32>,
     pub files: Vec<Vec<u8>>,
@@ -231,13 +283,13 @@ pub struct Request {
 }
 
 pub fn requests() -> Vec<Request> {
-    let named = ["k1", "k2"].into_iter().flat_map(|name| lines(name).into_iter().map(move |line| (name == "k1", line)));
-    named
-        .map(|(before_k2, (line, field))| {
+    let named = ["k1", "k2", "k3"].into_iter().flat_map(|name| lines(name).into_iter().map(move |line| (name, line)));
+    let mut all: Vec<Request> = named
+        .map(|(name, (line, field))| {
             let outs: Vec<Vec<u8>> = field[11].split(',').map(bytes).collect();
             Request {
                 line,
-                before_k2,
+                name,
                 numbers: field[1].split(',').map(|number| number.parse().unwrap()).collect(),
                 files: field[2].split(',').map(bytes).collect(),
                 answer: answer(&field[3..10], false, &outs[0]),
@@ -246,7 +298,11 @@ pub fn requests() -> Vec<Request> {
                 outs,
             }
         })
-        .collect()
+        .collect();
+    let before_k3 = |v: &Request| v.name == "k2" && v.call == "reduce";
+    let mut told = since_k3(all.iter_mut().filter(|v| before_k3(v)).map(Request::reduced).collect()).into_iter();
+    all.retain(|v| !before_k3(v) || told.next() == Some(true));
+    all
 }
 
 /// A call with two files and a lent buffer of this length, and what it writes there.
@@ -264,6 +320,11 @@ pub struct Calls {
 pub const BOTH: Calls = Calls { judge, reduce, join, alike };
 
 impl Request {
+    fn reduced(&mut self) -> Reduced<'_> {
+        let files = [&self.files[0][..], &self.files[1]];
+        Reduced { files, length: self.numbers[0] as usize, answer: &mut self.answer, out: &mut self.outs[0] }
+    }
+
     /// Makes the line's call by one of these, and compares what it says with the line.
     pub fn holds_for(&self, calls: &Calls) {
         let lent = |call: Lent, one: &[u8], other: &[u8], length: u32| {
@@ -280,7 +341,7 @@ impl Request {
             }
             _ => panic!("no such call: {}", self.line),
         };
-        let answer = if self.before_k2 { before_k2(answer) } else { answer };
+        let answer = if self.name == "k1" { before_k2(answer) } else { answer };
         assert_eq!((answer, yes, vec![out]), (self.answer, self.yes, self.outs.clone()), "{}", self.line);
     }
 }
@@ -291,7 +352,7 @@ pub fn accepted() -> Vec<(Vec<u8>, Vec<u8>)> {
     let mut pairs: Vec<_> = accepted.map(|v| (v.model, v.certificate)).collect();
     pairs.sort_by_key(|(model, certificate)| (model.len() + certificate.len(), model.clone(), certificate.clone()));
     pairs.dedup();
-    let mut of_model = std::collections::HashMap::new();
+    let mut of_model = HashMap::new();
     pairs.retain(|(model, _)| {
         let count = of_model.entry(model.clone()).or_insert(0);
         *count += 1;

@@ -108,6 +108,15 @@ impl Model {
         self.spelled(|i, _| 1 + ((7 * i + k) % (k + 1)) as i64)
     }
 
+    /// The same automaton, its fractions written in the lowest terms.
+    pub fn lowest(&self) -> Model {
+        let lowest = |r: &Transition| {
+            let divisor = r.common();
+            Transition { d: r.d / divisor, weights: r.weights.iter().map(|&(v, p)| (v, p / divisor)).collect(), ..*r }
+        };
+        Model { transitions: self.transitions.iter().map(lowest).collect(), ..self.clone() }
+    }
+
     /// The same automaton, its fractions written in the longest terms that powers of 2 make.
     pub fn longest(&self) -> Model {
         self.spelled(|_, r| 1 << (65_535 / r.d).ilog2())

@@ -1,5 +1,5 @@
-//! Document 01's judge, reduce and fetch, document 02's join and alike (K1), and the state and the remainder of 16, 20 and 21 (K2) in
-//! plain Rust, written from the documents alone: what the library is compared with.
+//! Document 01's judge, reduce and fetch, document 02's join and alike (K1), the state and the remainder of 16, 20 and 21 (K2), and its merged
+//! transitions that are the same as fractions (K3) in plain Rust, written from the documents alone: what the library is compared with.
 //!
 //! Every sum fits an i64. Weights of a transition add up to at most 65,535, so weights times prices stay below 2^47 and a difference
 //! of two such sums below 2^48. k times d is below 2^48, and a state's equation has at most 768 of them (each layer and transition
@@ -365,26 +365,25 @@ fn merged(model: &Model, blocks: &[u8]) -> Vec<u8> {
     let member = |block: usize| blocks.iter().position(|&b| usize::from(b) == block).unwrap();
     let labels: Vec<u8> = (0..count).map(|block| model.labels[member(block)]).collect();
     let mut out = head_and_labels(&labels, model.m, 0);
-    let mut places = Vec::with_capacity(model.transitions.len());
+    let mut written = 0u16;
     for block in 0..count {
-        let of_block = places.len();
+        // Of each kept transition of the block: action, d and the weight to each block.
+        let mut kept: Vec<(u8, i64, [i64; 64])> = Vec::new();
         for r in model.transitions.iter().filter(|r| usize::from(blocks[r.source]) == block) {
             let mut weights = [0; 64];
             for (v, p) in r.weights() {
-                weights[usize::from(blocks[v])] += p as u16;
+                weights[usize::from(blocks[v])] += p;
             }
-            let at = out.len();
-            append(&mut out, block, r, weights.iter().copied().enumerate().filter(|&(_, p)| p > 0));
-            // Two records of one block are the same bytes where action, d and weights are equal.
-            let size = out.len() - at;
-            if places[of_block..].iter().any(|&earlier: &usize| out[earlier..earlier + size] == out[at..]) {
-                out.truncate(at);
-            } else {
-                places.push(at);
+            let same = |(action, d, other): &(u8, i64, [i64; 64])| *action == r.action && (0..count).all(|c| other[c] * r.d == weights[c] * d);
+            if kept.iter().any(same) {
+                continue;
             }
+            append(&mut out, block, r, weights.iter().map(|&p| p as u16).enumerate().filter(|&(_, p)| p > 0));
+            kept.push((r.action, r.d, weights));
+            written += 1;
         }
     }
-    out[4..6].copy_from_slice(&(places.len() as u16).to_be_bytes());
+    out[4..6].copy_from_slice(&written.to_be_bytes());
     out
 }
 

@@ -5,9 +5,9 @@
  * changed by others during the call, and a lent buffer overlaps no input and no other lent buffer. A refusal writes no byte of any
  * lent buffer.
  *
- * Stack. zolkirta_reduce, zolkirta_judge and zolkirta_alike use at most 11,000 bytes each, zolkirta_join and zolkirta_fetch 2,400
- * (measured, rounded up). In a dynamically linked program the loader adds some 3 KiB when it binds memcpy or memset at the first
- * call. No heap is used.
+ * Stack. zolkirta_reduce, zolkirta_judge and zolkirta_alike use at most 11,000 bytes each, zolkirta_sheet 12,400, zolkirta_join and
+ * zolkirta_fetch 2,400 (measured, rounded up). In a dynamically linked program the loader adds some 3 KiB when it binds memcpy or
+ * memset at the first call. No heap is used.
  *
  * Threads. The library has no state and keeps no pointer: any number of calls may run at once.
  *
@@ -19,14 +19,16 @@
 #include <stddef.h>
 #include <stdint.h>
 
-#define ZOLKIRTA_VERSION "0.4.0"
-#define ZOLKIRTA_VERSION_NUMBER 400 /* major * 10000 + minor * 100 + patch */
+#define ZOLKIRTA_VERSION "0.5.0"
+#define ZOLKIRTA_VERSION_NUMBER 500 /* major * 10000 + minor * 100 + patch */
 
 /* The most states that a model has: a block buffer of this length is always long enough. */
 #define ZOLKIRTA_STATES 64
 /* The bytes of the longest model, 8 + 64 + 7 * 256 + 3 * 1024: an output buffer of this length is always long enough for
  * zolkirta_reduce and zolkirta_join, and a longer model file is always refused. */
 #define ZOLKIRTA_MODEL 4936
+/* The bytes of the longest sheet, 64 lines of 73: a sheet buffer of this length is always long enough. */
+#define ZOLKIRTA_SHEET 4672
 
 #ifdef __cplusplus
 extern "C" {
@@ -65,7 +67,8 @@ enum zolkirta_number {
     ZOLKIRTA_STATE = 24,                /* the state to fetch is not below the state count */
     ZOLKIRTA_JOINED_MODEL = 25,         /* the joined model has more than 64 states, 256 transitions or 1,024 entries */
     ZOLKIRTA_JOINED_BUFFER = 26,        /* the buffer is shorter than the joined model's file */
-    ZOLKIRTA_PARTS = 27                 /* accepted, and the first's count is above the state count or a state is not in its part */
+    ZOLKIRTA_PARTS = 27,                /* accepted, and the first's count is above the state count or a state is not in its part */
+    ZOLKIRTA_SHEET_BUFFER = 28          /* the certificate is accepted, and the buffer is shorter than the sheet */
 };
 
 /* What a call answers.
@@ -115,6 +118,15 @@ zolkirta_answer zolkirta_judge(const uint8_t *model, size_t model_length, const 
  * and `out` is shorter than the file (no file, no place). */
 zolkirta_answer zolkirta_reduce(const uint8_t *model, size_t model_length, const uint8_t *certificate, size_t certificate_length,
                                 uint8_t *out, size_t out_length);
+
+/* Judges a certificate for a model and writes its blocks as a sheet, text in ASCII to print. Each line has 72 characters and a newline:
+ * block number in 4 columns, its size in 4, and up to 16 of its states in 4 each, all right-aligned; further lines of a block leave the
+ * first 8 columns blank, and what is left of its last line is spaces. Blocks and their states ascend. Number 0: accepted, and the first
+ * `written` bytes of `sheet` are the sheet; its later bytes stay, and no byte 0 follows. Else a refusal, which writes nothing: 1 to 9 in
+ * the model (file 1), 11 to 22 in the certificate (file 2), and 28 where the certificate is accepted and `sheet` is shorter than the
+ * sheet (no file, no place). */
+zolkirta_answer zolkirta_sheet(const uint8_t *model, size_t model_length, const uint8_t *certificate, size_t certificate_length,
+                               uint8_t *sheet, size_t sheet_length);
 
 /* Writes two models as one: the second's states and transitions follow the first's, its state numbers raised by the first's state
  * count; labels are kept, and the action count is the larger one. Number 0: the first `written` bytes of `out` are the joined

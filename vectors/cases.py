@@ -2,9 +2,10 @@
 """Writes crates/cases/data/cases and crates/cases/stdout: the cases, and what the program must print for them.
 
 C1 to C10 of document 01; the cases that it lists under 'Also run', files of the most bytes that the program reads, a pair with states
-that reach a move only by internal steps, transitions that are the same in other terms, models joined at the limits, and every truncation of
-model S, with their answers by hand; and the lines of base.txt, k1.txt and k3.txt with the answers that stand there, but for refusals 10, 23
-and 26: the program lends buffers that are always long enough. Merged models of base.txt, which is older than K3, lose what K3 drops.
+that reach a move only by internal steps, transitions that are the same in other terms, models joined at the limits, sheets of blocks of 1,
+16, 17 and 33 states, and every truncation of model S, with their answers by hand; and the lines of base.txt, k1.txt, k3.txt and k4.txt with the
+answers that stand there, but for refusals 10, 23, 26 and 28: the program lends buffers that are always long enough. Merged models of base.txt,
+which is older than K3, lose what K3 drops.
 """
 import os
 from fractions import Fraction
@@ -15,7 +16,7 @@ HERE = os.path.dirname(os.path.abspath(__file__))
 CRATE = os.path.join(HERE, '..', 'crates', 'cases')
 
 MODEL, CERTIFICATE = 8192, 49152  # of longer files the program would read no more
-JUDGE, REDUCE, FETCH, JOIN, ALIKE = range(5)
+JUDGE, REDUCE, FETCH, JOIN, ALIKE, SHEET = range(6)
 ABSENT = 0xFFFFFFFF  # a state that no model has
 
 
@@ -55,6 +56,11 @@ def join(a, b, answer, joined=b''):
 def alike(m, c, named, answer, yes):
     """The same of two states compared: yes or no comes after number, file and place."""
     return case(ALIKE, named, m, c), result(answer) + ('yes\n' if yes else 'no\n')
+
+
+def sheet(m, c, answer, text=''):
+    """The same of the block sheet: its lines come after number, file and place, on acceptance."""
+    return case(SHEET, NONE, m, c), result(answer) + text
 
 
 def accepted(m, c, blocks):
@@ -217,6 +223,26 @@ def joined_at_the_limits():
     yield join(wide(full), wide(full + [(16, 0, 1, [(0, 1)])]), (25, 0, 0))
 
 
+def sheets():
+    """Models without transitions, in which the labels are the blocks: of 16, 17 and 1 states, and of 33."""
+    def still(blocks):
+        return model(len(blocks), 1, blocks, []), certificate([], blocks, [])
+
+    def lines(*rows):
+        return ''.join(row.ljust(72) + '\n' for row in rows)
+
+    def numbers(*states):
+        return ''.join('%4d' % v for v in states)
+
+    yield sheet(*still([0] * 16 + [1] * 17 + [2]), (0, 0, 0), lines(
+        '   0  16' + numbers(*range(16)), '   1  17' + numbers(*range(16, 32)), '        ' + numbers(32), '   2   1' + numbers(33)))
+    yield sheet(*still([0, 1] * 31 + [1, 1]), (0, 0, 0), lines(
+        '   0  31' + numbers(*range(0, 32, 2)), '        ' + numbers(*range(32, 62, 2)),
+        '   1  33' + numbers(*range(1, 33, 2)), '        ' + numbers(*range(33, 62, 2), 62), '        ' + numbers(63)))
+    yield sheet(S, S_CERTIFICATE, (0, 0, 0), lines('   0   2   0   1', '   1   1   2'))
+    yield sheet(S, S_CERTIFICATE[:-1], (11, 2, 109))
+
+
 def request_lines(name):
     for line in open(os.path.join(HERE, name)):
         call, arguments, files, *numbers, outs = line.split()
@@ -227,13 +253,15 @@ def request_lines(name):
 
 
 def from_requests():
-    for call, arguments, first, second, answer, yes, out in (*request_lines('k1.txt'), *request_lines('k3.txt')):
+    for call, arguments, first, second, answer, yes, out in (*request_lines('k1.txt'), *request_lines('k3.txt'), *request_lines('k4.txt')):
         if call == 'join' and answer[0] != 26:
             yield join(first, second, answer, out)
         if call == 'alike':
             yield alike(first, second, arguments, answer, yes == 1)
         if call == 'reduce' and answer[0] != 23:
             yield reduce(first, second, answer, out)
+        if call == 'sheet' and answer[0] != 28:
+            yield sheet(first, second, answer, out.decode('ascii'))
 
 
 def as_fractions(merged):
@@ -270,7 +298,8 @@ def from_vectors():
 def all_cases():
     """Each case once: where two sources have one case, they must agree."""
     found = {}
-    for source in (proved_cases(), pairs_also_run(), internal_steps(), halves_and_quarters(), models_also_run(), truncations(), from_vectors(), joined_at_the_limits(), from_requests()):
+    by_hand = (proved_cases(), pairs_also_run(), internal_steps(), halves_and_quarters(), models_also_run(), truncations(), joined_at_the_limits(), sheets())
+    for source in (*by_hand, from_vectors(), from_requests()):
         for data, text in source:
             assert found.setdefault(data, text) == text
     return found

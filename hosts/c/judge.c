@@ -1,5 +1,5 @@
-/* Reads a model and a certificate, and prints the answer: judge MODEL CERTIFICATE [MERGED]. With a third name the merged model is
- * written there. Exit status: 0 accepted, 1 refused, 2 a file could not be read or written. */
+/* Reads a model and a certificate, and prints the answer: judge MODEL CERTIFICATE [MERGED [SHEET]]. With a third name the merged model is
+ * written there, and with a fourth one the block sheet. Exit status: 0 accepted, 1 refused, 2 a file could not be read or written. */
 #include <stdio.h>
 #include <stdlib.h>
 
@@ -7,12 +7,12 @@
 
 int main(int count, char **names)
 {
-    uint8_t blocks[ZOLKIRTA_STATES], merged[ZOLKIRTA_MODEL];
+    uint8_t blocks[ZOLKIRTA_STATES], merged[ZOLKIRTA_MODEL], sheet[ZOLKIRTA_SHEET];
     uint8_t *model, *certificate;
     size_t model_length, certificate_length, state;
     zolkirta_answer answer;
-    if (count != 3 && count != 4) {
-        fprintf(stderr, "usage: %s MODEL CERTIFICATE [MERGED]\n", names[0]);
+    if (count < 3 || count > 5) {
+        fprintf(stderr, "usage: %s MODEL CERTIFICATE [MERGED [SHEET]]\n", names[0]);
         return 2;
     }
     model = read_file(names[1], &model_length);
@@ -27,6 +27,12 @@ int main(int count, char **names)
         print_answer(answer);
         if (answer.number == ZOLKIRTA_ACCEPTED)
             write_file(names[3], merged, answer.written);
+        if (answer.number == ZOLKIRTA_ACCEPTED && count == 5) {
+            answer = zolkirta_sheet(model, model_length, certificate, certificate_length, sheet, sizeof sheet);
+            print_answer(answer);
+            if (answer.number == ZOLKIRTA_ACCEPTED)
+                write_file(names[4], sheet, answer.written);
+        }
     }
     free(model);
     free(certificate);

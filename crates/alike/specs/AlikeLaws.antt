@@ -14,7 +14,7 @@ use Rattle.rules.specs.definitions.Demands.{outcomeBy}
 use Rattle.rules.specs.argument.DemandsHold.{demands-hold}
 use Rattle.rules.specs.argument.PlainRules.{plainRules}
 use Rattle.joined.specs.AlikeAnswer.{Named, partsNumber, testsParts, alikeSays, AlikeNumber, SaysAlike}
-use Rattle.joined.specs.AlikeAnswerLaws.{parts-named, parts-follow, alike-numbered, alike-buffer, says-alike, Compared, judged-refused, judged-compared}
+use Rattle.joined.specs.AlikeAnswerLaws.{parts-named, parts-follow, alike-numbered, alike-buffer, says-alike, Compared, alike-unjudged, judged-compared}
 use Rattle.answer.specs.declared.Answer.{Answer}
 use Rattle.answer.specs.Answered.{answered, StretchInside}
 use Rattle.answer.specs.AnsweredLaws.{without-inside}
@@ -46,7 +46,7 @@ module _ {M C : List ℕ} (b : Bytes M) (c : Bytes C) (x : Named) where
     -- the pair is refused
     pub pair-refused : (judged .number ≡ 0 → ⊥) → AlikeAnswered M C x (record { answer = judged; alike = 0 })
     pair-refused n =
-        let q = judged-refused plainRules M C b c x before room (λ z. n (ap (λ (a : rules.Answer). a .number) answer-is ∙ z)) in
+        let q = alike-unjudged plainRules M C b c x before room (λ z. n (ap (λ (a : rules.Answer). a .number) answer-is ∙ z)) in
         told judged 0 (answer-is ∙ q .0) (j .outcome .inside) (q .1)
 
     -- it is accepted: so many blocks stand in the buffer

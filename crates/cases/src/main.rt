@@ -1,6 +1,6 @@
 // Sends every case of data/cases through one of the programs or a fetch, and prints the answers. A case is a tag of one byte, three numbers
 // (the state to fetch; or the first's count and the two states) and the lengths of the two files, in four bytes each, most significant first,
-// and then the files. A case keeps no merged.bin and no joined.bin: the next one would write over it.
+// and then the files. A case keeps no merged.bin, no blocks.txt and no joined.bin: the next one would write over it.
 use field::Cursor;
 
 const HEAD: usize = 21;
@@ -14,6 +14,8 @@ const FETCH: usize = 2;
 const JOIN: usize = 3;
 
 const ALIKE: usize = 4;
+
+const SHEET: usize = 5;
 
 // Answers the next case, and whether there was one. A tag that is none of these ends the cases.
 fn one_case(fd: i32) -> bool {
@@ -43,6 +45,7 @@ fn one_case(fd: i32) -> bool {
             first.value as u32,
             second.value as u32,
         ),
+        SHEET => programs::sheet_streams(fd, model.value, fd, certificate.value),
         _ => return false,
     }
     true

@@ -1,9 +1,9 @@
 -- Laws of the call that joins: what its parts need, and what each way out answers.
 use Prim.Native.Nat.{ℕ, _+_, _*_, _-_, _≤_, _<_}
-use mathlib.Core.Path.{_≡_, refl, sym, _∙_, ap, ap₂, subst}
+use mathlib.Core.Path.{_≡_, refl, sym, _∙_, ap, subst}
 use mathlib.Core.Bool.{true, false}
-use mathlib.Core.List.{List, _++_}
-use lib.ListN.{length, drop}
+use mathlib.Core.List.{List}
+use lib.ListN.{length}
 use native.Mathlib.Decide.{decLt}
 use native.Mathlib.Omega.{arith}
 use Rattle.bisimulation.specs.argument.ChoiceLaws.{notLess, pastLess}
@@ -12,12 +12,12 @@ use Rattle.rules.specs.definitions.Model.{Model, automatonOf}
 use Rattle.rules.specs.definitions.Reading.{scanWhole, modelAt, readWhole, noModel}
 use Rattle.rules.specs.definitions.SoundModel.{Bytes, entryCount}
 use Rattle.rules.specs.definitions.Answers as rules
-use Rattle.rules.specs.definitions.Answers.{Outcome, refusalIn, answerWithoutPlace, fileOf, unwritten, filled}
+use Rattle.rules.specs.definitions.Answers.{Outcome, refusalIn, answerWithoutPlace, fileOf, unwritten}
 use Rattle.rules.specs.argument.SoundModelLaws.{limits-fit}
 use Rattle.rules.specs.argument.ReadSound.{read-whole-sound}
 use Rattle.rules.specs.argument.AnswerLaws.{file-short, file-whole}
 use Rattle.joined.specs.Joined.{joinedFile}
-use Rattle.joined.specs.JoinAnswer.{joinedOutcome, joinOutcome, joinFiles}
+use Rattle.joined.specs.JoinAnswer.{joinedOutcome, joinFiles}
 use Rattle.joined.specs.JoinedLaws.{Within}
 use Rattle.joined.specs.JoinAnswerLaws.{many-states, many-transitions, many-entries, within-outcome, first-refused, second-refused, both-read, join-demands}
 use Rattle.fault.specs.declared.Fault.{Fault}
@@ -32,6 +32,7 @@ use Rattle.answer.specs.declared.Answer.{Answer}
 use Rattle.answer.specs.Answered.{answered, OutcomeIs}
 use Rattle.answer.specs.AnsweredLaws.{without-stretch, with-stretch}
 use Rattle.writer.specs.Appends.{Appends}
+use Rattle.writer.specs.AppendsLaws.{file-filled}
 use Rattle.joined_file.specs.JoinedFile.{SoundFile, joinedIn, CanJoin}
 use Rattle.joined_file.specs.JoinedFileLaws.{sums}
 use Rattle.join.specs.Join.{JoinAnswered, Joins, JoinsSound, passesLimit}
@@ -101,13 +102,9 @@ module _ (first second before : List ℕ) (w : Within limits (joinedIn first sec
       without-stretch (joinFiles first second) before 26 0 a (file-short 26 file before h ∙ within-outcome limits (joinedIn first second) before w)
 
   pub file-joined : {after : List ℕ} {size : ℕ} {r : Answer} → Appends file 0 before after size → answered r ≡ answerWithoutPlace 0 size → JoinsSound first second before after r
-  unfolding filled
   file-joined {after} {size} p a =
-      let e : size ≡ length file = omega (arith, p .place) in
-      let is : after ≡ file ++ drop (length file) before = p .written ∙ ap (λ (k : ℕ). file ++ drop k before) e in
       without-stretch (joinFiles first second) before 0 size a
-      (ap₂ (λ (k : ℕ) (l : List ℕ). record { answer = answerWithoutPlace 0 k; buffer = l }) e is
-      ∙ file-whole 26 file before (omega (arith, p .room, e)) ∙ within-outcome limits (joinedIn first second) before w)
+      (file-filled p ∙ file-whole 26 file before (omega (arith, p .place, p .room)) ∙ within-outcome limits (joinedIn first second) before w)
 
 -- what they answer is what the call answers
 pub both-sound : {first second table : List ℕ} {m n : Found} (before : List ℕ) {after : List ℕ} {r : Answer} → CanJoin first m second n table → JoinsSound first second before after r → Joins first second before after r

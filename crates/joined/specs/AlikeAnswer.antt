@@ -2,7 +2,7 @@
 -- (no if refused)'.
 use Prim.Native.Nat.{ℕ, _≤_, _<_}
 use mathlib.Core.Path.{_≡_}
-use mathlib.Core.Logic.{_↔_, _⊎_}
+use mathlib.Core.Logic.{_↔_}
 use mathlib.Core.List.{List}
 use lib.ListN.{length}
 use Rattle.bisimulation.specs.definitions.Choice.{ifLess, ifSame, ifTrue, unlessLess}
@@ -12,7 +12,7 @@ use Rattle.rules.specs.definitions.Reading.{Reading, model, noModel}
 use Rattle.rules.specs.definitions.Certificate.{sameBlock}
 use Rattle.rules.specs.definitions.Judging.{Judgement, accepted, rejected, judge}
 use Rattle.rules.specs.definitions.JudgedBy.{JudgedBy}
-use Rattle.rules.specs.definitions.Answers.{answerWithoutPlace, unwritten, Follows}
+use Rattle.rules.specs.definitions.Answers.{answerWithoutPlace, unwritten, Follows, LateNumber}
 use Rattle.rules.specs.definitions.Demands.{KeepsRulesOn}
 
 -- 'the first's state count' and 'one state of each part by joined numbers'
@@ -60,9 +60,9 @@ alikeRead x (noModel f place) judged = 0
 unfoldable pub alikeSays : JudgedBy → Named → (M C : List ℕ) → ℕ
 alikeSays by x M C = alikeRead x (by .read M) (judge (by .limits) (by .read) (by .file) M C)
 
--- its numbers: no 10, since no block buffer is lent
-unfoldable pub AlikeNumber : ℕ → Type 0
-AlikeNumber k = (k ≤ 9) ⊎ (((11 ≤ k) × (k ≤ 22)) ⊎ (k ≡ 27))
+-- its numbers
+abbrev pub AlikeNumber : ℕ → Type 0
+AlikeNumber = LateNumber 27
 
 -- what it says, with this number, is what the request asks
 pub record SaysAlike (by : JudgedBy) (x : Named) (M C : List ℕ) (number said : ℕ) : Type 0 where

@@ -2,12 +2,8 @@
 use Prim.Native.Nat.{ℕ, _+_, _≤_, _<_}
 use mathlib.Core.Path.{_≡_, refl, sym, _∙_, ap, ap₂, subst}
 use mathlib.Core.Logic.{_↔_, _⊎_, inl, inr, ⊎-elim}
-use mathlib.Core.Bool.{Bool, true}
-use mathlib.Core.List.{List, [], _∷_, _++_}
-use lib.Dec.{eqb}
+use mathlib.Core.List.{List, []}
 use lib.ListN.{length, drop, getD, length-append, List·getD-append}
-use borrow.Author.Tests.{eq-eqb, eqb-true}
-use native.Mathlib.Decide.{ℕ-discrete}
 use native.Mathlib.Omega.{arith}
 use Rattle.bisimulation.specs.definitions.Choice.{ifLess, ifSame, ifTrue}
 use Rattle.bisimulation.specs.argument.ChoiceLaws.{less, notLess, eitherLess, same, notSame, pastLess, keptLess, keptSame}
@@ -15,26 +11,25 @@ use Rattle.bisimulation.specs.definitions.Largest.{Bisimilar, BisimilarByPairs}
 use Rattle.bisimulation.specs.definitions.StepRule.{Met}
 use Rattle.rules.specs.definitions.Limits.{limits}
 use Rattle.rules.specs.definitions.Model.{Model, automatonOf}
-use Rattle.rules.specs.definitions.Faults.{Fault}
 use Rattle.rules.specs.definitions.Reading.{Reading, model, noModel, readWhole}
 use Rattle.rules.specs.definitions.SoundModel.{Bytes}
 use Rattle.rules.specs.definitions.Certificate.{sameBlock}
-use Rattle.rules.specs.definitions.Judging.{Judgement, accepted, rejected, judgeCertificate, judgeReading, judge}
+use Rattle.rules.specs.definitions.Judging.{Judgement, accepted, rejected, judge}
 use Rattle.rules.specs.definitions.Answers as rules
-use Rattle.rules.specs.definitions.Answers.{Outcome, refusalIn, answerWithoutPlace, judgementAnswer, judgedOutcome, unwritten, filled, Follows, writesBlocks}
+use Rattle.rules.specs.definitions.Answers.{Outcome, answerWithoutPlace, unwritten, filled, writesBlocks}
 use Rattle.rules.specs.definitions.Accepted.{Kept, FileOf}
 use Rattle.rules.specs.definitions.PlainSays.{plainSays}
 use Rattle.rules.specs.definitions.JudgedBy.{plainPairs}
 use Rattle.rules.specs.argument.SoundModelLaws.{limits-fit, sound-bytes}
 use Rattle.rules.specs.definitions.Demand3.{InOneBlock, HoldsModel}
 use Rattle.rules.specs.definitions.Demands.{outcomeBy, Accepting}
-use Rattle.rules.specs.argument.AnyRule.{PairRules, RefusalOf, pairsOf}
+use Rattle.rules.specs.argument.AnyRule.{PairRules, pairsOf}
 use Rattle.rules.specs.argument.FaultLaws.{told-fault}
-use Rattle.rules.specs.argument.Numbers.{RefusedWith, JudgementNumber, certificate-numbered, unread-number}
-use Rattle.rules.specs.argument.PairOutcome.{AcceptedModel, FollowsLaws, outcome-refused, outcome-judged, outcome-accepted, outcome-followed, outcome-number, outcome-found}
+use Rattle.rules.specs.argument.PairOutcome.{FollowsLaws}
+use Rattle.rules.specs.argument.JudgedFirst.{Roomy, Refused, Found, refused-or-found, found-outcome, judged-refused, refused-answer, judged-found}
 use Rattle.rules.specs.argument.AcceptedExactly.{accepted-exactly}
-use Rattle.rules.specs.argument.Demand3Holds.{one-model, holds-read, facts-of, demand3, largest-block-pairs}
-use Rattle.rules.specs.argument.DemandsHold.{blocks-follow, plain-refusal}
+use Rattle.rules.specs.argument.Demand3Holds.{one-model, holds-read, facts-of, largest-block-pairs}
+use Rattle.rules.specs.argument.DemandsHold.{plain-refusal, late-numbered}
 use Rattle.rules.specs.argument.PlainRules.{plainRules}
 use Rattle.joined.specs.Joined.{joined, joinedFile}
 use Rattle.joined.specs.JoinAnswer.{JoinDemands}
@@ -80,74 +75,31 @@ parts-follow x =
     }
 
 pub alike-numbered : (x : Named) (M C : List ℕ) → AlikeNumber (outcomeBy (pairsOf plainRules) (testsParts x) M C [] .answer .number)
-unfolding AlikeNumber
-alike-numbered x M C =
-    outcome-number plainRules (testsParts x) (parts-follow x) M C [] (λ k. (k ≤ 9) ⊎ (((11 ≤ k) × (k ≤ 22)) ⊎ (k ≡ 27))) (inl (omega arith)) (inr (inr refl))
-    (λ k h. ⊎-elim (λ w. inl w) (λ w. inr (inl w)) (plain-refusal k h)) (λ N h. absurd (omega arith))
+alike-numbered x M C = late-numbered M C [] (testsParts x) (parts-follow x) (λ N. refl)
 
 module _ (by : PairRules) (M C : List ℕ) where
-  -- whatever follows acceptance finds room for the model's blocks
-  abbrev Roomy : Follows → List ℕ → Type 0
-  Roomy follows buffer = (N : Model) (end : ℕ) → by .models .read M ≡ model N end → follows .blockRoom N ≤ length buffer
+  -- no buffer is lent
+  roomy : (x : Named) → Roomy by M C (testsParts x) []
+  roomy x N end e = omega arith
 
-  -- the pair is refused, whatever would follow acceptance, and so no is said
-  record Refused : Type 0 where
-    answer : rules.Answer
-    some : answer .number ≡ 0 → ⊥
-    wrote : answer .written ≡ 0
-    refuses : (follows : Follows) (buffer : List ℕ) → Roomy follows buffer → unwritten answer buffer ≡ outcomeBy (pairsOf by) follows M C buffer
-    no-said : (x : Named) → 0 ≡ alikeSays (pairsOf by) x M C
-
-  abbrev Found : Type 0
-  Found = AcceptedModel (by .limits) (by .models .read) (by .rule .file) M C
-
-  -- or it is accepted
-  refused-or-found : Refused ⊎ Found
-  unfolding judge judgeReading judgedOutcome judgementAnswer unwritten refusalIn alikeSays alikeRead alikeJudged
-  refused-or-found = by-model (by .models .read M) refl
+  -- no is said of a pair that is refused
+  no-said : (x : Named) → Refused by M C → 0 ≡ alikeSays (pairsOf by) x M C
+  unfolding alikeSays alikeRead alikeJudged
+  no-said x r = go (by .models .read M) (judge (by .limits) (by .models .read) (by .rule .file) M C) refl
     where
-      judged : {r : Reading} → by .models .read M ≡ r → judge (by .limits) (by .models .read) (by .rule .file) M C ≡ judgeReading (by .limits) (by .rule .file) r C
-      judged e = ap (λ (x : Reading). judgeReading (by .limits) (by .rule .file) x C) e
-
-      by-judgement : (N : Model) (end : ℕ) → by .models .read M ≡ model N end → (j : Judgement) → j ≡ judgeCertificate (by .limits) (by .rule .file) (automatonOf N) C → JudgementNumber by j → Refused ⊎ Found
-      by-judgement N end e (accepted blocks) q h = inr (record { N = N; end = end; reads = e; blocks = blocks; judged = judged e ∙ sym q })
-      by-judgement N end e (rejected f file place) q h =
-          inl
-          (record {
-            answer = judgementAnswer (M ∷ C ∷ []) (rejected f file place);
-            some = h .some;
-            wrote = refl;
-            refuses = λ follows buffer room. ap (judgedOutcome follows M C buffer N) q ∙ outcome-judged (by .limits) (by .models .read) (by .rule .file) follows M C buffer e (room N end e);
-            no-said = λ x. sym (ap₂ (alikeRead x) e (judged e ∙ sym q));
-          })
-
-      by-model : (r : Reading) → by .models .read M ≡ r → Refused ⊎ Found
-      by-model (model N end) e = by-judgement N end e _ refl (certificate-numbered by (automatonOf N) C)
-      by-model (noModel f place) e =
-          inl
-          (record {
-            answer = refusalIn f 1 place (length M);
-            some = unread-number by M f place e .some;
-            wrote = refl;
-            refuses = λ follows buffer room. outcome-refused (by .limits) (by .models .read) (by .rule .file) follows M C buffer f place e;
-            no-said = λ x. sym (ap₂ (alikeRead x) e (judged e));
-          })
-
-  certificate-accepted : (a : Found) → accepted (a .blocks) ≡ judgeCertificate (by .limits) (by .rule .file) (automatonOf (a .N)) C
-  unfolding judge judgeReading
-  certificate-accepted a = sym (a .judged) ∙ ap (λ (r : Reading). judgeReading (by .limits) (by .rule .file) r C) (a .reads)
+      go : (a : Reading) (j : Judgement) → judge (by .limits) (by .models .read) (by .rule .file) M C ≡ j → 0 ≡ alikeRead x a j
+      go (model N end) (accepted blocks) e = absurd (r .rejects blocks e)
+      go (model N end) (rejected f file place) e = refl
+      go (noModel f place) j e = refl
 
   -- what the call answers and says of an accepted certificate
-  module _ (x : Named) (a : Found) where
+  module _ (x : Named) (a : Found by M C) where
     abbrev parts : ℕ
     parts = partsNumber (length (a .N .labels)) x
 
-    found-outcome : unwritten (answerWithoutPlace parts 0) [] ≡ outcomeBy (pairsOf by) (testsParts x) M C []
-    found-outcome = outcome-accepted (by .limits) (by .models .read) (by .rule .file) (testsParts x) M C [] (a .reads) (a .blocks) (omega arith) (certificate-accepted a)
-
     found-answer : answerWithoutPlace parts 0 ≡ outcomeBy (pairsOf by) (testsParts x) M C [] .answer
     unfolding unwritten
-    found-answer = ap (λ (o : Outcome). o .answer) found-outcome
+    found-answer = ap (λ (o : Outcome). o .answer) (found-outcome by M C (testsParts x) [] (roomy x) a)
 
     found-says : ifSame parts 0 (ifTrue (sameBlock (a .blocks) (x .firstState) (x .secondState)) 1 0) 0 ≡ alikeSays (pairsOf by) x M C
     unfolding alikeSays alikeRead alikeJudged
@@ -164,22 +116,22 @@ module _ (by : PairRules) (M C : List ℕ) where
   pub alike-refused : (x : Named) → (outcomeBy (pairsOf by) (testsParts x) M C [] .answer .number ≡ 0 → ⊥) → 0 ≡ alikeSays (pairsOf by) x M C
   unfolding answerWithoutPlace
   alike-refused x n =
-      ⊎-elim (λ r. r .no-said x) (λ a. found-parted x a (λ z. n (ap (λ (y : rules.Answer). y .number) (sym (found-answer x a)) ∙ z))) refused-or-found
+      ⊎-elim (λ r. no-said x r) (λ a. found-parted x a (λ z. n (ap (λ (y : rules.Answer). y .number) (sym (found-answer x a)) ∙ z))) (refused-or-found by M C)
 
   -- no buffer is lent, and nothing is written
   pub alike-written : (x : Named) → 0 ≡ outcomeBy (pairsOf by) (testsParts x) M C [] .answer .written
   unfolding unwritten answerWithoutPlace
   alike-written x =
-      ⊎-elim (λ r. sym (r .wrote) ∙ ap (λ (o : Outcome). o .answer .written) (r .refuses (testsParts x) [] (λ N end e. omega arith))) (λ a. ap (λ (o : Outcome). o .answer .written) (found-outcome x a)) refused-or-found
+      ⊎-elim (λ r. sym (r .wrote) ∙ ap (λ (o : Outcome). o .answer .written) (r .refuses (testsParts x) [] (roomy x))) (λ a. ap (λ (o : Outcome). o .answer .written) (found-outcome by M C (testsParts x) [] (roomy x) a)) (refused-or-found by M C)
 
   pub alike-buffer : (x : Named) → outcomeBy (pairsOf by) (testsParts x) M C [] .buffer ≡ []
   unfolding unwritten
   alike-buffer x =
-      ⊎-elim (λ r. ap (λ (o : Outcome). o .buffer) (sym (r .refuses (testsParts x) [] (λ N end e. omega arith)))) (λ a. ap (λ (o : Outcome). o .buffer) (sym (found-outcome x a))) refused-or-found
+      ⊎-elim (λ r. ap (λ (o : Outcome). o .buffer) (sym (r .refuses (testsParts x) [] (roomy x)))) (λ a. ap (λ (o : Outcome). o .buffer) (sym (found-outcome by M C (testsParts x) [] (roomy x) a))) (refused-or-found by M C)
 
   module _ (b : Bytes M) (c : Bytes C) (x : Named) where
     -- said of an accepted certificate where 27 does not refuse: whether the two states share a block
-    shares : (a : Found) → partsNumber (length (a .N .labels)) x ≡ 0 → (alikeSays (pairsOf by) x M C ≡ 1) ↔ InOneBlock (a .blocks) (x .firstState) (x .secondState)
+    shares : (a : Found by M C) → partsNumber (length (a .N .labels)) x ≡ 0 → (alikeSays (pairsOf by) x M C ≡ 1) ↔ InOneBlock (a .blocks) (x .firstState) (x .secondState)
     shares a z =
         let named = parts-named (length (a .N .labels)) x z in
         let whole = facts-of by M C (a .blocks) b c (record { answers = a .judged }) (a .N) (holds-read by M b (a .reads)) .whole in
@@ -189,11 +141,11 @@ module _ (by : PairRules) (M C : List ℕ) where
         )
 
     -- 0 tells that the certificate is accepted and 27 does not refuse
-    found-of : outcomeBy (pairsOf by) (testsParts x) M C [] .answer .number ≡ 0 → (a : Found) × (partsNumber (length (a .N .labels)) x ≡ 0)
+    found-of : outcomeBy (pairsOf by) (testsParts x) M C [] .answer .number ≡ 0 → (a : Found by M C) × (partsNumber (length (a .N .labels)) x ≡ 0)
     unfolding unwritten answerWithoutPlace
     found-of z =
-        ⊎-elim (λ r. absurd (r .some (ap (λ (o : Outcome). o .answer .number) (r .refuses (testsParts x) [] (λ N end e. omega arith)) ∙ z)))
-        (λ a. (a, ap (λ (y : rules.Answer). y .number) (found-answer x a) ∙ z)) refused-or-found
+        ⊎-elim (λ r. absurd (r .some (ap (λ (o : Outcome). o .answer .number) (r .refuses (testsParts x) [] (roomy x)) ∙ z)))
+        (λ a. (a, ap (λ (y : rules.Answer). y .number) (found-answer x a) ∙ z)) (refused-or-found by M C)
 
     module _ (z : outcomeBy (pairsOf by) (testsParts x) M C [] .answer .number ≡ 0) (N : Model) (f : by .models .isFile M N) where
       holds : HoldsModel (by .models .read) M N
@@ -236,20 +188,12 @@ module _ (by : PairRules) (M C : List ℕ) where
       abbrev judged : Outcome
       judged = outcomeBy (pairsOf by) writesBlocks M C before
 
-      roomy : Roomy writesBlocks before
-      roomy N end e = omega (arith, by .models .sound M N (by .models .exactly M N b .0 (holds-read by M b e .reads)) .states, room)
-
-      found-judged : (a : Found) → filled (a .blocks) before ≡ judged
-      found-judged a =
-          outcome-accepted (by .limits) (by .models .read) (by .rule .file) writesBlocks M C before (a .reads) (a .blocks) (roomy (a .N) (a .end) (a .reads)) (certificate-accepted a)
-
       -- it refuses: with the same answer, and no is said
-      pub judged-refused : (judged .answer .number ≡ 0 → ⊥) → (judged .answer ≡ outcomeBy (pairsOf by) (testsParts x) M C [] .answer) × (0 ≡ alikeSays (pairsOf by) x M C)
-      unfolding unwritten filled answerWithoutPlace
-      judged-refused n =
-          ⊎-elim
-          (λ r. (ap (λ (o : Outcome). o .answer) (sym (r .refuses writesBlocks before roomy)) ∙ ap (λ (o : Outcome). o .answer) (r .refuses (testsParts x) [] (λ N end e. omega arith)), r .no-said x))
-          (λ a. absurd (n (ap (λ (o : Outcome). o .answer .number) (sym (found-judged a))))) refused-or-found
+      pub alike-unjudged : (judged .answer .number ≡ 0 → ⊥) → (judged .answer ≡ outcomeBy (pairsOf by) (testsParts x) M C [] .answer) × (0 ≡ alikeSays (pairsOf by) x M C)
+      unfolding unwritten
+      alike-unjudged n =
+          let r = judged-refused by M C b before room n in
+          (refused-answer by M C b before room r ∙ ap (λ (o : Outcome). o .answer) (r .refuses (testsParts x) [] (roomy x)), no-said x r)
 
       -- it accepts: so many blocks stand in the buffer, and they decide
       pub record Compared (n : ℕ) (buffer : List ℕ) : Type 0 where
@@ -260,12 +204,10 @@ module _ (by : PairRules) (M C : List ℕ) where
 
       pub judged-compared : judged .answer .number ≡ 0 → Compared (judged .answer .written) (judged .buffer)
       unfolding unwritten filled answerWithoutPlace
-      judged-compared z =
-          ⊎-elim (λ r. absurd (r .some (ap (λ (o : Outcome). o .answer .number) (r .refuses writesBlocks before roomy) ∙ z))) compared refused-or-found
+      judged-compared z = let f = judged-found by M C b before room z in compared (f .0) (f .1)
         where
-          compared : Found → Compared (judged .answer .written) (judged .buffer)
-          compared a =
-              let e = found-judged a in
+          compared : (a : Found by M C) → filled (a .blocks) before ≡ judged → Compared (judged .answer .written) (judged .buffer)
+          compared a e =
               let whole = facts-of by M C (a .blocks) b c (record { answers = a .judged }) (a .N) (holds-read by M b (a .reads)) .whole in
               let n : length (a .N .labels) ≡ judged .answer .written = sym whole ∙ ap (λ (o : Outcome). o .answer .written) e in
               let block : (v : ℕ) → v < length (a .N .labels) → getD (judged .buffer) v 0 ≡ getD (a .blocks) v 0 =

@@ -1,5 +1,5 @@
 -- The laws of the rows.
-use Prim.Native.Nat.{ℕ, _<_}
+use Prim.Native.Nat.{ℕ, _+_, _-_, _≤_, _<_}
 use mathlib.Core.Path.{_≡_, refl, sym, ap, _∙_}
 use mathlib.Core.Bool.{Bool, true, false, cond}
 use mathlib.Core.List.{List}
@@ -8,7 +8,8 @@ use lib.Dec.{eqb}
 use lib.ListN.{length, getD, set, length-set}
 use lib.Seq.{getD-set-same, getD-set-other}
 use borrow.Author.Tests.{eqb-true, eqb-false}
-use Rattle.bisimulation.specs.definitions.Choice.{both}
+use Rattle.bisimulation.specs.definitions.Choice.{both, countBelow}
+use Rattle.bisimulation.specs.argument.ChoiceLaws.{countBelowCong, count-above}
 use Rattle.bisimulation.specs.definitions.Pairs.{Pairs, isPair, removed}
 use Rattle.rules.specs.definitions.Limits.{limits}
 use Rattle.row.specs.Bits.{rowBits, bitOf, clearBit, IsNextBelow}
@@ -65,3 +66,11 @@ holds-removed {before = before} h s t e less below =
 -- a row has a bit for each state
 pub next-state : {f : ℕ → Bool} {u r : ℕ} → IsNextBelow rowBits f u r → IsNext f u r
 next-state h = record { from = h .from; none = h .none; some = λ less. h .some (omega arith) }
+
+-- the bits of a row are those of the related states
+pub count-held : {n : ℕ} {R : Pairs} {rows : List ℕ} → HoldsPairs n R rows → n ≤ limits .states → (v : ℕ) → v < n → countBelow rowBits (rowBit rows v) ≡ countBelow n (R v)
+count-held {n} {R} {rows} h few v below =
+    let e : rowBits ≡ (rowBits - n) + n = omega arith in
+    ap (λ (k : ℕ). countBelow k (rowBit rows v)) e
+    ∙ count-above (rowBits - n) n (rowBit rows v) (λ u above. h .rest v u below above)
+    ∙ countBelowCong n (rowBit rows v) (R v) (λ u less. h .bits v u below less)

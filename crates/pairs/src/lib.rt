@@ -2,7 +2,9 @@
 ghost use Prim.Native.Nat.{_≤_, _<_};
 ghost use lib.ListN.{length};
 ghost use mathlib.Core.Path.{_≡_};
+ghost use Rattle.bisimulation.specs.definitions.Choice.{countBelow};
 ghost use Rattle.rules.specs.definitions.Limits.{limits};
+ghost use Rattle.row.specs.Bits.{rowBits};
 ghost use Rattle.pairs.specs.Rows.{rowBit, removedRows, IsNext, AreAlike};
 use limits::STATES;
 use row::Row;
@@ -33,6 +35,14 @@ pub fn next_related(rows: &Rows, v: usize, u: usize) -> usize
         return u;
     }
     row::next_bit(rows[v], u)
+}
+
+// How many states are related to v.
+pub fn count_related(rows: &Rows, v: usize) -> usize
+    requires { ⌜ v < limits .states ⌝ }
+    ensures { λ r. ⌜ r ≡ countBelow rowBits (rowBit (now (rows .entry)) v) ⌝ }
+{
+    row::ones(rows[v])
 }
 
 // v and u are related to the same states, where it is true.

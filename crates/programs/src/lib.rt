@@ -1,4 +1,5 @@
-// The judging program of document 01, those that reduce, join and compare beside it, and a fetch, as functions that the programs call.
+// The judging program of document 01, those that reduce, write the block sheet, join and compare beside it, and a fetch, as functions that
+// the programs call.
 ghost use Prim.Native.Nat.{_<_};
 ghost use Rattle.io.specs.Counts.{Counts};
 use libc::STDOUT_FILENO;
@@ -8,17 +9,22 @@ const MODEL: usize = 8192;
 
 const CERTIFICATE: usize = 49152;
 
+// What a program writes from two files, and may keep.
+enum Output {
+    Merged,
+    Sheet,
+    Joined,
+}
+
 // What is asked of a model and a certificate, or of two models.
 enum Asked {
     Judge,
-    Reduce {
+    Write {
+        output: Output,
         keeps: bool,
     },
     Fetch {
         state: u32,
-    },
-    Join {
-        keeps: bool,
     },
     Alike {
         first_count: u32,
@@ -120,25 +126,91 @@ fn keep_file(path: &[u8], bytes: &[u8]) {
     libc::close(fd);
 }
 
-// Prints a model's bytes, and writes them into a file where they are to be kept.
-fn print_model(path: &[u8], bytes: &[u8], keeps: bool) {
-    if keeps {
-        keep_file(path, bytes);
+// Keeps what was written in a file of the current folder.
+fn keep_output(output: Output, bytes: &[u8]) {
+    match output {
+        Output::Merged => keep_file(b"merged.bin", bytes),
+        Output::Sheet => keep_file(b"blocks.txt", bytes),
+        Output::Joined => keep_file(b"joined.bin", bytes),
     }
-    print_bytes(bytes);
 }
 
-// Prints number, file and place, and on acceptance the merged model, which may be kept. A refusal leaves merged.bin alone.
-fn reduce_and_print<'a>(model: &'a [u8], certificate: &'a [u8], out: &mut [u8], keeps: bool) {
+// Prints what was written, a sheet as it is.
+fn print_output(output: Output, bytes: &[u8]) {
+    match output {
+        Output::Sheet => print(bytes),
+        _ => print_bytes(bytes),
+    }
+}
+
+// The call that writes it into a lent buffer; hands back its stretch.
+fn write<'a>(
+    output: Output,
+    first: &'a [u8],
+    second: &'a [u8],
+    out: &mut [u8],
+    number: &mut u32,
+    file: &mut u32,
+    place: &mut usize,
+    state: &mut u32,
+    remainder: &mut i64,
+    written: &mut usize,
+) -> &'a [u8] {
+    match output {
+        Output::Merged => slices::reduce(
+            first,
+            second,
+            out,
+            number,
+            file,
+            place,
+            state,
+            remainder,
+            written,
+        ),
+        Output::Sheet => slices::sheet(
+            first,
+            second,
+            out,
+            number,
+            file,
+            place,
+            state,
+            remainder,
+            written,
+        ),
+        Output::Joined => slices::join(
+            first,
+            second,
+            out,
+            number,
+            file,
+            place,
+            state,
+            remainder,
+            written,
+        ),
+    }
+}
+
+// Prints number, file and place, and on acceptance what was written, which may be kept. A refusal leaves the file of an earlier run alone.
+fn write_and_print<'a>(
+    output: Output,
+    first: &'a [u8],
+    second: &'a [u8],
+    out: &mut [u8],
+    keeps: bool,
+) {
     let mut number = 0;
     let mut file = 0;
     let mut place = 0;
     let mut broken = 0;
     let mut remainder = 0;
     let mut written = 0;
-    slices::reduce(
-        model,
-        certificate,
+    write(
+        output,
+        first,
+        second,
         out,
         &mut number,
         &mut file,
@@ -150,7 +222,10 @@ fn reduce_and_print<'a>(model: &'a [u8], certificate: &'a [u8], out: &mut [u8], 
     print_result(number, file, place);
     if number == 0 {
         let end = at_most(written, out);
-        print_model(b"merged.bin", &out[..end], keeps);
+        if keeps {
+            keep_output(output, &out[..end]);
+        }
+        print_output(output, &out[..end]);
     }
 }
 
@@ -174,32 +249,6 @@ fn fetch_and_print(model: &[u8], state: u32) {
     print_number(part.len());
     print(b":");
     print_bytes(part);
-}
-
-// Prints number, file and place, and where the two models were joined the joined one, which may be kept. A refusal leaves joined.bin alone.
-fn join_and_print<'a>(first: &'a [u8], second: &'a [u8], out: &mut [u8], keeps: bool) {
-    let mut number = 0;
-    let mut file = 0;
-    let mut place = 0;
-    let mut broken = 0;
-    let mut remainder = 0;
-    let mut written = 0;
-    slices::join(
-        first,
-        second,
-        out,
-        &mut number,
-        &mut file,
-        &mut place,
-        &mut broken,
-        &mut remainder,
-        &mut written,
-    );
-    print_result(number, file, place);
-    if number == 0 {
-        let end = at_most(written, out);
-        print_model(b"joined.bin", &out[..end], keeps);
-    }
 }
 
 // Prints number, file and place, and yes or no.
@@ -243,17 +292,12 @@ fn answer<'a>(asked: Asked, model: &'a [u8], certificate: &'a [u8]) {
             let mut blocks = [0u8; limits::STATES];
             judge_and_print(model, certificate, &mut blocks);
         }
-        Asked::Reduce { keeps } => {
-            // long enough: no merged model is longer than its model
+        Asked::Write { output, keeps } => {
+            // long enough: a merged model is no longer than its model, a joined one is a model, and a sheet has at most 73 bytes a state
             let mut out = [0u8; MODEL];
-            reduce_and_print(model, certificate, &mut out, keeps);
+            write_and_print(output, model, certificate, &mut out, keeps);
         }
         Asked::Fetch { state } => fetch_and_print(model, state),
-        Asked::Join { keeps } => {
-            // long enough: a joined model is a model
-            let mut out = [0u8; MODEL];
-            join_and_print(model, certificate, &mut out, keeps);
-        }
         Asked::Alike {
             first_count,
             first_state,
@@ -289,7 +333,30 @@ pub fn judge_streams(pa: i32, pa_bytes: usize, ct: i32, ct_bytes: usize) {
 
 // Reduces likewise, and keeps no merged.bin.
 pub fn reduce_streams(pa: i32, pa_bytes: usize, ct: i32, ct_bytes: usize) {
-    answer_streams(Asked::Reduce { keeps: false }, pa, pa_bytes, ct, ct_bytes);
+    answer_streams(
+        Asked::Write {
+            output: Output::Merged,
+            keeps: false,
+        },
+        pa,
+        pa_bytes,
+        ct,
+        ct_bytes,
+    );
+}
+
+// Writes the sheet likewise, and keeps no blocks.txt.
+pub fn sheet_streams(pa: i32, pa_bytes: usize, ct: i32, ct_bytes: usize) {
+    answer_streams(
+        Asked::Write {
+            output: Output::Sheet,
+            keeps: false,
+        },
+        pa,
+        pa_bytes,
+        ct,
+        ct_bytes,
+    );
 }
 
 // Fetches a state of an open model file likewise; no certificate is read.
@@ -299,7 +366,16 @@ pub fn fetch_stream(pa: i32, pa_bytes: usize, state: u32) {
 
 // Joins two models of one open file likewise, and keeps no joined.bin. Of each the first 8,192 bytes are read.
 pub fn join_streams(a: i32, a_bytes: usize, b: i32, b_bytes: usize) {
-    answer_streams(Asked::Join { keeps: false }, a, a_bytes, b, b_bytes);
+    answer_streams(
+        Asked::Write {
+            output: Output::Joined,
+            keeps: false,
+        },
+        a,
+        a_bytes,
+        b,
+        b_bytes,
+    );
 }
 
 // Compares two states of a joined model likewise.
@@ -342,7 +418,23 @@ pub fn judge_files() {
 // The reducing program: writes merged.bin.
 pub fn reduce_files() {
     answer_files(
-        Asked::Reduce { keeps: true },
+        Asked::Write {
+            output: Output::Merged,
+            keeps: true,
+        },
+        b"pa.bin",
+        b"ct.bin",
+        usize::MAX,
+    );
+}
+
+// The program that writes the block sheet: blocks.txt.
+pub fn sheet_files() {
+    answer_files(
+        Asked::Write {
+            output: Output::Sheet,
+            keeps: true,
+        },
         b"pa.bin",
         b"ct.bin",
         usize::MAX,
@@ -351,7 +443,15 @@ pub fn reduce_files() {
 
 // The joining program: writes joined.bin from a.bin and b.bin.
 pub fn join_files() {
-    answer_files(Asked::Join { keeps: true }, b"a.bin", b"b.bin", MODEL);
+    answer_files(
+        Asked::Write {
+            output: Output::Joined,
+            keeps: true,
+        },
+        b"a.bin",
+        b"b.bin",
+        MODEL,
+    );
 }
 
 fn wide(x: u8) -> u32

@@ -19,30 +19,9 @@ use Rattle.transition.specs.Known.{FieldsOf}
 use Rattle.transition.specs.KnownLaws.{known-transition, entries-known}
 use Rattle.transition.specs.Entries.{EntryTaken}
 use Rattle.writer.specs.Appends.{Appends, fixedBytes}
-use Rattle.writer.specs.AppendsLaws.{append-none, append-more, record-bytes}
+use Rattle.writer.specs.AppendsLaws.{append-more, record-bytes, Ahead, ahead-start, ahead-turn, ahead-end}
 use Rattle.joined.specs.Joined.{raisedEntry, raisedTransition}
 use Rattle.raised.specs.Raised.{raisedEntries, raisedTransitions, CanRaiseEntries, CanRaiseTransition, CanRaise}
-
--- a loop that appends: with the bytes left appended too, all stand
-pub record Ahead (all : List ℕ) (at : ℕ) (before left : List ℕ) (next : ℕ) (out : List ℕ) : Type 0 where
-  pub size : length out ≡ length before
-  pub room : next ≤ length out
-  pub rest : (after : List ℕ) (end : ℕ) → Appends left next out after end → Appends all at before after end
-
-ahead-start : {all out : List ℕ} {at : ℕ} → at ≤ length out → Ahead all at out all at out
-ahead-start h = record { size = refl; room = h; rest = λ after end a. a }
-
-module _ {all before left out : List ℕ} {at next : ℕ} (h : Ahead all at before left next out) where
-  ahead-turn : {xs ys more : List ℕ} {past : ℕ} → left ≡ xs ++ ys → Appends xs next out more past → Ahead all at before ys past more
-  ahead-turn {xs} e a =
-      record {
-        size = a .size ∙ h .size;
-        room = omega (arith, a .room, a .size);
-        rest = λ after end b. h .rest after end (subst (λ (l : List ℕ). Appends l next out after end) (sym e) (append-more a b));
-      }
-
-  ahead-end : left ≡ [] → Appends all at before out next
-  ahead-end e = h .rest out next (subst (λ (l : List ℕ). Appends l next out out next) (sym e) (append-none out next (h .room)))
 
 -- what is known before each entry that is written
 pub record RaisingEntries (s : List ℕ) (k : ℕ) (all : List ℕ) (at : ℕ) (before : List ℕ) (left place : ℕ) (out : List ℕ) (next : ℕ) : Type 0 where

@@ -7,8 +7,10 @@ use native.Mathlib.Nat.{zero-add, suc-add, pow-suc, mod-eq-of-lt}
 use lib.Dec.{eqb}
 use lib.Bits.{bitAnd, bitOr, and-step, or-step, and-mask, or-zero-r}
 use lib.Pow.{pow-lt, pow-pos, shr-shr, shl-exact}
-use lib.Count.{trailingZeros, trailing-le, under}
+use lib.Count.{ones, ones-step, ones-le, trailingZeros, trailing-le, under}
 use borrow.Author.Tests.{eqb-true, eqb-false, eq-eqb, ne-eqb}
+use Rattle.bisimulation.specs.definitions.Choice.{ifTrue, countBelow}
+use Rattle.bisimulation.specs.argument.ChoiceLaws.{count-first}
 use Rattle.row.specs.Bits.{wordBits, rowBits, bitOf, putBit, setBit, clearBit, AreSame, IsNextBelow}
 
 -- no bit of 0 is 1
@@ -159,3 +161,21 @@ are-same a b p q =
       alike = λ e i. ap (λ (x : ℕ). bitOf x i) (eqb-true a b e);
       differ = λ e all. eqb-false a b e (bits-same rowBits a b p q (λ t below. all t));
     }
+
+-- the machine's `u64::count_ones(x)`, of a word of w bits
+lowest-one : (d : ℕ) → d < 2 → d ≡ ifTrue (eqb d 1) 1 0
+unfolding ifTrue
+lowest-one zero h = refl
+lowest-one (suc zero) h = refl
+lowest-one (suc (suc d)) h = absurd (omega arith)
+
+pub ones-counted : (w x : ℕ) → x < 2 ^ w → ones x ≡ countBelow w (bitOf x)
+unfolding bitOf countBelow
+ones-counted zero x h = omega (arith, ones-le 0 x h)
+ones-counted (suc w) x h =
+    ones-step x
+    ∙ ap₂ (λ (a b : ℕ). a + b) (lowest-one (x % 2) (omega arith)) (ones-counted w (x / 2) (omega (arith, pow-suc 2 w)))
+    ∙ sym (count-first w (bitOf x))
+
+pub ones-fit : (x : ℕ) → x < 2 ^ wordBits → ones x < 2 ^ 64
+ones-fit x h = omega (arith, ones-le wordBits x h)

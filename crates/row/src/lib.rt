@@ -1,6 +1,7 @@
 // A row of bits, one for each state. Nothing outside this crate knows the word.
 ghost use Prim.Native.Nat.{_<_};
 ghost use mathlib.Core.Path.{_≡_};
+ghost use Rattle.bisimulation.specs.definitions.Choice.{countBelow};
 ghost use Rattle.row.specs.Bits.{rowBits, bitOf, setBit, clearBit, AreSame, IsNextBelow};
 
 pub type Row = u64;
@@ -42,4 +43,11 @@ pub fn next_bit(row: Row, u: usize) -> usize
     ensures { λ r. ⌜ IsNextBelow rowBits (bitOf row) u r ⌝ }
 {
     u + u64::trailing_zeros(row >> u) as usize
+}
+
+// How many bits are 1.
+pub fn ones(row: Row) -> usize
+    ensures { λ r. ⌜ r ≡ countBelow rowBits (bitOf row) ⌝ }
+{
+    u64::count_ones(row) as usize
 }

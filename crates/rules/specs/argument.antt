@@ -34,5 +34,6 @@ pub mod ModelAutomaton
 pub mod EntryPrices
 pub mod FetchedRun
 pub mod PairOutcome
+pub mod JudgedFirst
 pub mod DemandsHold
 pub mod PlainHolds

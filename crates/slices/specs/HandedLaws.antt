@@ -25,7 +25,7 @@ use Rattle.pair.specs.Pair.{PairAnswered}
 use Rattle.join.specs.Join.{JoinAnswered}
 use Rattle.alike.specs.declared.AlikeAnswer.{AlikeAnswer}
 use Rattle.alike.specs.Alike.{AlikeAnswered}
-use Rattle.slices.specs.Slices.{FetchHandedBack, PairHandedBack, JoinHandedBack, AlikeHandedBack}
+use Rattle.slices.specs.Slices.{FetchHandedBack, AnswerHandedBack, PairHandedBack, JoinHandedBack, AlikeHandedBack}
 
 -- the two files of a pair, with any third
 pub pair-inside : {M C : List ℕ} (third : List ℕ) {r : Answer} → StretchInside (M ∷ C ∷ []) r → StretchInside (M ∷ C ∷ third ∷ []) r
@@ -33,14 +33,30 @@ unfolding fileOf
 pair-inside {M} {C} third {r} i =
     record { named = omega (arith, i .named); fits = omega (arith, i .fits, ap length (two-of M C third [] (r .file) (i .named))) }
 
--- a pair's answer handed back
-pub pair-handed : {follows : Follows} {numbers : ℕ → Type 0} {M C before after : List ℕ} {m c : ℕ × ℕ} {r : Answer} {number file place state : ℕ} {remainder : ℤ} {written : ℕ} {part : List ℕ} {lying : ℕ × ℕ} (third : List ℕ) (slice : ℕ × ℕ) → PairAnswered follows numbers M C before after r → HandsBack (M ∷ C ∷ third ∷ []) (m ∷ c ∷ slice ∷ []) r number file place state remainder part lying → written ≡ r .written → PairHandedBack follows numbers M C before after m c number file place state remainder written part lying
-unfolding fileOf
-pair-handed {follows} {numbers} {M} {C} {before} {after} {m} {c} {r} third slice j h w =
-    let named : r .file ≤ 2 = j .outcome .inside .named in
+-- an answer handed back from them
+pub answer-handed : {M C : List ℕ} {m c : ℕ × ℕ} {r : Answer} {number file place state : ℕ} {remainder : ℤ} {written : ℕ} {part : List ℕ} {lying : ℕ × ℕ} (third : List ℕ) (slice : ℕ × ℕ) → StretchInside (M ∷ C ∷ []) r → HandsBack (M ∷ C ∷ third ∷ []) (m ∷ c ∷ slice ∷ []) r number file place state remainder part lying → written ≡ r .written → AnswerHandedBack M C m c r number file place state remainder written part lying
+unfolding stretchOf fileOf
+answer-handed {M} {C} {m} {c} {r} third slice i h w =
     record {
-      outcome = handed-back _ _ (j .outcome) h w (two-of M C third [] (r .file) named) (two-of m c slice (0, 0) (r .file) named);
-      demands = subst (Demands plainPairs follows numbers M C before after) (sym (h .numbered)) (j .demands);
+      hands =
+          record {
+            numbered = h .numbered;
+            filed = h .filed;
+            placed = h .placed;
+            stated = h .stated;
+            off = h .off;
+            handed = h .handed ∙ ap (λ (l : List ℕ). stretchIn l (answered r)) (two-of M C third [] (r .file) (i .named));
+            lies = h .lies ∙ ap (λ (x : ℕ × ℕ). partFrom x (r .«stretch_start»)) (two-of m c slice (0, 0) (r .file) (i .named));
+          };
+      wrote = w;
+    }
+
+-- a pair's answer handed back
+pub pair-handed : {follows : Follows} {numbers : ℕ → Type 0} {M C before after : List ℕ} {m c : ℕ × ℕ} {r : Answer} {number file place state : ℕ} {remainder : ℤ} {written : ℕ} {part : List ℕ} {lying : ℕ × ℕ} → PairAnswered follows numbers M C before after r → AnswerHandedBack M C m c r number file place state remainder written part lying → PairHandedBack follows numbers M C before after m c number file place state remainder written part lying
+pair-handed {follows} {numbers} {M} {C} {before} {after} j h =
+    record {
+      outcome = handed-back _ _ (j .outcome) (h .hands) (h .wrote) refl refl;
+      demands = subst (Demands plainPairs follows numbers M C before after) (sym (h .hands .numbered)) (j .demands);
     }
 
 -- two joined models' answer handed back
@@ -52,14 +68,14 @@ join-handed {A} {B} {before} {after} j h w =
     }
 
 -- the answer to two states compared handed back
-pub alike-handed : {M C : List ℕ} {x : Named} {m c : ℕ × ℕ} {r : AlikeAnswer} {number file place state : ℕ} {remainder : ℤ} {said : ℕ} {part : List ℕ} {lying : ℕ × ℕ} (third : List ℕ) (slice : ℕ × ℕ) → AlikeAnswered M C x r → HandsBack (M ∷ C ∷ third ∷ []) (m ∷ c ∷ slice ∷ []) (r .answer) number file place state remainder part lying → said ≡ r .alike → AlikeHandedBack M C x m c number file place state remainder said part lying
-alike-handed {M} {C} {x} {r = r} {said = said} third slice j h s =
-    let wrote = alike-written plainRules M C x ∙ ap (λ (a : rules.Answer). a .written) (sym (j .answers .outcome .answer)) in
-    let p = pair-handed third slice (j .answers) h wrote in
+pub alike-handed : {M C : List ℕ} {x : Named} {m c : ℕ × ℕ} {r : AlikeAnswer} {number file place state : ℕ} {remainder : ℤ} {written said : ℕ} {part : List ℕ} {lying : ℕ × ℕ} → AlikeAnswered M C x r → AnswerHandedBack M C m c (r .answer) number file place state remainder written part lying → said ≡ r .alike → AlikeHandedBack M C x m c number file place state remainder said part lying
+alike-handed {M} {C} {x} {r = r} {said = said} j h s =
+    let none = alike-written plainRules M C x ∙ ap (λ (a : rules.Answer). a .written) (sym (j .answers .outcome .answer)) in
+    let p = pair-handed (j .answers) (record { hands = h .hands; wrote = none }) in
     record {
       outcome = p .outcome;
       demands = p .demands;
-      says = subst (λ (n : ℕ). SaysAlike plainPairs x M C n said) (sym (h .numbered)) (subst (SaysAlike plainPairs x M C (r .answer .number)) (sym s) (j .says));
+      says = subst (λ (n : ℕ). SaysAlike plainPairs x M C n said) (sym (h .hands .numbered)) (subst (SaysAlike plainPairs x M C (r .answer .number)) (sym s) (j .says));
     }
 
 -- a fetch's run or stretch lies in the model, and is handed back

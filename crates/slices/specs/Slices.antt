@@ -12,7 +12,8 @@ use Rattle.rules.specs.definitions.Reading.{readWhole}
 use Rattle.rules.specs.definitions.Accepted.{FileOf}
 use Rattle.joined.specs.JoinAnswer.{joinOutcome, joinFiles, JoinDemands}
 use Rattle.joined.specs.AlikeAnswer.{Named, testsParts, AlikeNumber, SaysAlike}
-use Rattle.answer.specs.Handing.{partFrom, Handed}
+use Rattle.answer.specs.declared.Answer.{Answer}
+use Rattle.answer.specs.Handing.{partFrom, HandsBack, Handed}
 
 -- a fetch: the run or stretch as a part of the model
 pub record FetchHandedBack (model : List ℕ) (slice : ℕ × ℕ) (fetched : ℕ) (number file place state : ℕ) (remainder : ℤ) (part : List ℕ) (lying : ℕ × ℕ) : Type 0 where
@@ -24,6 +25,11 @@ pub record FetchHandedBack (model : List ℕ) (slice : ℕ × ℕ) (fetched : �
   pub handed : part ≡ stretchIn model (fetchAnswer limits model fetched)
   pub lies : lying ≡ partFrom slice (fetchAnswer limits model fetched .stretchStart)
   pub known : FetchNumber number
+
+-- an answer to a pair of files, with its stretch as a part of the one that it names
+pub record AnswerHandedBack (model certificate : List ℕ) (modelSlice certificateSlice : ℕ × ℕ) (r : Answer) (number file place state : ℕ) (remainder : ℤ) (written : ℕ) (part : List ℕ) (lying : ℕ × ℕ) : Type 0 where
+  pub hands : HandsBack (model ∷ certificate ∷ []) (modelSlice ∷ certificateSlice ∷ []) r number file place state remainder part lying
+  pub wrote : written ≡ r .written
 
 -- a call that judges (`PairAnswered`)
 pub record PairHandedBack (follows : Follows) (numbers : ℕ → Type 0) (model certificate before after : List ℕ) (modelSlice certificateSlice : ℕ × ℕ) (number file place state : ℕ) (remainder : ℤ) (written : ℕ) (part : List ℕ) (lying : ℕ × ℕ) : Type 0 where

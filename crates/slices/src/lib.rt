@@ -1,11 +1,16 @@
 // The calls for Rattle, with a stretch as the slice itself: the tail of the file that holds the record at fault, empty where none does. Number,
 // file, place, state and remainder stand beside it. No public entry has a `requires`.
+ghost use mathlib.Core.List.{[], _∷_};
 ghost use denote.Ref.{ptr};
 ghost use Rattle.rules.specs.definitions.Answers.{writesBlocks, writesMerged, JudgeNumber, ReduceNumber};
+ghost use Rattle.rules.specs.definitions.PlainRule.{plainRule};
+ghost use Rattle.block_sheet.specs.SheetAnswer.{writesSheet, SheetNumber};
 ghost use Rattle.acceptance.specs.Tasks.{followsOf, numbersOf};
+ghost use Rattle.answer.specs.Answered.{StretchInside};
 ghost use Rattle.alike.specs.Alike.{named};
-ghost use Rattle.slices.specs.Slices.{FetchHandedBack, PairHandedBack, JoinHandedBack, AlikeHandedBack};
+ghost use Rattle.slices.specs.Slices.{FetchHandedBack, AnswerHandedBack, PairHandedBack, JoinHandedBack, AlikeHandedBack};
 use acceptance::Task;
+use answer::Answer;
 
 // The part of the model that holds the transitions that leave a state, empty where none leave, or the stretch of a refusal.
 pub fn fetch<'a>(
@@ -33,7 +38,36 @@ pub fn fetch<'a>(
     )
 }
 
-// The answer of a call that judges, with its stretch handed back.
+// The answer of a call on a pair, with its stretch handed back.
+fn hand_back_answer<'a>(
+    model: &'a [u8],
+    certificate: &'a [u8],
+    answer: Answer,
+    number: &mut u32,
+    file: &mut u32,
+    place: &mut usize,
+    state: &mut u32,
+    remainder: &mut i64,
+    written: &mut usize,
+) -> &'a [u8]
+    requires { ⌜ StretchInside (now model ∷ now certificate ∷ []) answer ⌝ }
+    ensures { λ r. ⌜ AnswerHandedBack (now (model .entry)) (now (certificate .entry)) (ptr (model .entry)) (ptr (certificate .entry)) answer (now (number .exit)) (now (file .exit)) (now (place .exit)) (now (state .exit)) (now (remainder .exit)) (now (written .exit)) (now r) (ptr r) ⌝ }
+{
+    *written = answer.written;
+    answer::hand_back(
+        model,
+        certificate,
+        &model[0..0],
+        answer,
+        number,
+        file,
+        place,
+        state,
+        remainder,
+    )
+}
+
+// That of a call that judges.
 fn hand_back_pair<'a>(
     task: Task,
     model: &'a [u8],
@@ -49,17 +83,16 @@ fn hand_back_pair<'a>(
     ensures { λ r. ⌜ PairHandedBack (followsOf task) (numbersOf task) (now (model .entry)) (now (certificate .entry)) (now (out .entry)) (now (out .exit)) (ptr (model .entry)) (ptr (certificate .entry)) (now (number .exit)) (now (file .exit)) (now (place .exit)) (now (state .exit)) (now (remainder .exit)) (now (written .exit)) (now r) (ptr r) ⌝ }
 {
     let answer = pair::answer_pair(task, model, certificate, out);
-    *written = answer.written;
-    answer::hand_back(
+    hand_back_answer(
         model,
         certificate,
-        &model[0..0],
         answer,
         number,
         file,
         place,
         state,
         remainder,
+        written,
     )
 }
 
@@ -119,6 +152,34 @@ pub fn reduce<'a>(
     )
 }
 
+// Judges a certificate for a model and writes the sheet of its blocks.
+pub fn sheet<'a>(
+    model: &'a [u8],
+    certificate: &'a [u8],
+    out: &mut [u8],
+    number: &mut u32,
+    file: &mut u32,
+    place: &mut usize,
+    state: &mut u32,
+    remainder: &mut i64,
+    written: &mut usize,
+) -> &'a [u8]
+    ensures { λ r. ⌜ PairHandedBack (writesSheet plainRule (now (certificate .entry))) SheetNumber (now (model .entry)) (now (certificate .entry)) (now (out .entry)) (now (out .exit)) (ptr (model .entry)) (ptr (certificate .entry)) (now (number .exit)) (now (file .exit)) (now (place .exit)) (now (state .exit)) (now (remainder .exit)) (now (written .exit)) (now r) (ptr r) ⌝ }
+{
+    let answer = sheet::sheet_answer(model, certificate, out);
+    hand_back_answer(
+        model,
+        certificate,
+        answer,
+        number,
+        file,
+        place,
+        state,
+        remainder,
+        written,
+    )
+}
+
 // Writes two models as one. A fault in the second has its stretch in the second.
 pub fn join<'a>(
     first: &'a [u8],
@@ -167,16 +228,17 @@ pub fn alike<'a>(
 {
     let found = alike::alike_answer(model, first_count, certificate, first_state, second_state);
     let answer = found.answer;
+    let mut written = 0;
     *said = found.alike;
-    answer::hand_back(
+    hand_back_answer(
         model,
         certificate,
-        &model[0..0],
         answer,
         number,
         file,
         place,
         state,
         remainder,
+        &mut written,
     )
 }

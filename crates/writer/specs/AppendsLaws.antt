@@ -8,6 +8,7 @@ use native.Mathlib.Omega.{arith}
 use borrow.Rule.Slice.PartMut.{midOf, putMid, same-len-mid, post-is, mid-len}
 use Rattle.rules.specs.definitions.Bytes.{twoBytes}
 use Rattle.rules.specs.definitions.Model.{Entry, Transition, entriesBytes, transitionBytes, headBytes, labelsBytes, transitionsBytes, modelBytes}
+use Rattle.rules.specs.definitions.Answers.{answerWithoutPlace, filled}
 use Rattle.writer.specs.Appends.{Appends, fixedBytes, headBytesOf, WritesModel}
 
 -- one byte
@@ -94,6 +95,34 @@ append-pair {at} {middle} {next} {x} {high} {low} {a} {b} {c} fits e f p q =
 -- nothing
 pub append-none : (s : List ℕ) (at : ℕ) → at ≤ length s → Appends [] at s s at
 append-none s at h = let e : at ≡ at + 0 = omega arith in record { place = e; room = h; size = refl; written = sym (take-append-drop at s) }
+
+-- a file written from the start of a buffer fills it
+pub file-filled : {file before after : List ℕ} {size : ℕ} → Appends file 0 before after size → record { answer = answerWithoutPlace 0 size; buffer = after } ≡ filled file before
+unfolding filled
+file-filled {file} {before} {after} {size} p =
+    let e : size ≡ length file = omega (arith, p .place) in
+    ap₂ (λ (k : ℕ) (l : List ℕ). record { answer = answerWithoutPlace 0 k; buffer = l }) e (p .written ∙ ap (λ (k : ℕ). file ++ drop k before) e)
+
+-- a loop that appends: with the bytes left appended too, all stand
+pub record Ahead (all : List ℕ) (at : ℕ) (before left : List ℕ) (next : ℕ) (out : List ℕ) : Type 0 where
+  pub size : length out ≡ length before
+  pub room : next ≤ length out
+  pub rest : (after : List ℕ) (end : ℕ) → Appends left next out after end → Appends all at before after end
+
+pub ahead-start : {all out : List ℕ} {at : ℕ} → at ≤ length out → Ahead all at out all at out
+ahead-start h = record { size = refl; room = h; rest = λ after end a. a }
+
+module _ {all before left out : List ℕ} {at next : ℕ} (h : Ahead all at before left next out) where
+  pub ahead-turn : {xs ys more : List ℕ} {past : ℕ} → left ≡ xs ++ ys → Appends xs next out more past → Ahead all at before ys past more
+  ahead-turn {xs} e a =
+      record {
+        size = a .size ∙ h .size;
+        room = omega (arith, a .room, a .size);
+        rest = λ after end b. h .rest after end (subst (λ (l : List ℕ). Appends l next out after end) (sym e) (append-more a b));
+      }
+
+  pub ahead-end : left ≡ [] → Appends all at before out next
+  ahead-end e = h .rest out next (subst (λ (l : List ℕ). Appends l next out out next) (sym e) (append-none out next (h .room)))
 
 -- bytes copied into a part
 pub append-part : (given out : List ℕ) (at next : ℕ) {part : List ℕ} → next ≡ at + length given → next ≤ length out → part ≡ take (length given) given ++ drop (length given) (midOf at (next - at) out) → Appends given at out (putMid at (next - at) out part) next

@@ -1,6 +1,8 @@
 // The product: the calls for C and Rust, over byte slices and plain numbers; a stretch by where it starts in its file and how long it is.
 // No public entry has a `requires`.
 ghost use Rattle.rules.specs.definitions.Answers.{writesBlocks, writesMerged, JudgeNumber, ReduceNumber};
+ghost use Rattle.rules.specs.definitions.PlainRule.{plainRule};
+ghost use Rattle.block_sheet.specs.SheetAnswer.{writesSheet, SheetNumber};
 ghost use Rattle.pair.specs.Pair.{PairAnswered};
 ghost use Rattle.join.specs.Join.{JoinAnswered};
 ghost use Rattle.alike.specs.Alike.{named, AlikeAnswered};
@@ -43,6 +45,14 @@ pub extern "C" fn zolkirta_reduce(model: &[u8], certificate: &[u8], out: &mut [u
         return answer::refusal_in(head, 1, model.len());
     }
     pair::answer_headed(Task::Merged, STATES, model, certificate, out)
+}
+
+// Judges a certificate for a model and writes the sheet of its blocks.
+#[no_mangle]
+pub extern "C" fn zolkirta_sheet(model: &[u8], certificate: &[u8], sheet: &mut [u8]) -> Answer
+    ensures { λ r. ⌜ PairAnswered (writesSheet plainRule (now (certificate .entry))) SheetNumber (now (model .entry)) (now (certificate .entry)) (now (sheet .entry)) (now (sheet .exit)) r ⌝ }
+{
+    sheet::sheet_answer(model, certificate, sheet)
 }
 
 // Writes two models as one: the second's states and transitions follow the first's. A fault in the second model has file 3.

@@ -2,8 +2,8 @@
 //!
 //! A model file holds an automaton, a certificate file the reasons for which of its states are weakly bisimilar. [`judge`] accepts
 //! the certificate and names the block of each state, [`reduce`] writes the model with each block merged into one state, [`fetch`]
-//! finds the transitions that leave a state. [`join`] writes two models as one, and [`alike`] says whether a state of the one behaves
-//! as a state of the other. What is not accepted gets one numbered [`Refusal`].
+//! finds the transitions that leave a state. [`sheet`] writes the blocks as text for paper. [`join`] writes two models as one, and
+//! [`alike`] says whether a state of the one behaves as a state of the other. What is not accepted gets one numbered [`Refusal`].
 //!
 //! The small pair S of document 01: state 0 moves to state 2 by action 1, state 1 moves to state 0 internally.
 //!
@@ -33,6 +33,9 @@ pub const STATES: usize = 64;
 
 /// The bytes of the longest model. An output buffer of this length is always long enough for [`reduce`] and [`join`].
 pub const MODEL: usize = 4936;
+
+/// The bytes of the longest sheet. A sheet buffer of this length is always long enough.
+pub const SHEET: usize = 4672;
 
 /// A file that was handed to a call.
 #[derive(Clone, Copy, Debug, PartialEq, Eq, Hash)]
@@ -113,7 +116,7 @@ impl fmt::Display for Difference {
 #[derive(Clone, Copy, PartialEq, Eq)]
 #[non_exhaustive]
 pub struct Refusal<'a> {
-    /// 1 to 27: [`meaning`](Refusal::meaning) says it in words.
+    /// 1 to 28: [`meaning`](Refusal::meaning) says it in words.
     pub number: u32,
     /// The file at fault, if one is.
     pub file: Option<File>,
@@ -125,7 +128,7 @@ pub struct Refusal<'a> {
     pub difference: Option<Difference>,
 }
 
-const MEANINGS: [&str; 28] = [
+const MEANINGS: [&str; 29] = [
     "accepted",
     "the file ends inside a record",
     "a record has a wrong mark",
@@ -154,6 +157,7 @@ const MEANINGS: [&str; 28] = [
     "the joined model has more than 64 states, 256 transitions or 1,024 entries",
     "the buffer is shorter than the joined model's file",
     "accepted, and the first's count is above the state count or a state is not in its part",
+    "the certificate is accepted, and the buffer is shorter than the sheet",
 ];
 
 impl Refusal<'_> {
@@ -292,6 +296,28 @@ pub fn reduce<'a, 'b>(model: &'a [u8], certificate: &'a [u8], buffer: &'b mut [u
     lend(raw::zolkirta_reduce, [(File::Model, model), (File::Certificate, certificate)], buffer)
 }
 
+/// Judges a certificate for a model and writes its blocks as a sheet for paper. Each line has 72 characters and a newline: block number in 4
+/// columns, its size in 4, and up to 16 of its states in 4 each, all right-aligned; further lines of a block leave the first 8 columns
+/// blank. On acceptance the first bytes of `buffer` are the sheet, and its text is handed back; the buffer's later bytes stay.
+///
+/// Refusals: 1 to 9 in the model, 11 to 22 in the certificate, and 28 where the certificate is accepted and the buffer is shorter than
+/// the sheet ([`SHEET`] bytes are always enough).
+///
+/// ```
+/// // Three states without transitions, of which the second has another label.
+/// let (model, certificate) = (b"PA\x03\x01\0\0LB\0\x01\0", b"CT\0\0BK\0\x01\0");
+/// let mut buffer = [0; zolkirta::SHEET];
+/// let sheet = zolkirta::sheet(model, certificate, &mut buffer).unwrap();
+/// let lines: Vec<&str> = sheet.lines().map(str::trim_end).collect();
+/// assert_eq!(lines, ["   0   2   0   2", "   1   1   1"]);
+/// assert_eq!(sheet.len(), 2 * 73);
+/// assert_eq!(zolkirta::sheet(model, certificate, &mut [0; 145]).unwrap_err().number, 28);
+/// ```
+pub fn sheet<'a, 'b>(model: &'a [u8], certificate: &'a [u8], buffer: &'b mut [u8]) -> Result<&'b str, Refusal<'a>> {
+    let written = lend(raw::zolkirta_sheet, [(File::Model, model), (File::Certificate, certificate)], buffer)?;
+    Ok(std::str::from_utf8(written).expect("digits, spaces and newlines"))
+}
+
 /// Writes two models as one: the second's states and transitions follow the first's, its state numbers raised by the first's state
 /// count. The first bytes of `buffer` are then the joined model's file, and they are what is handed back; the buffer's later bytes stay.
 ///
@@ -386,10 +412,10 @@ mod tests {
 
     #[test]
     fn an_unknown_number_is_said() {
-        for number in [28, 29, u32::MAX] {
+        for number in [29, 30, u32::MAX] {
             assert_eq!(refusal(number, 0, 0).to_string(), format!("refusal {number}: unknown number"));
         }
-        assert_eq!(refusal(28, 2, 5).to_string(), "refusal 28: unknown number (certificate, byte 5)");
+        assert_eq!(refusal(29, 2, 5).to_string(), "refusal 29: unknown number (certificate, byte 5)");
     }
 
     #[test]
@@ -449,7 +475,7 @@ mod tests {
 
     #[test]
     fn limits_are_the_headers() {
-        for (name, limit) in [("STATES", STATES), ("MODEL", MODEL)] {
+        for (name, limit) in [("STATES", STATES), ("MODEL", MODEL), ("SHEET", SHEET)] {
             assert!(HEADER.contains(&format!("#define ZOLKIRTA_{name} {limit}\n")), "{name}");
         }
     }

@@ -71,6 +71,15 @@ extern "C" {
         out: *mut u8,
         out_length: usize,
     ) -> Answer;
+    /// [`sheet`](crate::sheet): bytes of ASCII.
+    pub fn zolkirta_sheet(
+        model: *const u8,
+        model_length: usize,
+        certificate: *const u8,
+        certificate_length: usize,
+        sheet: *mut u8,
+        sheet_length: usize,
+    ) -> Answer;
     /// [`join`](crate::join)
     pub fn zolkirta_join(
         first: *const u8,

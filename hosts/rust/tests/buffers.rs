@@ -3,16 +3,16 @@ mod compare;
 mod maker;
 mod plain;
 
-use compare::{accepted, alike, fetch, join, judge, reduce, requests, vectors, Counts};
+use compare::{accepted, alike, fetch, join, judge, reduce, requests, sheet, vectors, Counts};
 use maker::families::{bytes, filled, flow_heavy, largest, refutation_heavy};
 use plain::Answer;
 use std::ptr::{null, null_mut};
-use zolkirta::raw::{zolkirta_alike, zolkirta_fetch, zolkirta_join, zolkirta_judge, zolkirta_reduce};
-use zolkirta::MODEL;
+use zolkirta::raw::{zolkirta_alike, zolkirta_fetch, zolkirta_join, zolkirta_judge, zolkirta_reduce, zolkirta_sheet};
+use zolkirta::{MODEL, SHEET};
 
 /// Makes a call with buffers from none to one byte longer than what it writes, and with these: a shorter one is refused with a number.
 fn every_length(call: impl Fn(usize) -> (Answer, Vec<u8>), shorter: u32, more: &[usize]) {
-    let whole = call(MODEL).1;
+    let whole = call(MODEL.max(SHEET)).1;
     for length in (0..=whole.len() + 1).chain(more.iter().copied()) {
         let (answer, written) = call(length);
         let expected = if length < whole.len() { (shorter, &[][..]) } else { (0, &whole[..]) };
@@ -27,6 +27,7 @@ fn buffers_of_every_length() {
         assert_eq!(judge(model, certificate, 64).1.len(), usize::from(model[2]));
         every_length(|length| judge(model, certificate, length), 10, &[64, 65, 255, 256, 257]);
         every_length(|length| reduce(model, certificate, length), 23, &[model.len() + 1]);
+        every_length(|length| sheet(model, certificate, length), 28, &[SHEET, SHEET + 1]);
     }
     let half = filled(32).0.bytes();
     let small = || pairs.iter().map(|(model, _)| model).filter(|model| model[2] <= 32 && model.len() < 1000);
@@ -43,6 +44,7 @@ fn a_refusal_writes_nothing_whatever_the_length() {
         for length in 0..=66 {
             judge(&v.model, &v.certificate, length);
             assert_eq!(reduce(&v.model, &v.certificate, length).0.number, v.answer.number);
+            assert_eq!(sheet(&v.model, &v.certificate, length).0.number, v.answer.number);
             refused += 1;
         }
     }
@@ -74,6 +76,10 @@ fn null_pointers_at_length_0() {
         assert_eq!(zolkirta_reduce(null(), 0, null(), 0, null_mut(), 0), reduce(&[], &[], 0).0);
         assert_eq!(zolkirta_reduce(m, m_length, null(), 0, b, 64), reduce(model, &[], 64).0);
         assert_eq!(zolkirta_reduce(m, m_length, c, c_length, null_mut(), 0), reduce(model, certificate, 0).0);
+        assert_eq!(zolkirta_sheet(null(), 0, null(), 0, null_mut(), 0), sheet(&[], &[], 0).0);
+        assert_eq!(zolkirta_sheet(m, m_length, null(), 0, b, 64), sheet(model, &[], 64).0);
+        assert_eq!(zolkirta_sheet(null(), 0, c, c_length, b, 64), sheet(&[], certificate, 64).0);
+        assert_eq!(zolkirta_sheet(m, m_length, c, c_length, null_mut(), 0), sheet(model, certificate, 0).0);
         assert_eq!(zolkirta_join(null(), 0, null(), 0, null_mut(), 0), join(&[], &[], 0).0);
         assert_eq!(zolkirta_join(null(), 0, m, m_length, b, 64), join(&[], model, 64).0);
         assert_eq!(zolkirta_join(m, m_length, null(), 0, b, 64), join(model, &[], 64).0);
@@ -83,8 +89,10 @@ fn null_pointers_at_length_0() {
         assert_eq!(zolkirta_alike(null(), 0, 1, c, c_length, 0, 1), alike(&[], certificate, [1, 0, 1]));
     }
     assert_eq!(blocks, [7; 64]);
-    let lent = [judge(model, certificate, 0).0, reduce(model, certificate, 0).0, join(model, model, 0).0, join(model, &[], 64).0];
-    assert_eq!(lent.map(|answer| (answer.number, answer.file)), [(10, 0), (23, 0), (26, 0), (1, 3)]);
+    let judged = [judge(model, certificate, 0).0, reduce(model, certificate, 0).0, sheet(model, certificate, 0).0];
+    assert_eq!(judged.map(|answer| (answer.number, answer.file)), [(10, 0), (23, 0), (28, 0)]);
+    let joined = [join(model, model, 0).0, join(model, &[], 64).0];
+    assert_eq!(joined.map(|answer| (answer.number, answer.file)), [(26, 0), (1, 3)]);
 }
 
 /// Numbers below 66, and those that are one of them in their lowest bits.

@@ -2,7 +2,7 @@
 mod compare;
 mod plain;
 
-use compare::{accepted, alike, fetch, join, judge, reduce, requests, vectors, Calls, Counts, Numbers};
+use compare::{accepted, alike, fetch, join, judge, reduce, requests, sheet, vectors, Calls, Counts, Numbers};
 use plain::{AlikeAnswer, Answer};
 use zolkirta::{Difference, File, Refusal};
 
@@ -57,6 +57,14 @@ fn same_reduce(model: &[u8], certificate: &[u8], length: usize) -> (Answer, Vec<
     same_lent(zolkirta::reduce, reduce(model, certificate, length), model, certificate, length)
 }
 
+fn sheet_bytes<'a, 'b>(model: &'a [u8], certificate: &'a [u8], buffer: &'b mut [u8]) -> Result<&'b [u8], Refusal<'a>> {
+    zolkirta::sheet(model, certificate, buffer).map(str::as_bytes)
+}
+
+fn same_sheet(model: &[u8], certificate: &[u8], length: usize) -> (Answer, Vec<u8>) {
+    same_lent(sheet_bytes, sheet(model, certificate, length), model, certificate, length)
+}
+
 fn same_join(first: &[u8], second: &[u8], length: usize) -> (Answer, Vec<u8>) {
     same_lent(zolkirta::join, join(first, second, length), first, second, length)
 }
@@ -81,6 +89,7 @@ fn same(counts: &mut Counts, model: &[u8], certificate: &[u8], state: u32, block
     }
     counts.count(same_judge(model, certificate, blocks).0);
     counts.count(same_reduce(model, certificate, out).0);
+    same_sheet(model, certificate, out);
 }
 
 #[test]
@@ -105,7 +114,7 @@ fn safe_calls_say_what_the_raw_ones_say() {
 
 #[test]
 fn safe_calls_give_the_answers_of_requests() {
-    let calls = Calls { judge: same_judge, reduce: same_reduce, join: same_join, alike: same_alike };
+    let calls = Calls { judge: same_judge, reduce: same_reduce, sheet: same_sheet, join: same_join, alike: same_alike };
     let all = requests();
     all.iter().for_each(|v| v.holds_for(&calls));
     assert!((1..=3).all(|file| all.iter().any(|v| v.answer.file == file)));

@@ -6,7 +6,7 @@ mod plain;
 use compare::{accepted, Counts};
 use maker::families::{bytes, filled, flow_heavy, internal_chain, largest, one_source, refutation_heavy};
 use std::arch::asm;
-use zolkirta::raw::{zolkirta_alike, zolkirta_fetch, zolkirta_join, zolkirta_judge, zolkirta_reduce, AlikeAnswer};
+use zolkirta::raw::{zolkirta_alike, zolkirta_fetch, zolkirta_join, zolkirta_judge, zolkirta_reduce, zolkirta_sheet, AlikeAnswer};
 
 /// Several times what a call uses.
 #[repr(align(16))]
@@ -80,10 +80,11 @@ fn calls_use_the_stack_that_the_header_states() {
         [words(model).0, words(model).1, last, words(certificate).0, words(certificate).1, 0, last]
     };
     let several_states = pairs.iter().filter(|(model, _)| model[2] > 1);
-    let calls: [(&str, *const (), Vec<Words>); 5] = [
+    let calls: [(&str, *const (), Vec<Words>); 6] = [
         ("zolkirta_fetch", zolkirta_fetch as *const (), pairs.iter().map(fetching).collect()),
         ("zolkirta_judge", zolkirta_judge as *const (), pairs.iter().map(lending).collect()),
         ("zolkirta_reduce", zolkirta_reduce as *const (), pairs.iter().map(lending).collect()),
+        ("zolkirta_sheet", zolkirta_sheet as *const (), pairs.iter().map(lending).collect()),
         ("zolkirta_join", zolkirta_join as *const (), joins.iter().map(lending).collect()),
         ("zolkirta_alike", zolkirta_alike as *const (), several_states.map(comparing).collect()),
     ];

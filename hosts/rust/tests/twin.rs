@@ -17,6 +17,7 @@ fn the_plain_judge_gives_the_answers() {
     let plain = Calls {
         judge: |model, certificate, length| lent(plain::judge, model, certificate, length),
         reduce: |model, certificate, length| lent(plain::reduce, model, certificate, length),
+        sheet: |model, certificate, length| lent(plain::sheet, model, certificate, length),
         join: |first, second, length| lent(plain::join, first, second, length),
         alike: |model, certificate, [count, s, t]| plain::alike(model, count, certificate, s, t),
     };

@@ -1,13 +1,13 @@
 -- The laws of the tests: what a choice comes to, and what it tells.
-use Prim.Native.Nat.{ℕ, zero, suc, _*_, _≤_, _<_}
+use Prim.Native.Nat.{ℕ, zero, suc, _+_, _*_, _≤_, _<_}
 use mathlib.Core.Path.{_≡_, refl, sym, _∙_, ap, ap₂, subst}
 use mathlib.Core.Bool.{Bool, true, false, cond}
 use lib.Dec.{ltb, eqb}
 use borrow.Author.Tests.{lt-ltb, le-ltb, eq-eqb, ne-eqb, ltb-true, ltb-false, eqb-true, eqb-false}
 use native.Mathlib.Omega.{arith}
-use native.Mathlib.Nat.{zero-mul}
+use native.Mathlib.Nat.{zero-mul, zero-add, suc-add}
 use native.Mathlib.Decide.{ℕ-discrete}
-use Rattle.bisimulation.specs.definitions.Choice.{ifLess, ifSame, ifTrue, both, allBelow}
+use Rattle.bisimulation.specs.definitions.Choice.{ifLess, ifSame, ifTrue, both, allBelow, countBelow}
 
 -- z is what the choice comes to: x where the test holds, y where it does not
 pub less {ℓ} : {X : Type ℓ} {z x : X} (y : X) {a b : ℕ} → a < b → z ≡ x → z ≡ ifLess a b x y
@@ -183,3 +183,25 @@ all-both (suc n) f g = ap (λ (a : Bool). cond a (cond (f n) (g n) false) false)
     go true false true d = refl
     go true false false d = refl
     go false b c d = refl
+
+-- tests that are equal below n are counted alike
+pub countBelowCong : (n : ℕ) (f g : ℕ → Bool) → ((i : ℕ) → i < n → f i ≡ g i) → countBelow n f ≡ countBelow n g
+unfolding countBelow
+countBelowCong zero f g h = refl
+countBelowCong (suc n) f g h =
+    ap₂ (λ (k : ℕ) (b : Bool). k + ifTrue b 1 0) (countBelowCong n f g (λ i l. h i (omega arith))) (h n (omega arith))
+
+-- numbers of which a test does not hold count nothing
+pub count-above : (more n : ℕ) (f : ℕ → Bool) → ((i : ℕ) → n ≤ i → f i ≡ false) → countBelow (more + n) f ≡ countBelow n f
+unfolding countBelow ifTrue
+count-above zero n f h = ap (λ (k : ℕ). countBelow k f) (zero-add n)
+count-above (suc more) n f h =
+    ap (λ (k : ℕ). countBelow k f) (suc-add more n)
+    ∙ ap (λ (b : Bool). countBelow (more + n) f + ifTrue b 1 0) (h (more + n) (omega arith))
+    ∙ omega (arith, count-above more n f h)
+
+-- the first number, and the others
+pub count-first : (n : ℕ) (f : ℕ → Bool) → countBelow (suc n) f ≡ ifTrue (f 0) 1 0 + countBelow n (λ i. f (suc i))
+unfolding countBelow
+count-first zero f = omega arith
+count-first (suc n) f = omega (arith, count-first n f)

@@ -1,5 +1,5 @@
 -- The tests by which every definition chooses. Proofs use their laws (`ChoiceLaws`), not their text.
-use Prim.Native.Nat.{ℕ, zero, suc}
+use Prim.Native.Nat.{ℕ, zero, suc, _+_}
 use mathlib.Core.Bool.{Bool, true, false, cond}
 use lib.Dec.{ltb, eqb}
 
@@ -35,3 +35,8 @@ both a b = cond a b false
 unfoldable pub allBelow : ℕ → (ℕ → Bool) → Bool
 allBelow zero f = true
 allBelow (suc n) f = cond (allBelow n f) (f n) false
+
+-- of how many numbers below n f holds
+unfoldable pub countBelow : ℕ → (ℕ → Bool) → ℕ
+countBelow zero f = 0
+countBelow (suc n) f = countBelow n f + ifTrue (f n) 1 0

@@ -23,10 +23,10 @@ use Rattle.rules.specs.argument.BlocksRecord.{blocks-good, blocks-stand,
 use Rattle.rules.specs.argument.FlowRecords.{flowRecordAt, flow-good, flow-stands, flow-after, flow-end, flow-passes}
 
 -- acceptance is no rejection, so a record before it has no fault
-not-rejected : (blocks : List ℕ) (f : Fault) (file place : ℕ) → accepted blocks ≡ rejected f file place → ⊥
+pub not-rejected : (blocks : List ℕ) (f : Fault) (file place : ℕ) → accepted blocks ≡ rejected f file place → ⊥
 not-rejected blocks f file place e = let z : _≡_ {A = ℕ} 0 1 = cc in omega arith
 
-no-reject : (blocks : List ℕ) (f : Fault) (place : ℕ) (next : Judgement) → accepted blocks ≡ rejectAt f place next → Passes f × (accepted blocks ≡ next)
+pub no-reject : (blocks : List ℕ) (f : Fault) (place : ℕ) (next : Judgement) → accepted blocks ≡ rejectAt f place next → Passes f × (accepted blocks ≡ next)
 unfolding rejectAt
 no-reject blocks f place next e =
     let k = keptSame next (rejected f 2 place) (f .number) 0 (not-rejected blocks f 2 place) e in

@@ -1,5 +1,5 @@
 -- The demands follow from what a call answers.
-use Prim.Native.Nat.{ℕ, _≤_}
+use Prim.Native.Nat.{ℕ, _≤_, _<_}
 use mathlib.Core.Path.{_≡_, refl, sym, _∙_, ap, subst}
 use mathlib.Core.Logic.{_⊎_, inl, inr, ⊎-elim}
 use mathlib.Core.List.{List, _++_}
@@ -11,7 +11,7 @@ use Rattle.rules.specs.definitions.JudgedBy.{plainPairs}
 use Rattle.rules.specs.definitions.SoundModel.{Bytes}
 use Rattle.rules.specs.definitions.Judging.{accepted, NameSameBlocks}
 use Rattle.rules.specs.argument.AnyRule.{PairRules, RefusalOf, pairsOf}
-use Rattle.rules.specs.definitions.Answers.{Outcome, answerWithoutPlace, filled, Follows, writesBlocks, writesMerged, JudgeNumber, ReduceNumber}
+use Rattle.rules.specs.definitions.Answers.{Outcome, answerWithoutPlace, filled, Follows, writesBlocks, writesFile, writesMerged, JudgeNumber, ReduceNumber, LateNumber}
 use Rattle.rules.specs.definitions.Demand3.{HoldsModel, LargestBlocks}
 use Rattle.rules.specs.definitions.Demands.{AcceptedBy, KeepsRulesOn, LargestOf, outcomeBy, Accepting, Demands}
 use Rattle.rules.specs.argument.AnyRule.{AnyCertificateNumber}
@@ -97,20 +97,6 @@ blocks-follow =
       notTen = omega arith;
     }
 
-pub merged-follow : FollowsLaws plainRules writesMerged
-unfolding Accepting RefusalOf AnyCertificateNumber PlainNumber ModelNumber
-merged-follow =
-    record {
-      numbered = λ N blocks buffer. file-number 23 (mergedFile N blocks) buffer (λ (k : ℕ). (k ≡ 0) ⊎ (k ≡ 23)) (inl refl) (inr refl);
-      told = λ N blocks buffer. file-told 23 (mergedFile N blocks) buffer (omega arith);
-      unwritten = λ N blocks buffer. file-unwritten 23 (mergedFile N blocks) buffer;
-      late = λ k h n z.
-          ⊎-elim (λ x. omega (arith, x, z))
-          (λ y. ⊎-elim (λ x. ⊎-elim (λ w. omega (arith, w, z)) (λ w. ⊎-elim (λ v. omega (arith, v, z)) (λ v. omega (arith, v, z)) w) x) (λ x. ⊎-elim (λ w. omega (arith, w, z)) (λ w. omega (arith, w, z)) x) y)
-          h;
-      notTen = omega arith;
-    }
-
 -- a refusal of document 01's judging: 1 to 9, or 11 to 22
 pub plain-refusal : (k : ℕ) → RefusalOf plainRules k → (k ≤ 9) ⊎ ((11 ≤ k) × (k ≤ 22))
 unfolding RefusalOf AnyCertificateNumber PlainNumber ModelNumber
@@ -122,6 +108,21 @@ plain-refusal k h =
     (λ x. ⊎-elim (λ w. inr (omega (arith, w), omega (arith, w))) (λ w. inr (omega (arith, w), omega (arith, w))) x)
     y)
     h
+
+-- a file is written, with a number above all those where there is no room for it
+pub file-follow : (short : ℕ) (file : Model → List ℕ → List ℕ) → 22 < short → FollowsLaws plainRules (writesFile short file)
+unfolding Accepting
+file-follow short file above =
+    record {
+      numbered = λ N blocks buffer. file-number short (file N blocks) buffer (λ (k : ℕ). (k ≡ 0) ⊎ (k ≡ short)) (inl refl) (inr refl);
+      told = λ N blocks buffer. file-told short (file N blocks) buffer (omega arith);
+      unwritten = λ N blocks buffer. file-unwritten short (file N blocks) buffer;
+      late = λ k h n z. ⊎-elim (λ x. omega (arith, x, z)) (λ x. omega (arith, x, z)) (plain-refusal k h);
+      notTen = λ z. omega (arith, z);
+    }
+
+pub merged-follow : FollowsLaws plainRules writesMerged
+merged-follow = file-follow 23 mergedFile (omega arith)
 
 module _ (M C buffer : List ℕ) where
   -- the call that judges answers one of 0 to 22
@@ -137,3 +138,10 @@ module _ (M C buffer : List ℕ) where
   reduce-numbered =
       outcome-number plainRules writesMerged merged-follow M C buffer (λ k. (k ≤ 9) ⊎ ((11 ≤ k) × (k ≤ 23))) (inl (omega arith)) (inr (omega arith, omega arith))
       (λ k h. ⊎-elim (λ x. inl x) (λ x. inr (x .0, omega (arith, x .1))) (plain-refusal k h)) (λ N h. absurd (omega arith))
+
+  -- a call of document 02 that lends no block buffer: one of 0 to 9, 11 to 22, and its own
+  pub late-numbered : (follows : Follows) → FollowsLaws plainRules follows → ((N : Model) → follows .blockRoom N ≡ 0) → LateNumber (follows .late) (outcomeBy plainPairs follows M C buffer .answer .number)
+  unfolding LateNumber
+  late-numbered follows laws none =
+      outcome-number plainRules follows laws M C buffer (λ k. (k ≤ 9) ⊎ (((11 ≤ k) × (k ≤ 22)) ⊎ (k ≡ follows .late))) (inl (omega arith)) (inr (inr refl))
+      (λ k h. ⊎-elim (λ x. inl x) (λ x. inr (inl x)) (plain-refusal k h)) (λ N h. absurd (omega (arith, h, none N)))

@@ -131,9 +131,13 @@ writesBlocks = record { blockRoom = λ N. length (N .labels); outcome = λ N blo
 unfoldable pub fileOutcome : (short : ℕ) → (file buffer : List ℕ) → Outcome
 fileOutcome short file buffer = ifLess (length buffer) (length file) (unwritten (answerWithoutPlace short 0) buffer) (filled file buffer)
 
+-- a call that writes a file lends this buffer and no block buffer
+abbrev pub writesFile : (short : ℕ) → (Model → (blocks : List ℕ) → List ℕ) → Follows
+writesFile short file = record { blockRoom = λ N. 0; outcome = λ N blocks buffer. fileOutcome short (file N blocks) buffer; late = short }
+
 -- 'merged model': 23. 'The call that writes it lends this buffer and no block buffer'
 abbrev pub writesMerged : Follows
-writesMerged = record { blockRoom = λ N. 0; outcome = λ N blocks buffer. fileOutcome 23 (mergedFile N blocks) buffer; late = 23 }
+writesMerged = writesFile 23 mergedFile
 
 -- the numbers that document 01 gives for a fetch
 unfoldable pub FetchNumber : ℕ → Type 0
@@ -146,3 +150,7 @@ JudgeNumber k = k ≤ 22
 -- for the call that reduces
 unfoldable pub ReduceNumber : ℕ → Type 0
 ReduceNumber k = (k ≤ 9) ⊎ ((11 ≤ k) × (k ≤ 23))
+
+-- for a call of document 02 that judges, with the number that its request gives after acceptance; no 10, since no block buffer is lent
+unfoldable pub LateNumber : (late : ℕ) → ℕ → Type 0
+LateNumber late k = (k ≤ 9) ⊎ (((11 ≤ k) × (k ≤ 22)) ⊎ (k ≡ late))

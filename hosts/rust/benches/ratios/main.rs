@@ -85,6 +85,10 @@ fn joining(length: Duration, pairs: &[Files]) -> Times {
     lending(length, raw::zolkirta_join, plain::join, pairs)
 }
 
+fn on_paper(length: Duration, pairs: &[Files]) -> Times {
+    lending(length, raw::zolkirta_sheet, plain::sheet, pairs)
+}
+
 /// State 0 compared with the last one.
 fn comparing(length: Duration, (model, certificate): &Files) -> Times {
     let last = u32::from(model[2]) - 1;
@@ -141,6 +145,7 @@ fn cases(random: &[Files]) -> Vec<Case> {
         case("refutation-heavy: judge, 64 states, 2,016 refutations of 192 prices", judging(length, &refutations), by_a_third, ""),
         case("flow-heavy: judge, 64 states, 16,128 flows of one w entry", judging(length, &flows), by_a_third, ""),
         case("random accepted pairs: judge, 300 pairs of 1 to 10 states, sum", judging(length, random), no_slower, ""),
+        case("sheet, the largest model, every state a block", on_paper(length, &[largest.clone()]), no_slower, ""),
         case("reduce, the largest model, every state a block", reducing(length, &[largest]), no_slower, ""),
         case("reduce, 256 different transitions of one state", reducing(length, &[one_source]), no_slower, COMPARED),
         case("reduce, flow-heavy", reducing(length, &flows), no_slower, ""),

@@ -64,6 +64,11 @@ pub fn reduce(model: &[u8], certificate: &[u8], length: usize) -> (Answer, Vec<u
     lent("reduce", raw::zolkirta_reduce, plain::reduce, model, certificate, length)
 }
 
+/// Writes the sheet by both and compares.
+pub fn sheet(model: &[u8], certificate: &[u8], length: usize) -> (Answer, Vec<u8>) {
+    lent("sheet", raw::zolkirta_sheet, plain::sheet, model, certificate, length)
+}
+
 /// Joins by both and compares.
 pub fn join(first: &[u8], second: &[u8], length: usize) -> (Answer, Vec<u8>) {
     lent("join", raw::zolkirta_join, plain::join, first, second, length)
@@ -283,7 +288,7 @@ pub struct Request {
 }
 
 pub fn requests() -> Vec<Request> {
-    let named = ["k1", "k2", "k3"].into_iter().flat_map(|name| lines(name).into_iter().map(move |line| (name, line)));
+    let named = ["k1", "k2", "k3", "k4"].into_iter().flat_map(|name| lines(name).into_iter().map(move |line| (name, line)));
     let mut all: Vec<Request> = named
         .map(|(name, (line, field))| {
             let outs: Vec<Vec<u8>> = field[11].split(',').map(bytes).collect();
@@ -312,12 +317,13 @@ pub type Lent = fn(&[u8], &[u8], usize) -> (Answer, Vec<u8>);
 pub struct Calls {
     pub judge: Lent,
     pub reduce: Lent,
+    pub sheet: Lent,
     pub join: Lent,
     pub alike: fn(&[u8], &[u8], [u32; 3]) -> AlikeAnswer,
 }
 
 /// By both, which are compared.
-pub const BOTH: Calls = Calls { judge, reduce, join, alike };
+pub const BOTH: Calls = Calls { judge, reduce, sheet, join, alike };
 
 impl Request {
     fn reduced(&mut self) -> Reduced<'_> {
@@ -334,6 +340,7 @@ impl Request {
         let (answer, yes, out) = match (self.call.as_str(), &self.numbers[..], &self.files[..]) {
             ("judge", &[length], [model, certificate]) => lent(calls.judge, model, certificate, length),
             ("reduce", &[length], [model, certificate]) => lent(calls.reduce, model, certificate, length),
+            ("sheet", &[length], [model, certificate]) => lent(calls.sheet, model, certificate, length),
             ("join", &[length], [first, second]) => lent(calls.join, first, second, length),
             ("alike", &[count, s, t], [model, certificate]) => {
                 let said = (calls.alike)(model, certificate, [count, s, t]);

@@ -1,5 +1,6 @@
-//! Document 01's judge, reduce and fetch, document 02's join and alike (K1), the state and the remainder of 16, 20 and 21 (K2), and its merged
-//! transitions that are the same as fractions (K3) in plain Rust, written from the documents alone: what the library is compared with.
+//! Document 01's judge, reduce and fetch, document 02's join and alike (K1), the state and the remainder of 16, 20 and 21 (K2), its merged
+//! transitions that are the same as fractions (K3) and its block sheet (K4) in plain Rust, written from the documents alone: what the
+//! library is compared with.
 //!
 //! Every sum fits an i64. Weights of a transition add up to at most 65,535, so weights times prices stay below 2^47 and a difference
 //! of two such sums below 2^48. k times d is below 2^48, and a state's equation has at most 768 of them (each layer and transition
@@ -93,6 +94,10 @@ impl Related {
 
     fn holds(&self, v: usize, u: usize) -> bool {
         self.0[v] >> u & 1 == 1
+    }
+
+    fn count(&self, v: usize) -> usize {
+        (0..64).filter(|&u| self.holds(v, u)).count()
     }
 
     fn remove(&mut self, s: usize, t: usize) {
@@ -297,8 +302,8 @@ fn flow(model: &Model, related: &Related, file: &[u8], challenger: &Transition, 
     Ok(at + size)
 }
 
-/// Judges a certificate for a sound model, refusals 11 to 22: the bytes of its blocks.
-fn certificate<'a>(model: &Model, file: &'a [u8]) -> Result<&'a [u8], Fault> {
+/// Judges a certificate for a sound model, refusals 11 to 22: the bytes of its blocks, and the pairs left.
+fn certificate<'a>(model: &Model, file: &'a [u8]) -> Result<(&'a [u8], Related), Fault> {
     let n = model.n();
     let count = two(record(file, 0, b"CT", 4, 11)?, 2);
     if count > 2016 {
@@ -340,7 +345,7 @@ fn certificate<'a>(model: &Model, file: &'a [u8]) -> Result<&'a [u8], Fault> {
     if at < file.len() {
         return fault(22, at);
     }
-    Ok(blocks)
+    Ok((blocks, related))
 }
 
 /// A model's file without its transitions.
@@ -432,14 +437,28 @@ pub fn fetch(model: &[u8], state: u32) -> Answer {
     Answer { stretch_start: first.place, stretch_length: end - first.place, ..Answer::default() }
 }
 
-/// The model and the blocks of an accepted certificate, judged with room for so many blocks.
-fn judged<'a>(model: &'a [u8], certificate_file: &'a [u8], room: usize) -> Result<(Model<'a>, &'a [u8]), Answer> {
+/// The blocks on paper.
+fn sheet_of(blocks: &[u8], related: &Related) -> String {
+    let mut out = String::new();
+    for block in 0..=*blocks.iter().max().unwrap() {
+        let members: Vec<usize> = (0..blocks.len()).filter(|&v| blocks[v] == block).collect();
+        for (i, states) in members.chunks(16).enumerate() {
+            let front = if i == 0 { format!("{block:4}{:4}", related.count(members[0])) } else { " ".repeat(8) };
+            let cells: String = states.iter().map(|v| format!("{v:4}")).collect();
+            out += &format!("{:72}\n", front + &cells);
+        }
+    }
+    out
+}
+
+/// The model, the blocks of an accepted certificate and the pairs left, judged with room for so many blocks.
+fn judged<'a>(model: &'a [u8], certificate_file: &'a [u8], room: usize) -> Result<(Model<'a>, &'a [u8], Related), Answer> {
     let sound = read(model).map_err(|fault| refused(1, model, fault))?;
     if room < sound.n() {
         return Err(numbered(10));
     }
-    let blocks = certificate(&sound, certificate_file).map_err(|fault| refused(2, certificate_file, fault))?;
-    Ok((sound, blocks))
+    let (blocks, related) = certificate(&sound, certificate_file).map_err(|fault| refused(2, certificate_file, fault))?;
+    Ok((sound, blocks, related))
 }
 
 /// What breaks in a certificate that is refused with 16, 20 or 21.
@@ -450,7 +469,7 @@ pub fn broken(model: &[u8], certificate_file: &[u8]) -> Option<Off> {
 /// Judges a certificate for a model; on acceptance the blocks stand first in the buffer.
 pub fn judge(model: &[u8], certificate: &[u8], buffer: &mut [u8]) -> Answer {
     match judged(model, certificate, buffer.len()) {
-        Ok((_, blocks)) => {
+        Ok((_, blocks, _)) => {
             buffer[..blocks.len()].copy_from_slice(blocks);
             Answer { written: blocks.len(), ..Answer::default() }
         }
@@ -470,7 +489,15 @@ fn write(file: &[u8], buffer: &mut [u8], shorter: u32) -> Answer {
 /// Judges a certificate for a model; on acceptance the merged model's file stands first in the buffer.
 pub fn reduce(model: &[u8], certificate: &[u8], buffer: &mut [u8]) -> Answer {
     match judged(model, certificate, usize::MAX) {
-        Ok((model, blocks)) => write(&merged(&model, blocks), buffer, 23),
+        Ok((model, blocks, _)) => write(&merged(&model, blocks), buffer, 23),
+        Err(answer) => answer,
+    }
+}
+
+/// Judges a certificate for a model; on acceptance the sheet of its blocks stands first in the buffer.
+pub fn sheet(model: &[u8], certificate: &[u8], buffer: &mut [u8]) -> Answer {
+    match judged(model, certificate, usize::MAX) {
+        Ok((_, blocks, related)) => write(sheet_of(blocks, &related).as_bytes(), buffer, 28),
         Err(answer) => answer,
     }
 }
@@ -490,7 +517,7 @@ pub fn join(first: &[u8], second: &[u8], buffer: &mut [u8]) -> Answer {
 /// Judges a certificate for a joined model; on acceptance says whether a state of each part share a block.
 pub fn alike(model: &[u8], first_count: u32, certificate: &[u8], first_state: u32, second_state: u32) -> AlikeAnswer {
     let blocks = match judged(model, certificate, usize::MAX) {
-        Ok((_, blocks)) => blocks,
+        Ok((_, blocks, _)) => blocks,
         Err(answer) => return AlikeAnswer { answer, alike: 0 },
     };
     let [count, s, t] = [first_count, first_state, second_state].map(|number| number as usize);

@@ -1,0 +1,1 @@
+// The block sheet, in definitions and laws: no code.

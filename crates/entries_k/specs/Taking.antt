@@ -1,9 +1,9 @@
 -- What the k entries of a flow change in the remainders.
 use Prim.Native.Nat.{ℕ, zero, suc, _+_, _*_, _^_, _≤_, _<_}
 use mathlib.Core.Path.{_≡_}
+use mathlib.Core.Logic.{_↔_}
 use mathlib.Core.Bool.{Bool, true, false}
 use mathlib.Core.List.{List}
-use lib.Dec.{eqb}
 use lib.ListN.{length}
 use lib.IntN.{ℤ, pos, negℤ}
 use Rattle.bisimulation.specs.definitions.Choice.{ifSame}
@@ -12,6 +12,8 @@ use Rattle.bisimulation.specs.definitions.Automaton.{Automaton}
 use Rattle.rules.specs.definitions.Certificate.{FileRule, kFault}
 use Rattle.rules.specs.definitions.Faults.{fault, Passes}
 use Rattle.rules.specs.definitions.Limits.{limits}
+use Rattle.rules.specs.definitions.PlainRule.{plainInQuestion}
+use Rattle.rules.specs.definitions.PlainSays.{InPlainQuestion}
 use Rattle.transition.specs.Known.{automatonIn, Known, KnownTransition, entriesOf}
 use Rattle.remainders.specs.Nonzero.{Counted, Became}
 use Rattle.remainders.specs.Moving.{arrived, departed, Room}
@@ -25,16 +27,12 @@ arrivalOf layer = ifSame layer 0 0 (limits .states)
 unfoldable pub departureOf : ℕ → ℕ
 departureOf layer = ifSame layer 2 (limits .states) 0
 
--- whether an entry is in the question, by the challenger's action, its layer and its action
-unfoldable pub inQuestionOf : (challenger layer action : ℕ) → Bool
-inQuestionOf challenger layer action =
-    ifSame layer 0 (eqb action 0)
-    (ifSame challenger 0 false
-    (ifSame layer 1 (eqb action challenger)
-    (ifSame layer 2 (eqb action 0)
-    false)))
+-- whether a layer may have an action, by the six cases; document 02, K5: 'An entry passes this test exactly when ..'
+pub record TellsLayer (challenger layer action : ℕ) (b : Bool) : Type 0 where
+  pub is : b ≡ plainInQuestion challenger layer action
+  pub exactly : (b ≡ true) ↔ InPlainQuestion challenger layer action
 
--- such a test is the rule's, and it allows three layers
+-- a test of a layer's actions is the rule's, and it allows three layers
 pub record Tests (test : (challenger layer action : ℕ) → Bool) (rule : FileRule) : Type 0 where
   pub is : (A : Automaton) (q t layer r : ℕ) → test (A .action q) layer (A .action r) ≡ rule .inQuestion A q t layer r
   pub layers : (challenger layer action : ℕ) → test challenger layer action ≡ true → layer ≤ 2

@@ -1,9 +1,9 @@
 // The k entries of a flow judged, and taken into its equations.
 ghost use mathlib.Core.Path.{_≡_};
-ghost use Rattle.rules.specs.definitions.PlainRule.{plainRule};
+ghost use Rattle.rules.specs.definitions.PlainRule.{plainInQuestion, plainRule};
 ghost use Rattle.transition.specs.Known.{automatonIn};
 ghost use Rattle.remainders.specs.Nonzero.{Became};
-ghost use Rattle.entries_k.specs.Taking.{arrivalOf, departureOf, inQuestionOf, CanTest, TellsK, tookK, CanTake, CanTakeKs, TookKs};
+ghost use Rattle.entries_k.specs.Taking.{arrivalOf, departureOf, TellsLayer, CanTest, TellsK, tookK, CanTake, CanTakeKs, TookKs};
 use field::Cursor;
 use limits::STATES;
 use model::Places;
@@ -17,23 +17,28 @@ pub struct Taken {
     pub next: Cursor,
 }
 
-// An entry of a layer and of a transition with this action is in the question of a challenger with its action.
+// Which actions may stand in which layer (document 02, K5). Each case is a group of constraints in definition 2 of source document 003: tr is
+// the entry's transition, from v to v' by ρ, a the challenger's action, and τ is action 0. 003 prints ρ(v'_a) in the last two, where 001 has
+// ρ(v').
 fn in_question(challenger: usize, layer: usize, action: usize) -> bool
-    ensures { λ r. ⌜ r ≡ inQuestionOf challenger layer action ⌝ }
+    ensures { λ r. ⌜ TellsLayer challenger layer action r ⌝ }
 {
-    if layer == 0 {
-        return action == 0;
+    match challenger {
+        // An internal challenger: 'without the last two groups of constraints'.
+        0 => match layer {
+            0 => action == 0, // f(v^tr,v') - ρ(v')f(v,v^tr) = 0, for each tr = v -τ-> ρ
+            1 => false, // without f(v_a^tr,v'_a) - ρ(v')f(v,v_a^tr) = 0
+            2 => false, // without f(v_a^tr,v'_a) - ρ(v')f(v_a,v_a^tr) = 0
+            _ => false, // no such layer
+        },
+        // An external one.
+        _ => match layer {
+            0 => action == 0, // before the move: f(v^tr,v') - ρ(v')f(v,v^tr) = 0, for each tr = v -τ-> ρ
+            1 => action == challenger, // the move: f(v_a^tr,v'_a) - ρ(v')f(v,v_a^tr) = 0, for each tr = v -a-> ρ
+            2 => action == 0, // after the move: f(v_a^tr,v'_a) - ρ(v')f(v_a,v_a^tr) = 0, for each tr = v -τ-> ρ
+            _ => false, // no such layer either
+        },
     }
-    if challenger == 0 {
-        return false;
-    }
-    if layer == 1 {
-        return action == challenger;
-    }
-    if layer != 2 {
-        return false;
-    }
-    action == 0
 }
 
 // Where the remainders begin that a layer leads to, or that w leaves by the challenger's action.
@@ -93,7 +98,7 @@ fn stands(
     k: usize,
 ) -> bool
     requires { ⌜ CanTest (now s) (now places) count layer r ⌝ }
-    ensures { λ x. ⌜ TellsK count lowest layer r k (inQuestionOf action layer (automatonIn (now (s .entry)) .action r)) x ⌝ }
+    ensures { λ x. ⌜ TellsK count lowest layer r k (plainInQuestion action layer (automatonIn (now (s .entry)) .action r)) x ⌝ }
 {
     let key = layer * 65536 + r;
     if key < lowest {

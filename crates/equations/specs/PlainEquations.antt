@@ -19,7 +19,7 @@ use Rattle.rules.specs.definitions.Certificate.{kCountAt, afterK, wCountAt, kOf
 use Rattle.rules.specs.definitions.Faults.{Fault, faultBy, firstOf, Passes}
 use Rattle.rules.specs.definitions.PlainRule.{breakFrom, firstBreak, internalEquationsFault, externalEquationsFault, plainEquationsFault, plainRule}
 use Rattle.rules.specs.definitions.PlainSays.{InPlainQuestion}
-use Rattle.rules.specs.argument.PlainDecides.{kind-internal, kind-external, in-question}
+use Rattle.rules.specs.argument.PlainDecides.{kind-internal, kind-external, six-cases}
 use Rattle.rules.specs.argument.FaultLaws.{first-passes}
 use Rattle.rules.specs.argument.BreakLaws.{break-none}
 use Rattle.rules.specs.argument.EntryFaults.{passed-k, passed-w}
@@ -45,7 +45,7 @@ record GoodW (A : Automaton) (C : List ℕ) (at : ℕ) : Type 0 where
   pub from : byteAt C at < A .states
   pub to : byteAt C (at + 1) < A .states
 
-known-k : (A : Automaton) (C : List ℕ) (q at : ℕ) → twoAt C (at + 1) < A .transitions → InPlainQuestion A q (byteAt C at) (twoAt C (at + 1)) → GoodK A C q at
+known-k : (A : Automaton) (C : List ℕ) (q at : ℕ) → twoAt C (at + 1) < A .transitions → InPlainQuestion (A .action q) (byteAt C at) (A .action (twoAt C (at + 1))) → GoodK A C q at
 known-k A C q at l (InPlainQuestion.before a b) = record { transition = l; layer = omega arith; internal = λ i. a }
 known-k A C q at l (InPlainQuestion.move n a b) = record { transition = l; layer = omega arith; internal = λ i. absurd (n i) }
 known-k A C q at l (InPlainQuestion.after n a b) = record { transition = l; layer = omega arith; internal = λ i. absurd (n i) }
@@ -66,7 +66,7 @@ kEntries A C q t =
       total = kSum C;
       turn = λ left at lowest e.
           let p = passed-k plainRule A C q t left at lowest e in
-          (p .order, known-k A C q at (p .transition) (in-question A q (byteAt C at) (twoAt C (at + 1)) (p .allowed)), p .rest);
+          (p .order, known-k A C q at (p .transition) (six-cases _ _ _ .0 (p .allowed)), p .rest);
       absent = λ at layer r. refl;
       found = λ left at layer r. pair-found (byteAt C at) (twoAt C (at + 1)) layer r (fourAt C (at + 3)) (kOf C left (at + 7) layer r);
       passed = λ left at layer r. pair-passed (byteAt C at) (twoAt C (at + 1)) layer r (fourAt C (at + 3)) (kOf C left (at + 7) layer r);

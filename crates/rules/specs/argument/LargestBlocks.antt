@@ -105,17 +105,17 @@ w-related A R (e ∷ es) g v u h = go (w-related A R es (g .1) v u) (both (eqb (
         subst₂ (λ (x y : ℕ). R x y ≡ true) (eqb-true _ _ (p .0)) (eqb-true _ _ (p .1)) (g .0 .related)
 
 -- document 01's rule
-in-before : {A : Automaton} {q r : ℕ} → InPlainQuestion A q 0 r → A .action r ≡ 0
+in-before : {challenger action : ℕ} → InPlainQuestion challenger 0 action → action ≡ 0
 in-before (InPlainQuestion.before a b) = b
 in-before (InPlainQuestion.move n a b) = absurd (omega arith)
 in-before (InPlainQuestion.after n a b) = absurd (omega arith)
 
-in-move : {A : Automaton} {q r : ℕ} → InPlainQuestion A q 1 r → A .action r ≡ A .action q
+in-move : {challenger action : ℕ} → InPlainQuestion challenger 1 action → action ≡ challenger
 in-move (InPlainQuestion.before a b) = absurd (omega arith)
 in-move (InPlainQuestion.move n a b) = b
 in-move (InPlainQuestion.after n a b) = absurd (omega arith)
 
-in-after : {A : Automaton} {q r : ℕ} → InPlainQuestion A q 2 r → A .action r ≡ 0
+in-after : {challenger action : ℕ} → InPlainQuestion challenger 2 action → action ≡ 0
 in-after (InPlainQuestion.before a b) = b
 in-after (InPlainQuestion.move n a b) = absurd (omega arith)
 in-after (InPlainQuestion.after n a b) = b

@@ -10,7 +10,7 @@ use borrow.Author.Tests.{eqb-true, eq-eqb}
 use native.Mathlib.Omega.{arith}
 use native.Mathlib.Decide.{ℕ-discrete}
 use Rattle.bisimulation.specs.definitions.Choice.{ifSame, ifTrue}
-use Rattle.bisimulation.specs.argument.ChoiceLaws.{same, notSame, isTrue, all-below, below-all, false-not}
+use Rattle.bisimulation.specs.argument.ChoiceLaws.{same, notSame, eitherSame, isTrue, all-below, below-all, false-not}
 use Rattle.bisimulation.specs.definitions.Automaton.{Automaton, SoundAutomaton}
 use Rattle.bisimulation.specs.argument.SumLaws.{sumℤCong}
 use Rattle.bisimulation.specs.definitions.StepRule.{Flow, Sides, Holds, beforeMove, afterMove, internalMove, atTarget}
@@ -19,7 +19,7 @@ use Rattle.bisimulation.specs.definitions.Prices.{priceAt, priceOfTargets}
 use Rattle.bisimulation.specs.definitions.Refutation.{PriceCondition, RelatedCondition, LastCondition, RefutesInternal, RefutesExternal, PlainRefutes}
 use Rattle.rules.specs.argument.AnyRule.{Decides}
 use Rattle.rules.specs.definitions.Faults.{noFault, Passes}
-use Rattle.rules.specs.definitions.PlainRule.{byKind, plainPriceCount, priceCondition, allWithAction, allRelated, below, lastFault, internalPricesFault, externalPricesFault, plainPricesFault, plainInQuestion, firstBreak, internalEquationsFault, externalEquationsFault, plainEquationsFault, plainRule}
+use Rattle.rules.specs.definitions.PlainRule.{byKind, plainPriceCount, priceCondition, allWithAction, allRelated, below, lastFault, internalPricesFault, externalPricesFault, plainPricesFault, internalInQuestion, externalInQuestion, plainInQuestion, firstBreak, internalEquationsFault, externalEquationsFault, plainEquationsFault, plainRule}
 use Rattle.rules.specs.argument.FaultLaws.{pass-on, pass-unlessTrue, none-first, first-none}
 use Rattle.rules.specs.argument.BreakLaws.{break-none, break-passed}
 use Rattle.rules.specs.definitions.PlainSays.{InPlainQuestion, InternalEquations, ExternalEquations, PlainEquations, plainSays}
@@ -31,6 +31,27 @@ holds-T e = subst T (sym e) tt
 pub T-holds : (b : Bool) → T b → b ≡ true
 T-holds true h = refl
 T-holds false h = absurd h
+
+-- document 02, K5: an entry passes the six cases exactly when the request's sentence holds of it
+pub six-cases : (challenger layer action : ℕ) → (plainInQuestion challenger layer action ≡ true) ↔ InPlainQuestion challenger layer action
+unfolding plainInQuestion internalInQuestion externalInQuestion
+six-cases challenger layer action = (λ e. there e (ℕ-discrete challenger 0) (ℕ-discrete layer 0) (ℕ-discrete layer 1) (ℕ-discrete layer 2), back)
+  where
+    there : plainInQuestion challenger layer action ≡ true → Dec (challenger ≡ 0) → Dec (layer ≡ 0) → Dec (layer ≡ 1) → Dec (layer ≡ 2) → InPlainQuestion challenger layer action
+    there e (yes i) (yes z) o w = InPlainQuestion.before z (eqb-true _ _ (same _ z refl ∙ same _ i refl ∙ e))
+    there e (yes i) (no z) o w = absurd (false-not (notSame _ z (eitherSame (λ (x : Bool). false ≡ x) layer 1 refl (eitherSame (λ (x : Bool). false ≡ x) layer 2 refl refl)) ∙ same _ i refl ∙ e))
+    there e (no n) (yes z) o w = InPlainQuestion.before z (eqb-true _ _ (same _ z refl ∙ notSame _ n refl ∙ e))
+    there e (no n) (no z) (yes o) w = InPlainQuestion.move n o (eqb-true _ _ (same _ o refl ∙ notSame _ z refl ∙ notSame _ n refl ∙ e))
+    there e (no n) (no z) (no o) (yes w) = InPlainQuestion.after n w (eqb-true _ _ (same _ w refl ∙ notSame _ o refl ∙ notSame _ z refl ∙ notSame _ n refl ∙ e))
+    there e (no n) (no z) (no o) (no w) = absurd (false-not (notSame _ w refl ∙ notSame _ o refl ∙ notSame _ z refl ∙ notSame _ n refl ∙ e))
+
+    back : InPlainQuestion challenger layer action → plainInQuestion challenger layer action ≡ true
+    back (InPlainQuestion.before z b) =
+        let first : (rest : Bool) → ifSame layer 0 (eqb action 0) rest ≡ true = λ rest. sym (same rest z (sym (eq-eqb _ _ b))) in
+        eitherSame (λ (x : Bool). x ≡ true) challenger 0 (first _) (first _)
+    back (InPlainQuestion.move n o b) = sym (notSame _ n (notSame _ (λ z. omega arith) (same _ o (sym (eq-eqb _ _ b)))))
+    back (InPlainQuestion.after n w b) =
+        sym (notSame _ n (notSame _ (λ z. omega arith) (notSame _ (λ z. omega arith) (same _ w (sym (eq-eqb _ _ b))))))
 
 -- the choice by the challenger's kind
 module _ (A : Automaton) where
@@ -190,29 +211,6 @@ module _ (A : Automaton) where
       go h (yes i) = pass-on (kind-internal q _ _ i) (internal-equations q t f .1 (h .internal i))
       go h (no n) = pass-on (kind-external q _ _ n) (external-equations q t f .1 (h .external n))
 
-  -- an entry passes exactly where it is in the question
-  pub in-question : (q layer r : ℕ) → plainInQuestion A q layer r ≡ true → InPlainQuestion A q layer r
-  unfolding plainInQuestion
-  in-question q layer r e = go (ℕ-discrete layer 0) (ℕ-discrete (A .action q) 0) (ℕ-discrete layer 1) (ℕ-discrete layer 2)
-    where
-      rest : Bool
-      rest = ifSame layer 1 (eqb (A .action r) (A .action q)) (ifSame layer 2 (eqb (A .action r) 0) false)
-
-      go : Dec (layer ≡ 0) → Dec (A .action q ≡ 0) → Dec (layer ≡ 1) → Dec (layer ≡ 2) → InPlainQuestion A q layer r
-      go (yes a) b c d = InPlainQuestion.before a (eqb-true _ _ (same _ a refl ∙ e))
-      go (no a) (yes b) c d = absurd (false-not (kind-internal q false rest b ∙ notSame _ a refl ∙ e))
-      go (no a) (no b) (yes c) d = InPlainQuestion.move b c (eqb-true _ _ (same _ c refl ∙ kind-external q false rest b ∙ notSame _ a refl ∙ e))
-      go (no a) (no b) (no c) (yes d) = InPlainQuestion.after b d (eqb-true _ _ (same _ d refl ∙ notSame _ c refl ∙ kind-external q false rest b ∙ notSame _ a refl ∙ e))
-      go (no a) (no b) (no c) (no d) = absurd (false-not (notSame _ d refl ∙ notSame _ c refl ∙ kind-external q false rest b ∙ notSame _ a refl ∙ e))
-
-  pub question-in : (q layer r : ℕ) → InPlainQuestion A q layer r → plainInQuestion A q layer r ≡ true
-  unfolding plainInQuestion
-  question-in q layer r (InPlainQuestion.before a b) = sym (same _ a (sym (eq-eqb _ _ b)))
-  question-in q layer r (InPlainQuestion.move n a b) =
-      sym (notSame _ (λ z. omega arith) (same _ a (sym (eq-eqb _ _ b)) ∙ kind-external q false _ n))
-  question-in q layer r (InPlainQuestion.after n a b) =
-      sym (notSame _ (λ z. omega arith) (notSame _ (λ z. omega arith) (same _ a (sym (eq-eqb _ _ b))) ∙ kind-external q false _ n))
-
   -- the conditions look at prices of states alone
   abbrev pub AlikeOnStates : (X Y : ℕ → ℤ) → Type 0
   AlikeOnStates X Y = (v : ℕ) → v < A .states → X v ≡ Y v
@@ -276,6 +274,6 @@ plain-decides =
       priceCount = λ A q. refl;
       refutes = plain-refutes;
       onlyPrices = only-prices;
-      inQuestion = λ A q t layer r. (in-question A q layer r, question-in A q layer r);
+      inQuestion = λ A q t layer r. six-cases (A .action q) layer (A .action r);
       equations = plain-equations;
     }

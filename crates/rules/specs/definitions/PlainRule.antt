@@ -19,6 +19,37 @@ breakFrom number e (suc left) v =
     unlessSame (e v .left) (e v .right) (faultBy number v (subℕ (e v .left) (e v .right)))
     (breakFrom number e left (v + 1))
 
+-- document 02, K5: which actions may stand in which layer, 'as cases on the layer, three for an internal and three for an external challenger; a
+-- layer above 2 is 19 for both'. With each case its group of constraints in definition 2 of source document 003: tr is the entry's transition,
+-- from v to v' by ρ, a the challenger's action and τ action 0; what flows into tr is k·d over D, from there to v' k·p(v') over D. 003 prints
+-- ρ(v'_a) in the last two groups, where 001 has ρ(v'). An internal challenger, 'without the last two groups of constraints':
+unfoldable pub internalInQuestion : (layer action : ℕ) → Bool
+internalInQuestion layer action =
+    -- f(v^tr,v') - ρ(v')f(v,v^tr) = 0, for each tr = v -τ-> ρ
+    ifSame layer 0 (eqb action 0)
+    -- without f(v_a^tr,v'_a) - ρ(v')f(v,v_a^tr) = 0
+    (ifSame layer 1 false
+    -- without f(v_a^tr,v'_a) - ρ(v')f(v_a,v_a^tr) = 0
+    (ifSame layer 2 false
+    false))
+
+-- an external one:
+unfoldable pub externalInQuestion : (challenger layer action : ℕ) → Bool
+externalInQuestion challenger layer action =
+    -- before the move: f(v^tr,v') - ρ(v')f(v,v^tr) = 0, for each tr = v -τ-> ρ
+    ifSame layer 0 (eqb action 0)
+    -- the move: f(v_a^tr,v'_a) - ρ(v')f(v,v_a^tr) = 0, for each tr = v -a-> ρ
+    (ifSame layer 1 (eqb action challenger)
+    -- after the move: f(v_a^tr,v'_a) - ρ(v')f(v_a,v_a^tr) = 0, for each tr = v -τ-> ρ
+    (ifSame layer 2 (eqb action 0)
+    false))
+
+-- by the challenger's kind: 'Layer 0, one k for each internal transition. If a is external, also layer 1, one k for each transition with action
+-- a, and layer 2, a second k for each internal transition'
+unfoldable pub plainInQuestion : (challenger layer action : ℕ) → Bool
+plainInQuestion challenger layer action =
+    ifSame challenger 0 (internalInQuestion layer action) (externalInQuestion challenger layer action)
+
 module _ (A : Automaton) where
   -- x for an internal challenger, y for an external one
   unfoldable pub byKind {ℓ} : {X : Type ℓ} → ℕ → X → X → X
@@ -73,16 +104,6 @@ module _ (A : Automaton) where
       (internalPricesFault R q t p (λ v. p (A .states + v)))
       (externalPricesFault R q t p (λ v. p (A .states + v)) (λ v. p (2 * A .states + v)))
 
-  -- 'Layer 0, one k for each internal transition. If a is external, also layer 1, one k for each transition with action a, and layer 2, a
-  -- second k for each internal transition'
-  unfoldable pub plainInQuestion : (q layer r : ℕ) → Bool
-  plainInQuestion q layer r =
-      ifSame layer 0 (eqb (A .action r) 0)
-      (byKind q false
-      (ifSame layer 1 (eqb (A .action r) (A .action q))
-      (ifSame layer 2 (eqb (A .action r) 0)
-      false)))
-
   -- an equation at some state breaks; K2: 'the first v', 'the first u'
   unfoldable pub firstBreak : (number : ℕ) → (ℕ → Sides) → Fault
   firstBreak number e = breakFrom number e (A .states) 0
@@ -111,6 +132,6 @@ plainRule =
       mark = 0x4354;
       priceCount = plainPriceCount;
       pricesFault = plainPricesFault;
-      inQuestion = λ A q t layer r. plainInQuestion A q layer r;
+      inQuestion = λ A q t layer r. plainInQuestion (A .action q) layer (A .action r);
       equationsFault = plainEquationsFault;
     }

@@ -8,12 +8,12 @@ use Rattle.bisimulation.specs.definitions.Refutation.{PlainRefutes}
 use Rattle.rules.specs.definitions.PlainRule.{plainPriceCount}
 use Rattle.rules.specs.definitions.Accepted.{RuleSays}
 
--- 'Layer 0, one k for each internal transition. If a is external, also layer 1, one k for each transition with action a, and layer 2, a
--- second k for each internal transition'
-pub data InPlainQuestion (A : Automaton) (q layer r : ℕ) : Type 0 where
-  before : layer ≡ 0 → A .action r ≡ 0 → InPlainQuestion A q layer r
-  move : A .action q ≢ 0 → layer ≡ 1 → A .action r ≡ A .action q → InPlainQuestion A q layer r
-  after : A .action q ≢ 0 → layer ≡ 2 → A .action r ≡ 0 → InPlainQuestion A q layer r
+-- document 02, K5: 'An entry passes this test exactly when its transition is internal in layer 0 or, for an external challenger, has its action
+-- in layer 1 or is internal in layer 2'
+pub data InPlainQuestion (challenger layer action : ℕ) : Type 0 where
+  before : layer ≡ 0 → action ≡ 0 → InPlainQuestion challenger layer action
+  move : challenger ≢ 0 → layer ≡ 1 → action ≡ challenger → InPlainQuestion challenger layer action
+  after : challenger ≢ 0 → layer ≡ 2 → action ≡ 0 → InPlainQuestion challenger layer action
 
 -- the equations of an internal challenger
 pub record InternalEquations (A : Automaton) (q t : ℕ) (f : Flow) : Type 0 where
@@ -36,6 +36,6 @@ plainSays =
     record {
       priceCount = plainPriceCount;
       refutes = PlainRefutes;
-      inQuestion = λ A q t layer r. InPlainQuestion A q layer r;
+      inQuestion = λ A q t layer r. InPlainQuestion (A .action q) layer (A .action r);
       equations = PlainEquations;
     }

@@ -10,8 +10,8 @@ use Rattle.bisimulation.specs.argument.Value.{value, FeasibleFor}
 use Rattle.bisimulation.specs.argument.ValueLaws.{valueSame, valueEquation}
 use Rattle.bisimulation.specs.argument.Layers.{layerFeasible, coupled, targetContradiction}
 use Rattle.bisimulation.specs.definitions.Rule.{WeakDuality}
-use Rattle.bisimulation.specs.argument.Raised.{RaisedBy, magnitudes}
-use Rattle.bisimulation.specs.argument.RaisedLaws.{magnitudesEnough, priceRaised, relatedRaised, lastRaised}
+use Rattle.bisimulation.specs.argument.Raised.{TablesRaised}
+use Rattle.bisimulation.specs.argument.RaisedLaws.{tablesRaised, priceRaised, relatedRaised, lastRaised}
 use Rattle.bisimulation.specs.definitions.Refutation.{PlainRefutes}
 
 -- with prices that are natural numbers
@@ -50,24 +50,12 @@ module _ (A : Automaton) (sound : SoundAutomaton A) (W : ℕ → ℕ → Type 0)
 -- with the prices of a record
 pub plainDuality : WeakDuality Met PlainRefutes
 unfolding SoundAutomaton
-plainDuality A sound R q t p i j refutes W inside m = go (ℕ-discrete (A .action q) 0)
+plainDuality A sound R q t p i j refutes W inside m = go (tablesRaised (A .states) p) (ℕ-discrete (A .action q) 0)
   where
-    c : ℕ
-    c = magnitudes (3 * A .states) p
-
-    x : RaisedBy (A .states) c p
-    x = record { enough = λ v l. magnitudesEnough (3 * A .states) p v (omega arith) }
-
-    y : RaisedBy (A .states) c (λ v. p (A .states + v))
-    y = record { enough = λ v l. magnitudesEnough (3 * A .states) p (A .states + v) (omega arith) }
-
-    z : RaisedBy (A .states) c (λ v. p (2 * A .states + v))
-    z = record { enough = λ v l. magnitudesEnough (3 * A .states) p (2 * A .states + v) (omega arith) }
-
-    go : Dec (A .action q ≡ 0) → ⊥
-    go (yes e) =
+    go : {c : ℕ} → TablesRaised (A .states) c p → Dec (A .action q ≡ 0) → ⊥
+    go {c} x (yes e) =
         let h = refutes .internal e in
-        internalContradiction A sound W q t j _ _ (priceRaised A c x x sound (h .internal)) (λ v u l k o. relatedRaised A c x y (h .related) v u l k (inside v u o)) (lastRaised A c x y (sound q i) j (h .last)) (m .internal e)
-    go (no n) =
+        internalContradiction A sound W q t j _ _ (priceRaised A c (x .first) (x .first) sound (h .internal)) (λ v u l k o. relatedRaised A c (x .first) (x .second) (h .related) v u l k (inside v u o)) (lastRaised A c (x .first) (x .second) (sound q i) j (h .last)) (m .internal e)
+    go {c} x (no n) =
         let h = refutes .external n in
-        externalContradiction A sound W q t j _ _ _ (priceRaised A c x x sound (h .before)) (priceRaised A c y y sound (h .after)) (priceRaised A c x y sound (h .move)) (λ v u l k o. relatedRaised A c y z (h .related) v u l k (inside v u o)) (lastRaised A c x z (sound q i) j (h .last)) (m .external n)
+        externalContradiction A sound W q t j _ _ _ (priceRaised A c (x .first) (x .first) sound (h .before)) (priceRaised A c (x .second) (x .second) sound (h .after)) (priceRaised A c (x .first) (x .second) sound (h .move)) (λ v u l k o. relatedRaised A c (x .second) (x .third) (h .related) v u l k (inside v u o)) (lastRaised A c (x .first) (x .third) (sound q i) j (h .last)) (m .external n)

@@ -74,38 +74,42 @@ module _ (A : Automaton) where
   unfolding overSources diagonal
   overSourcesDiagonal f u l = sumSame (A .states) u f l
 
+-- the question is met by the own flow
+module _ (A : Automaton) (sound : SoundAutomaton A) (W : ℕ → ℕ → Type 0) (reflexive : (s : ℕ) → s < A .states → W s s) (q : ℕ) (l : q < A .transitions) where
+  pub ownRelated : (v u : ℕ) → v < A .states → u < A .states → 0 < diagonal (A .weight q) v u → W v u
+  ownRelated v u i j z = subst (λ (x : ℕ). W v x) (diagonalUsed (A .weight q) v u z) (reflexive v i)
+
+  pub ownTarget : (layer u : ℕ) → u < A .states → Holds (atTarget A (ownFlow A q layer) q u)
+  unfolding ownFlow atTarget
+  ownTarget layer u i = record { equal = omega (arith, ap (λ (z : ℕ). A .denominator q * z) (overSourcesDiagonal A (A .weight q) u i)) }
+
+  unfoldable pub ownInternal : A .action q ≡ 0 → MetInternal A W q (A .source q)
+  unfolding SoundAutomaton ownFlow ifSame internalMove
+  ownInternal e =
+      record {
+        flow = ownFlow A q 0;
+        atLeastOne = sound q l .positive;
+        layer0 = λ r i u. ap (A .action) (onceUsed q r u) ∙ e;
+        related = ownRelated;
+        move = λ v i. record { equal = omega (arith, arrivingOnce A q l v, leavingOnce A q l v, turned v (A .source q) (A .denominator q) 0, overTargetsDiagonal A (A .weight q) v i) };
+        target = ownTarget 0;
+      }
+
+  unfoldable pub ownExternal : MetExternal A W q (A .source q)
+  unfolding SoundAutomaton ownFlow ifSame none beforeMove afterMove
+  ownExternal =
+      record {
+        flow = ownFlow A q 1;
+        atLeastOne = sound q l .positive;
+        layer0 = λ r i u. absurd (omega arith);
+        layer1 = λ r i u. ap (A .action) (onceUsed q r u);
+        layer2 = λ r i u. absurd (omega arith);
+        related = ownRelated;
+        before = λ v i. record { equal = omega (arith, arrivingNone A v, leavingNone A v, leavingOnce A q l v, turned v (A .source q) (A .denominator q) 0) };
+        after = λ v i. record { equal = omega (arith, arrivingNone A v, leavingNone A v, arrivingOnce A q l v, overTargetsDiagonal A (A .weight q) v i) };
+        target = ownTarget 1;
+      }
+
 -- document 01's rule
 pub plainOwn : MeetsOwn Met
-unfolding SoundAutomaton ownFlow ifSame none beforeMove afterMove internalMove atTarget
-plainOwn A sound W reflexive q l = record { internal = internal; external = external }
-  where
-    related : (v u : ℕ) → v < A .states → u < A .states → 0 < diagonal (A .weight q) v u → W v u
-    related v u i j z = subst (λ (x : ℕ). W v x) (diagonalUsed (A .weight q) v u z) (reflexive v i)
-
-    target : (layer u : ℕ) → u < A .states → Holds (atTarget A (ownFlow A q layer) q u)
-    target layer u i = record { equal = omega (arith, ap (λ (z : ℕ). A .denominator q * z) (overSourcesDiagonal A (A .weight q) u i)) }
-
-    internal : A .action q ≡ 0 → MetInternal A W q (A .source q)
-    internal e =
-        record {
-          flow = ownFlow A q 0;
-          atLeastOne = sound q l .positive;
-          layer0 = λ r i u. ap (A .action) (onceUsed q r u) ∙ e;
-          related = related;
-          move = λ v i. record { equal = omega (arith, arrivingOnce A q l v, leavingOnce A q l v, turned v (A .source q) (A .denominator q) 0, overTargetsDiagonal A (A .weight q) v i) };
-          target = target 0;
-        }
-
-    external : (A .action q ≡ 0 → ⊥) → MetExternal A W q (A .source q)
-    external n =
-        record {
-          flow = ownFlow A q 1;
-          atLeastOne = sound q l .positive;
-          layer0 = λ r i u. absurd (omega arith);
-          layer1 = λ r i u. ap (A .action) (onceUsed q r u);
-          layer2 = λ r i u. absurd (omega arith);
-          related = related;
-          before = λ v i. record { equal = omega (arith, arrivingNone A v, leavingNone A v, leavingOnce A q l v, turned v (A .source q) (A .denominator q) 0) };
-          after = λ v i. record { equal = omega (arith, arrivingNone A v, leavingNone A v, arrivingOnce A q l v, overTargetsDiagonal A (A .weight q) v i) };
-          target = target 1;
-        }
+plainOwn A sound W reflexive q l = record { internal = ownInternal A sound W reflexive q l; external = λ _. ownExternal A sound W reflexive q l }

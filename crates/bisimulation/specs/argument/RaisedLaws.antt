@@ -15,7 +15,7 @@ use Rattle.bisimulation.specs.definitions.Prices.{priceAt, priceOfTarget
 use Rattle.bisimulation.specs.definitions.Pairs.{Pairs}
 use Rattle.bisimulation.specs.definitions.Refutation.{PriceCondition, RelatedCondition, LastCondition}
 use Rattle.bisimulation.specs.argument.Value.{value, Feasible, FeasibleFor}
-use Rattle.bisimulation.specs.argument.Raised.{Raised, above, below, raise, RaisedBy, magnitudes}
+use Rattle.bisimulation.specs.argument.Raised.{Raised, above, below, raise, RaisedBy, magnitudes, TablesRaised}
 
 pub raisedLe : {c k l : ℕ} {y z : ℤ} → Raised c k y → Raised c l z → y ≤ℤ z → k ≤ l
 raisedLe (above a p) (above b q) h = omega (arith, leb→le a b (h .le))
@@ -46,6 +46,11 @@ raisedAdd (above a p) (below b q) = raisedSub a (suc b) (omega arith)
 raisedAdd (below a p) (above b q) = raisedSub b (suc a) (omega arith)
 raisedAdd (below a p) (below b q) = below (suc (a + b)) (omega arith)
 
+-- raised by m more
+pub raisedMore : {c k : ℕ} (m : ℕ) {z : ℤ} → Raised c k z → Raised (c + m) (k + m) z
+raisedMore m (above a p) = above a (omega arith)
+raisedMore m (below a p) = below a (omega arith)
+
 pub raisedTimes : {c k : ℕ} (d : ℕ) {z : ℤ} → Raised c k z → Raised (d * c) (d * k) (pos d *ℤ z)
 raisedTimes d (above a p) = above (d * a) (omega (arith, ap (λ (x : ℕ). d * x) p))
 raisedTimes d (below a p) = raisedNeg (d * suc a) (omega (arith, ap (λ (x : ℕ). d * x) p))
@@ -63,6 +68,14 @@ raiseRaised c (negsuc a) l = below a (omega arith)
 pub magnitudesEnough : (n : ℕ) (p : ℕ → ℤ) (i : ℕ) → i < n → natAbs (p i) ≤ magnitudes n p
 unfolding magnitudes
 magnitudesEnough n p i l = termLe n (λ j. natAbs (p j)) i l
+
+pub tablesRaised : (n : ℕ) (p : ℕ → ℤ) → TablesRaised n (magnitudes (3 * n) p) p
+tablesRaised n p =
+    record {
+      first = record { enough = λ v l. magnitudesEnough (3 * n) p v (omega arith) };
+      second = record { enough = λ v l. magnitudesEnough (3 * n) p (n + v) (omega arith) };
+      third = record { enough = λ v l. magnitudesEnough (3 * n) p (2 * n + v) (omega arith) };
+    }
 
 module _ (A : Automaton) (c : ℕ) where
   module _ (X : ℕ → ℤ) (x : RaisedBy (A .states) c X) where

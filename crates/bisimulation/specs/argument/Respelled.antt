@@ -121,8 +121,9 @@ module _ (A B : Automaton) (soundA : SoundAutomaton A) (soundB : SoundAutomaton 
   unfolding respelledFlow
   respelledRelated W f h v u l j z = h v u (omega arith) (omega arith) (usedTimes (f .w v u) (multiple B) (omega arith))
 
+  -- what is met is met by the scaled flow
   module _ (W : ℕ → ℕ → Type 0) (q t : ℕ) (i : q < A .transitions) where
-    internalRespelled : MetInternal A W q t → MetInternal B W q t
+    unfoldable pub internalRespelled : MetInternal A W q t → MetInternal B W q t
     unfolding respelledFlow internalMove
     internalRespelled m =
         let f = m .flow in
@@ -137,7 +138,7 @@ module _ (A B : Automaton) (soundA : SoundAutomaton A) (soundB : SoundAutomaton 
           target = λ u l. let j : u < A .states = omega arith in targetRespelled f q u i j (m .target u j);
         }
 
-    externalRespelled : MetExternal A W q t → MetExternal B W q t
+    unfoldable pub externalRespelled : MetExternal A W q t → MetExternal B W q t
     unfolding respelledFlow beforeMove afterMove
     externalRespelled m =
         let f = m .flow in

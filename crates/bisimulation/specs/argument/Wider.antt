@@ -4,8 +4,9 @@ use Rattle.bisimulation.specs.definitions.Automaton.{Automaton}
 use Rattle.bisimulation.specs.definitions.StepRule.{Met, MetExternal, MetInternal}
 use Rattle.bisimulation.specs.definitions.Rule.{MetWider}
 
+-- by the same flow
 module _ {A : Automaton} {W Wide : ℕ → ℕ → Type 0} (wider : (v u : ℕ) → W v u → Wide v u) {q t : ℕ} where
-  external-wider : MetExternal A W q t → MetExternal A Wide q t
+  unfoldable pub external-wider : MetExternal A W q t → MetExternal A Wide q t
   external-wider m =
       record {
         flow = m .flow;
@@ -19,7 +20,7 @@ module _ {A : Automaton} {W Wide : ℕ → ℕ → Type 0} (wider : (v u : ℕ) 
         target = m .target;
       }
 
-  internal-wider : MetInternal A W q t → MetInternal A Wide q t
+  unfoldable pub internal-wider : MetInternal A W q t → MetInternal A Wide q t
   internal-wider m =
       record {
         flow = m .flow;

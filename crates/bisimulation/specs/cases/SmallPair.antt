@@ -47,22 +47,22 @@ belowTwo P a b zero l = a
 belowTwo P a b (suc zero) l = b
 belowTwo P a b (suc (suc v)) l = absurd (omega arith)
 
-belowThree : (P : ℕ → Type 0) → P 0 → P 1 → P 2 → (v : ℕ) → v < 3 → P v
+pub belowThree : (P : ℕ → Type 0) → P 0 → P 1 → P 2 → (v : ℕ) → v < 3 → P v
 belowThree P a b c zero l = a
 belowThree P a b c (suc zero) l = b
 belowThree P a b c (suc (suc zero)) l = c
 belowThree P a b c (suc (suc (suc v))) l = absurd (omega arith)
 
-bothBelowThree : (P : ℕ → ℕ → Type 0) → P 0 0 → P 0 1 → P 0 2 → P 1 0 → P 1 1 → P 1 2 → P 2 0 → P 2 1 → P 2 2 → (v u : ℕ) → v < 3 → u < 3 → P v u
+pub bothBelowThree : (P : ℕ → ℕ → Type 0) → P 0 0 → P 0 1 → P 0 2 → P 1 0 → P 1 1 → P 1 2 → P 2 0 → P 2 1 → P 2 2 → (v u : ℕ) → v < 3 → u < 3 → P v u
 bothBelowThree P a b c d e f g h i v u l k =
     belowThree (λ x. P x u) (belowThree (P 0) a b c u k) (belowThree (P 1) d e f u k) (belowThree (P 2) g h i u k) v l
 
 -- two prices in order, whatever else is asked
-passes : {P : Type 0} {x y : ℤ} → T (leZ x y) → P → x ≤ℤ y
+pub passes : {P : Type 0} {x y : ℤ} → T (leZ x y) → P → x ≤ℤ y
 passes t p = leZ-yes t
 
 -- nothing is above itself
-none : {P : Type 0} → 0 < 0 → P
+pub none : {P : Type 0} → 0 < 0 → P
 none l = absurd (omega arith)
 
 pub smallSound : SoundAutomaton small

@@ -1,0 +1,9 @@
+-- Laws and theorems: the argument, which the prover has read.
+pub mod Inside
+pub mod CostLaws
+pub mod CostWider
+pub mod CostOwn
+pub mod CostRespelled
+pub mod CostDuality
+pub mod Costs
+pub mod Free

@@ -1,4 +1,4 @@
--- Where every cost is 0, the rule with costs is the rule without.
+-- Where every cost is 0, what is met with costs is what is met without, and L's term is 0.
 use Prim.Native.Nat.{ℕ}
 use mathlib.Core.Path.{_≡_, sym, _∙_, ap}
 use mathlib.Core.Logic.{_↔_}

@@ -34,7 +34,7 @@ module _ (cost : ℕ → ℕ) (A : Automaton) where
     pub related : RelatedCondition A R Y G
     pub last : LastCostCondition L q t X G
 
-  -- 'A refutation ends with one more price L': the one after the prices of so many times n states
+  -- 'A refutation ends with one more price L': it stands behind the prices of 2n or 3n states
   unfoldable pub priceAfter : ℕ → (ℕ → ℤ) → ℤ
   priceAfter times p = p (times * A .states)
 

@@ -85,8 +85,8 @@ judged-largest by numbers model certificate before after b d M blocks k =
     (sym (ap (take (length (M .labels))) (d .written (inl refl) M blocks k) ∙ ap (λ (n : ℕ). take n (blocks ++ drop (length blocks) before)) (sym whole) ∙ take-append-seam blocks _))
     (d .largest M blocks k)
 
--- document 01's two calls: what follows acceptance
-pub blocks-follow : FollowsLaws plainRules writesBlocks
+-- what follows acceptance in the calls that judge, whatever by, and that reduce
+pub blocks-follow : {by : PairRules} → FollowsLaws by writesBlocks
 unfolding filled answerWithoutPlace Accepting
 blocks-follow =
     record {

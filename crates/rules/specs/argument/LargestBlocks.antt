@@ -13,6 +13,7 @@ use native.Mathlib.Decide.{decLt}
 use Rattle.bisimulation.specs.definitions.Choice.{ifTrue, both}
 use Rattle.bisimulation.specs.argument.ChoiceLaws.{same, both-true}
 use Rattle.bisimulation.specs.definitions.Automaton.{Automaton, SoundAutomaton}
+use Rattle.bisimulation.specs.definitions.StepRule.{MetInternal, MetExternal}
 use Rattle.bisimulation.specs.definitions.Pairs.{Pairs, equalLabels}
 use Rattle.bisimulation.specs.definitions.Largest.{LargestBisimulation}
 use Rattle.bisimulation.specs.definitions.Rule.{Rule}
@@ -26,7 +27,7 @@ use Rattle.rules.specs.definitions.Judging.{Question}
 use Rattle.rules.specs.definitions.Encoding.{Refutation, KEntry, WEntry, FlowRecord, Certificate, pricesOf, kIn, wIn, flowOf}
 use Rattle.rules.specs.definitions.SoundModel.{Each}
 use Rattle.rules.specs.definitions.Accepted.{RuleSays, Among, here, there, GoodRefutations, GoodK, GoodW, GoodFlow, GoodFlows, KeepsRules}
-use Rattle.rules.specs.definitions.PlainSays.{InPlainQuestion, plainSays}
+use Rattle.rules.specs.definitions.PlainSays.{InPlainQuestion, InternalEquations, ExternalEquations, plainSays}
 use Rattle.rules.specs.definitions.Demand3.{InOneBlock}
 
 abbrev ask : (q t : ℕ) → Question
@@ -105,52 +106,61 @@ w-related A R (e ∷ es) g v u h = go (w-related A R es (g .1) v u) (both (eqb (
         subst₂ (λ (x y : ℕ). R x y ≡ true) (eqb-true _ _ (p .0)) (eqb-true _ _ (p .1)) (g .0 .related)
 
 -- document 01's rule
-in-before : {challenger action : ℕ} → InPlainQuestion challenger 0 action → action ≡ 0
+pub in-before : {challenger action : ℕ} → InPlainQuestion challenger 0 action → action ≡ 0
 in-before (InPlainQuestion.before a b) = b
 in-before (InPlainQuestion.move n a b) = absurd (omega arith)
 in-before (InPlainQuestion.after n a b) = absurd (omega arith)
 
-in-move : {challenger action : ℕ} → InPlainQuestion challenger 1 action → action ≡ challenger
+pub in-move : {challenger action : ℕ} → InPlainQuestion challenger 1 action → action ≡ challenger
 in-move (InPlainQuestion.before a b) = absurd (omega arith)
 in-move (InPlainQuestion.move n a b) = b
 in-move (InPlainQuestion.after n a b) = absurd (omega arith)
 
-in-after : {challenger action : ℕ} → InPlainQuestion challenger 2 action → action ≡ 0
+pub in-after : {challenger action : ℕ} → InPlainQuestion challenger 2 action → action ≡ 0
 in-after (InPlainQuestion.before a b) = b
 in-after (InPlainQuestion.move n a b) = absurd (omega arith)
 in-after (InPlainQuestion.after n a b) = b
 
+-- a flow whose entries are in the question, and whose equations hold, meets it
+module _ (says : RuleSays) (A : Automaton) (R : Pairs) (W : ℕ → ℕ → Type 0) (x : Question) (f : FlowRecord) (g : GoodFlow says A R x f) (plainly : (layer r : ℕ) → says .inQuestion A (x .challenger) (x .defender) layer r → InPlainQuestion (A .action (x .challenger)) layer (A .action r)) (inside : (v u : ℕ) → v < A .states → u < A .states → R v u ≡ true → W v u) where
+  pub allowed-plainly : (layer r : ℕ) → 0 < kIn (f .ks) layer r → InPlainQuestion (A .action (x .challenger)) layer (A .action r)
+  allowed-plainly layer r h = plainly layer r (k-allowed says A (x .challenger) (x .defender) (f .ks) (g .ks) layer r h)
+
+  unfoldable pub internal-met : InternalEquations A (x .challenger) (x .defender) (flowOf f) → MetInternal A W (x .challenger) (x .defender)
+  unfolding flowOf
+  internal-met e =
+      record {
+        flow = flowOf f;
+        atLeastOne = g .some;
+        layer0 = λ r l h. in-before (allowed-plainly 0 r h);
+        related = λ v u l k h. inside v u l k (w-related A R (f .ws) (g .ws) v u h);
+        move = e .move;
+        target = e .target;
+      }
+
+  unfoldable pub external-met : ExternalEquations A (x .challenger) (x .defender) (flowOf f) → MetExternal A W (x .challenger) (x .defender)
+  unfolding flowOf
+  external-met e =
+      record {
+        flow = flowOf f;
+        atLeastOne = g .some;
+        layer0 = λ r l h. in-before (allowed-plainly 0 r h);
+        layer1 = λ r l h. in-move (allowed-plainly 1 r h);
+        layer2 = λ r l h. in-after (allowed-plainly 2 r h);
+        related = λ v u l k h. inside v u l k (w-related A R (f .ws) (g .ws) v u h);
+        before = e .before;
+        after = e .after;
+        target = e .target;
+      }
+
 pub plain-covers : Covers plain plainSays
-unfolding flowOf
 plain-covers =
     record {
       refutes = λ A R q t p h. h;
       meets = λ A R W x f g inside.
-          let allowed = k-allowed plainSays A (x .challenger) (x .defender) (f .ks) (g .ks) in
           record {
-            internal = λ i.
-                let e = g .equations .internal i in
-                record {
-                  flow = flowOf f;
-                  atLeastOne = g .some;
-                  layer0 = λ r l h. in-before (allowed 0 r h);
-                  related = λ v u l k h. inside v u l k (w-related A R (f .ws) (g .ws) v u h);
-                  move = e .move;
-                  target = e .target;
-                };
-            external = λ i.
-                let e = g .equations .external i in
-                record {
-                  flow = flowOf f;
-                  atLeastOne = g .some;
-                  layer0 = λ r l h. in-before (allowed 0 r h);
-                  layer1 = λ r l h. in-move (allowed 1 r h);
-                  layer2 = λ r l h. in-after (allowed 2 r h);
-                  related = λ v u l k h. inside v u l k (w-related A R (f .ws) (g .ws) v u h);
-                  before = e .before;
-                  after = e .after;
-                  target = e .target;
-                };
+            internal = λ i. internal-met plainSays A R W x f g (λ layer r h. h) inside (g .equations .internal i);
+            external = λ n. external-met plainSays A R W x f g (λ layer r h. h) inside (g .equations .external n);
           };
     }
 

@@ -64,24 +64,28 @@ module _ (A : Automaton) where
   kind-external q x y n = notSame x n refl
 
   -- 'for each transition with its action'
+  pub all-with-action : (a : ℕ) (f : ℕ → Bool) → allWithAction A a f ≡ true → (r : ℕ) → r < A .transitions → A .action r ≡ a → f r ≡ true
+  unfolding allWithAction
+  all-with-action a f e r l isA = same true isA refl ∙ all-below (A .transitions) _ e r l
+
+  pub with-action-all : (a : ℕ) (f : ℕ → Bool) → ((r : ℕ) → r < A .transitions → A .action r ≡ a → f r ≡ true) → allWithAction A a f ≡ true
+  unfolding allWithAction
+  with-action-all a f h = below-all (A .transitions) _ (λ r l. go r l (ℕ-discrete (A .action r) a))
+    where
+      go : (r : ℕ) → r < A .transitions → Dec (A .action r ≡ a) → ifSame (A .action r) a (f r) true ≡ true
+      go r l (yes isA) = sym (same true isA (sym (h r l isA)))
+      go r l (no n) = sym (notSame (f r) n refl)
+
   all-conditions : (a : ℕ) (X Y : ℕ → ℤ) → allWithAction A a (priceCondition A X Y) ≡ true → PriceCondition A a X Y
-  unfolding allWithAction priceCondition
-  all-conditions a X Y e =
-      record {
-        holds = λ r l isA.
-            record { le = holds-T (same true isA refl ∙ all-below (A .transitions) _ e r l) };
-      }
+  unfolding priceCondition
+  all-conditions a X Y e = record { holds = λ r l isA. record { le = holds-T (all-with-action a _ e r l isA) } }
 
   conditions-all : (a : ℕ) (X Y : ℕ → ℤ) → PriceCondition A a X Y → allWithAction A a (priceCondition A X Y) ≡ true
-  unfolding allWithAction priceCondition
-  conditions-all a X Y h = below-all (A .transitions) _ (λ r l. go r l (ℕ-discrete (A .action r) a))
-    where
-      go : (r : ℕ) → r < A .transitions → Dec (A .action r ≡ a) → ifSame (A .action r) a (leZ (priceOfTargets A Y r) (priceAt A X r (A .source r))) true ≡ true
-      go r l (yes isA) = sym (same true isA (sym (T-holds _ (h .holds r l isA .le))))
-      go r l (no n) = sym (notSame (leZ (priceOfTargets A Y r) (priceAt A X r (A .source r))) n refl)
+  unfolding priceCondition
+  conditions-all a X Y h = with-action-all a _ (λ r l isA. T-holds _ (h .holds r l isA .le))
 
   -- 'for each related v, u'
-  all-related : (R : Pairs) (X G : ℕ → ℤ) → allRelated A R X G ≡ true → RelatedCondition A R X G
+  pub all-related : (R : Pairs) (X G : ℕ → ℤ) → allRelated A R X G ≡ true → RelatedCondition A R X G
   unfolding allRelated
   all-related R X G e =
       record {
@@ -89,7 +93,7 @@ module _ (A : Automaton) where
             record { le = holds-T (isTrue true related refl ∙ all-below (A .states) _ (all-below (A .states) _ e v l) u k) };
       }
 
-  related-all : (R : Pairs) (X G : ℕ → ℤ) → RelatedCondition A R X G → allRelated A R X G ≡ true
+  pub related-all : (R : Pairs) (X G : ℕ → ℤ) → RelatedCondition A R X G → allRelated A R X G ≡ true
   unfolding allRelated ifTrue
   related-all R X G h = below-all (A .states) _ (λ v l. below-all (A .states) _ (λ u k. go v u l k (R v u) refl))
     where
@@ -232,7 +236,7 @@ module _ (A : Automaton) where
               subst₂ _≤ℤ_ (targets-same Y Y′ k r) (price-same X X′ h r (A .source r) (sound r l .from)) (c .holds r l isA);
         }
 
-    related-same : (R : Pairs) (X X′ G G′ : ℕ → ℤ) → AlikeOnStates X X′ → AlikeOnStates G G′ → RelatedCondition A R X G → RelatedCondition A R X′ G′
+    pub related-same : (R : Pairs) (X X′ G G′ : ℕ → ℤ) → AlikeOnStates X X′ → AlikeOnStates G G′ → RelatedCondition A R X G → RelatedCondition A R X′ G′
     related-same R X X′ G G′ h k c = record { holds = λ v u l m e. subst₂ _≤ℤ_ (k u m) (h v l) (c .holds v u l m e) }
 
     last-same : (q t : ℕ) (X X′ G G′ : ℕ → ℤ) → t < A .states → AlikeOnStates X X′ → AlikeOnStates G G′ → LastCondition A q t X G → LastCondition A q t X′ G′

@@ -5,9 +5,10 @@ use mathlib.Core.Logic.{_⊎_, inl, inr, ⊎-elim}
 use mathlib.Core.Bool.{Bool}
 use mathlib.Core.List.{List}
 use lib.ListN.{length}
-use lib.IntN.{ℤ}
+use lib.IntN.{ℤ, _-ℤ_}
+use lib.Signed.{ltZ}
 use native.Mathlib.Omega.{arith}
-use Rattle.bisimulation.specs.definitions.Choice.{ifTrue}
+use Rattle.bisimulation.specs.definitions.Choice.{ifTrue, unlessTrue}
 use Rattle.bisimulation.specs.argument.ChoiceLaws.{eitherSame, eitherTrue}
 use Rattle.bisimulation.specs.definitions.Automaton.{Automaton}
 use Rattle.bisimulation.specs.definitions.StepRule.{Flow, Sides, beforeMove, afterMove, internalMove, atTarget}
@@ -17,7 +18,7 @@ use Rattle.bisimulation.specs.argument.Plain.{plain}
 use Rattle.rules.specs.definitions.Limits.{Limits, limits}
 use Rattle.rules.specs.definitions.SoundModel.{FitsWidths}
 use Rattle.rules.specs.argument.SoundModelLaws.{limits-fit}
-use Rattle.rules.specs.definitions.Faults.{Fault, fault, noFault}
+use Rattle.rules.specs.definitions.Faults.{Fault, faultBy, fault, noFault}
 use Rattle.rules.specs.argument.FaultLaws.{Told, told-fault, either-first}
 use Rattle.rules.specs.definitions.Reading.{Scan, sound, refused, scanWhole, noModel, readingOf, readWhole}
 use Rattle.rules.specs.argument.ReadingLaws.{Tells, whole-tells}
@@ -34,33 +35,38 @@ use Rattle.rules.specs.argument.LargestBlocks.{plain-covers}
 unfoldable pub PlainNumber : ℕ → Type 0
 PlainNumber k = ((15 ≤ k) × (k ≤ 16)) ⊎ ((20 ≤ k) × (k ≤ 21))
 
-abbrev Own : Fault → Type 0
+abbrev pub Own : Fault → Type 0
 Own f = NoneOr PlainNumber f
 
-none : Own noFault
+pub none : Own noFault
 none = record { number = inl refl; told = told-fault 0 (omega arith) }
 
-price : Own (fault 15)
+pub price : Own (fault 15)
 unfolding PlainNumber
 price = record { number = inr (inl (omega arith, omega arith)); told = told-fault 15 (omega arith) }
 
-orTrue : (b : Bool) {x y : Fault} → Own x → Own y → Own (ifTrue b x y)
+pub orTrue : (b : Bool) {x y : Fault} → Own x → Own y → Own (ifTrue b x y)
 orTrue b p q = eitherTrue Own b p q
 
-last : (A : Automaton) (X G : ℕ → ℤ) (q t : ℕ) → Own (lastFault A X G q t)
-unfolding lastFault below PlainNumber
-last A X G q t =
+-- a last condition, of which the left side is to be below the right
+pub last-condition : (left right : ℤ) (t : ℕ) → Own (unlessTrue (ltZ left right) (faultBy 16 t (left -ℤ right)) noFault)
+unfolding PlainNumber
+last-condition left right t =
     by-test Own _ (λ e. none)
     (λ e.
     record {
       number = inr (inl (omega arith, omega arith));
       told =
           record {
-            last = λ z. not-below (priceAt A X q t) (priceOfTargets A G q) e;
+            last = λ z. not-below left right e;
             broken = λ z. absurd (⊎-elim (λ x. omega arith) (λ x. omega arith) z);
             otherwise = λ o. absurd (o .not16 refl);
           };
     })
+
+last : (A : Automaton) (X G : ℕ → ℤ) (q t : ℕ) → Own (lastFault A X G q t)
+unfolding lastFault below
+last A X G q t = last-condition (priceAt A X q t) (priceOfTargets A G q) t
 
 prices : (A : Automaton) (R : Pairs) (q t : ℕ) (p : ℕ → ℤ) → Own (plainPricesFault A R q t p)
 unfolding plainPricesFault byKind internalPricesFault externalPricesFault

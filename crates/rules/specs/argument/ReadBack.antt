@@ -116,11 +116,11 @@ transitions-back L s n m count (t ∷ ts) last entries at end rest stands rules 
     (refuse-passes at refl (back .fault) (later .0), λ i. back .value i ∷ later .1 i)
 
 -- what the scan of a file that begins with a sound model is, and what stands in the file
-record ModelBack (L : Limits) (M : Model) (s : List ℕ) : Type 0 where
-  scan : sound (length (M .labels)) (M .actions) (length (M .transitions)) (length (modelBytes M)) ≡ scanModel L s
-  value : modelAt s ≡ M
+pub record ModelBack (L : Limits) (M : Model) (s : List ℕ) : Type 0 where
+  pub scan : sound (length (M .labels)) (M .actions) (length (M .transitions)) (length (modelBytes M)) ≡ scanModel L s
+  pub value : modelAt s ≡ M
 
-model-back : (L : Limits) (M : Model) → FitsWidths L → SoundModel L M → (s rest : List ℕ) → s ≡ modelBytes M ++ rest → ModelBack L M s
+pub model-back : (L : Limits) (M : Model) → FitsWidths L → SoundModel L M → (s rest : List ℕ) → s ≡ modelBytes M ++ rest → ModelBack L M s
 unfolding scanModel modelAt headFault rangeFault labelsFault statesOf actionsOf countOf modelBytes headBytes labelsBytes twoBytes
 model-back L M fits ok s rest stands =
     let n = length (M .labels) in

@@ -101,7 +101,7 @@ transition-sound L s bytes n m last entries at e =
 sound-not : (n m count end : ℕ) (f : Fault) (place : ℕ) → sound n m count end ≡ refused f place → ⊥
 sound-not n m count end f place e = let z : _≡_ {A = ℕ} 0 1 = cc in omega arith
 
-refuse-past : (n m count end : ℕ) (f : Fault) (place : ℕ) (next : Scan) → sound n m count end ≡ refuseAt f place next → Passes f × (sound n m count end ≡ next)
+pub refuse-past : (n m count end : ℕ) (f : Fault) (place : ℕ) (next : Scan) → sound n m count end ≡ refuseAt f place next → Passes f × (sound n m count end ≡ next)
 unfolding refuseAt
 refuse-past n m count end f place next e =
     let a = keptSame next (refused f place) (f .number) 0 (sound-not n m count end f place) e in
@@ -185,14 +185,14 @@ model-sound L s bytes n m count end e =
     }
 
 -- the scan behind a reading that gives a model
-record Read (s : List ℕ) (scan : Scan) (M : Model) (end : ℕ) : Type 0 where
-  n : ℕ
-  m : ℕ
-  count : ℕ
-  scanned : sound n m count end ≡ scan
-  value : modelAt s ≡ M
+pub record Read (s : List ℕ) (scan : Scan) (M : Model) (end : ℕ) : Type 0 where
+  pub n : ℕ
+  pub m : ℕ
+  pub count : ℕ
+  pub scanned : sound n m count end ≡ scan
+  pub value : modelAt s ≡ M
 
-read-scan : (s : List ℕ) (scan : Scan) (M : Model) (end : ℕ) → readingOf s scan ≡ model M end → Read s scan M end
+pub read-scan : (s : List ℕ) (scan : Scan) (M : Model) (end : ℕ) → readingOf s scan ≡ model M end → Read s scan M end
 unfolding readingOf
 read-scan s (sound n m count last) M end e =
     let place : end ≡ last = cc in
@@ -222,7 +222,7 @@ unfolding readModel
 read-sound L s M end bytes e = scan-sound L s M end bytes (read-scan s (scanModel L s) M end e)
 
 -- no bytes are left after a sound scan of the whole file
-none-left : (s : List ℕ) (scan : Scan) (n m count end : ℕ) → sound n m count end ≡ refuseBytesLeft s scan → (sound n m count end ≡ scan) × (length s ≤ end)
+pub none-left : (s : List ℕ) (scan : Scan) (n m count end : ℕ) → sound n m count end ≡ refuseBytesLeft s scan → (sound n m count end ≡ scan) × (length s ≤ end)
 unfolding refuseBytesLeft
 none-left s (sound n₁ m₁ count₁ last) n m count end e =
     let a = pastLess (refused (fault 9) last) (sound n₁ m₁ count₁ last) last (length s) (sound-not n m count end (fault 9) last) e in

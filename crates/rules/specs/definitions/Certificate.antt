@@ -24,7 +24,7 @@ pub record FileRule : Type 0 where
   pub pricesFault : Automaton → Pairs → (q t : ℕ) → (ℕ → ℤ) → Fault
   -- whether an entry of a layer and a transition r is in the question
   pub inQuestion : Automaton → (q t : ℕ) → (layer r : ℕ) → Bool
-  -- 20 and 21
+  -- 20 and 21, and what a further rule adds behind them
   pub equationsFault : Automaton → (q t : ℕ) → Flow → Fault
 
 -- 'certificate head': the refutation count

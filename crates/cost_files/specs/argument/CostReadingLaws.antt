@@ -1,0 +1,240 @@
+-- Reading a cost model agrees with its file: the file is read back, and what is read is the file of a sound model with right costs.
+use Prim.Native.Nat.{ℕ, zero, suc, _+_, _≤_, _<_}
+use mathlib.Core.Path.{_≡_, refl, sym, _∙_, ap, subst}
+use mathlib.Core.Logic.{_⊎_, inl, inr, ⊎-elim}
+use mathlib.Core.List.{List, [], _∷_, _++_, append-nil}
+use lib.ListN.{length, take, drop, length-append, length-drop, take-append-drop}
+use lib.Seq.{getD-take, getD-drop, take-all, take-append-seam, length-take-le}
+use native.Mathlib.Omega.{arith}
+use Rattle.bisimulation.specs.argument.ChoiceLaws.{less, notLess, eitherLess}
+use Rattle.rules.specs.definitions.Limits.{Limits}
+use Rattle.rules.specs.definitions.Bytes.{byteAt, twoAt, twoBytes}
+use Rattle.rules.specs.argument.BytesLaws.{past, past-all, first-byte, first-two, byte-then, two-then}
+use Rattle.rules.specs.definitions.Model.{Model, modelBytes}
+use Rattle.rules.specs.definitions.SoundModel.{Each, Bytes, FitsWidths}
+use Rattle.rules.specs.definitions.Faults.{Fault, fault, noFault, modelRecord, openFault}
+use Rattle.rules.specs.argument.FaultLaws.{Told, told-fault, model-refuses, opened, opens, either-open, pass-ifLess}
+use Rattle.rules.specs.definitions.Reading.{countOf, Scan, sound, refused, scanModel, refuseBytesLeft, scanWhole, transitionsAt, modelAt, model, noModel, readingOf, readModel, readWhole, afterTransition, placeOf}
+use Rattle.rules.specs.argument.ReadingLaws.{refuse-passes, refuse-cases, Sound, Tells, scan-tells}
+use Rattle.rules.specs.argument.ReadBack.{ModelBack, model-back}
+use Rattle.rules.specs.argument.ReadSound.{refuse-past, none-left, read-scan, read-sound}
+use Rattle.rules.specs.argument.AnyRule.{NoneOr, ModelFiles}
+use Rattle.rules.specs.argument.PlainRules.{ModelNumber}
+use Rattle.cost_files.specs.definitions.CostModel.{highestCost, costOf, costsBytes, costModelBytes, CostFileOf, transitionsEnd, costsIn, withoutCosts}
+use Rattle.cost_files.specs.definitions.CostReading.{costFault, scanCosts, scanCostRecord, scanCostModel, readCosts}
+
+-- none of the costs is above the highest
+abbrev Low : List ℕ → Type 0
+Low costs = Each (λ (c : ℕ). c ≤ highestCost) costs
+
+-- the costs at a place, where the scan is past them
+costs-passed : (s : List ℕ) (left at n m count end : ℕ) (next : Scan) → at + left ≤ length s → sound n m count end ≡ scanCosts s left at next → Low (take left (drop at s)) × (sound n m count end ≡ next)
+unfolding scanCosts costFault Each
+costs-passed s zero at n m count end next inside e = (tt, e)
+costs-passed s (suc left) at n m count end next inside e =
+    let a = refuse-past n m count end _ at _ e in
+    let b = pass-ifLess _ _ _ _ (a .0) (omega arith) in
+    let later = costs-passed s left (at + 1) n m count end next (omega arith) (a .1) in
+    (rw (byte-then s at (at + 1) refl (omega arith) refl) (b .0, later .0), later .1)
+
+-- the costs that stand at a place
+costs-back : (s costs : List ℕ) (at : ℕ) (rest : List ℕ) {z next : Scan} → drop at s ≡ costs ++ rest → Low costs → z ≡ next → z ≡ scanCosts s (length costs) at next
+unfolding scanCosts costFault Each
+costs-back s [] at rest stands low e = e
+costs-back s (c ∷ costs) at rest stands low e =
+    let here = first-byte s at stands in
+    refuse-passes at (notLess _ (omega arith) refl) refl (costs-back s costs (at + 1) rest (past s at 1 stands) (low .1) e)
+
+transitionsAt-length : (s : List ℕ) (left at : ℕ) → length (transitionsAt s left at) ≡ left
+unfolding transitionsAt
+transitionsAt-length s zero at = refl
+transitionsAt-length s (suc left) at = ap suc (transitionsAt-length s left (afterTransition s at))
+
+-- the cost of a transition is its byte behind the mark
+pub cost-at : (s : List ℕ) (r : ℕ) → r < countOf s → costOf (costsIn s) r ≡ byteAt s (transitionsEnd s + 2 + r)
+unfolding costOf costsIn byteAt
+cost-at s r l = getD-take (countOf s) _ r 0 l ∙ getD-drop (transitionsEnd s + 2) s r 0
+
+-- what is read is the file of a sound model with costs, those that stand in it, and nothing is left
+module _ (L : Limits) (s : List ℕ) (bytes : Bytes s) where
+  record CostRead (end : ℕ) : Type 0 where
+    file : CostFileOf L s (modelAt s)
+    whole : end ≡ length s
+
+  scan-read : (n m count end : ℕ) (scan : Scan) → scanModel L s ≡ scan → length s ≤ end → sound n m count end ≡ scanCostRecord s scan → CostRead end
+  unfolding scanCostRecord readModel readingOf modelAt costModelBytes costsBytes twoBytes
+  scan-read n m count end (sound n₁ m₁ count₁ end₁) q left e =
+      let a = refuse-past n m count end _ end₁ _ e in
+      let o = opened modelRecord 0x434F (2 + count₁) s end₁ model-refuses (a .0) in
+      let c = costs-passed s count₁ (end₁ + 2) n m count end _ (omega (arith, o .whole)) (a .1) in
+      let last : end ≡ end₁ + 2 + count₁ = let z = c .1 in cc in
+      let t = subst (Tells L s) q (scan-tells L s) in
+      let ok = read-sound L s (modelAt s) end₁ bytes (ap (readingOf s) q) in
+      let rest : take count₁ (drop (end₁ + 2) s) ≡ drop (end₁ + 2) s = take-all count₁ _ (omega (arith, length-drop (end₁ + 2) s)) in
+      let mark : drop end₁ s ≡ twoBytes (twoAt s end₁) ++ take count₁ (drop (end₁ + 2) s) = two-then s bytes end₁ (end₁ + 2) refl (omega (arith, o .whole)) (sym rest) in
+      record {
+        file =
+            record {
+              costs = take count₁ (drop (end₁ + 2) s);
+              sound = ok .rules;
+              right =
+                  record {
+                    count = length-take-le count₁ (drop (end₁ + 2) s) (omega (arith, length-drop (end₁ + 2) s, o .whole)) ∙ t .transitions ∙ sym (transitionsAt-length s (countOf s) _);
+                    most = c .0;
+                  };
+              encoded =
+                  sym (take-append-drop end₁ s)
+                  ∙ (λ i. ok .bytes i ++ mark i)
+                  ∙ ap (λ (k : ℕ). modelBytes (modelAt s) ++ (twoBytes k ++ take count₁ (drop (end₁ + 2) s))) (o .marked);
+            };
+        whole = omega (arith, o .whole);
+      }
+  scan-read n m count end (refused f place) q left e = let z : _≡_ {A = ℕ} 0 1 = cc in absurd (omega arith)
+
+  pub cost-read-sound : (M : Model) (end : ℕ) → readCosts L s ≡ model M end → CostFileOf L s M × (end ≡ length s)
+  unfolding readCosts scanCostModel
+  cost-read-sound M end e =
+      let r = read-scan s (scanCostModel L s) M end e in
+      let a = none-left s (scanCostRecord s (scanModel L s)) (r .n) (r .m) (r .count) end (r .scanned) in
+      let c = scan-read (r .n) (r .m) (r .count) end (scanModel L s) refl (a .1) (a .0) in
+      (subst (CostFileOf L s) (r .value) (c .file), c .whole)
+
+-- the file of a model with costs: where its transitions end, and what stands behind them
+module _ (L : Limits) (fits : FitsWidths L) (s : List ℕ) (M : Model) (f : CostFileOf L s M) where
+  back : ModelBack L M s
+  unfolding costModelBytes
+  back = model-back L M fits (f .sound) s (costsBytes (f .costs)) (f .encoded)
+
+  tells : Sound L s (length (M .labels)) (M .actions) (length (M .transitions)) (length (modelBytes M))
+  tells = subst (Tells L s) (sym (back .scan)) (scan-tells L s)
+
+  record-there : drop (length (modelBytes M)) s ≡ costsBytes (f .costs)
+  unfolding costModelBytes
+  record-there = let z : 0 + length (modelBytes M) ≡ length (modelBytes M) = omega arith in ap (λ (k : ℕ). drop k s) (sym z) ∙ past-all s 0 (modelBytes M) (f .encoded)
+
+  costs-there : drop (length (modelBytes M) + 2) s ≡ f .costs
+  unfolding costsBytes
+  costs-there = past s (length (modelBytes M)) 2 record-there
+
+  -- the costs that stand in the file are the model's
+  pub costs-in : costsIn s ≡ f .costs
+  unfolding costsIn transitionsEnd
+  costs-in =
+      (λ i. take (sym (tells .transitions) i) (drop (placeOf s (sym (tells .transitions) i) + 2) s))
+      ∙ ap (λ (k : ℕ). take (length (M .transitions)) (drop (k + 2) s)) (sym (tells .last))
+      ∙ ap (take (length (M .transitions))) costs-there
+      ∙ take-all (length (M .transitions)) (f .costs) (omega (arith, f .right .count))
+
+  -- the bytes in front of the cost record are those of the model without costs
+  pub without-costs : withoutCosts s ≡ modelBytes M
+  unfolding withoutCosts transitionsEnd costModelBytes
+  without-costs =
+      (λ i. take (placeOf s (sym (tells .transitions) i)) s)
+      ∙ ap (λ (k : ℕ). take k s) (sym (tells .last))
+      ∙ ap (take (length (modelBytes M))) (f .encoded)
+      ∙ take-append-seam (modelBytes M) (costsBytes (f .costs))
+
+  -- the file is read back
+  pub cost-read-back : readCosts L s ≡ model M (length s)
+  unfolding readCosts scanCostModel scanCostRecord refuseBytesLeft readingOf costModelBytes costsBytes
+  cost-read-back =
+      let end = length (modelBytes M) in
+      let count : length (f .costs) ≡ length (M .transitions) = f .right .count in
+      let size : length s ≡ end + 2 + length (M .transitions) = ap length (f .encoded) ∙ length-append (modelBytes M) (costsBytes (f .costs)) ∙ omega arith in
+      let whole : sound (length (M .labels)) (M .actions) (length (M .transitions)) (length s) ≡ scanCostRecord s (sound (length (M .labels)) (M .actions) (length (M .transitions)) end) =
+      refuse-passes end refl
+      (opens modelRecord 0x434F (2 + length (M .transitions)) s end (omega arith) (first-two s end 0x434F (f .costs) record-two (omega arith)) (omega arith))
+      (subst (λ (k : ℕ). sound (length (M .labels)) (M .actions) (length (M .transitions)) (length s) ≡ scanCosts s k (end + 2) (sound (length (M .labels)) (M .actions) (length (M .transitions)) (end + 2 + length (M .transitions)))) count
+      (costs-back s (f .costs) (end + 2) [] (costs-there ∙ sym (append-nil (f .costs))) (f .right .most) (ap (sound (length (M .labels)) (M .actions) (length (M .transitions))) size))) in
+      ap (λ (k : Scan). readingOf s (refuseBytesLeft s (scanCostRecord s k))) (sym (back .scan))
+      ∙ ap (λ (k : Scan). readingOf s (refuseBytesLeft s k)) (sym whole)
+      ∙ ap (readingOf s) (sym (notLess (refused (fault 9) (length s)) (omega arith) refl))
+      ∙ ap (λ (m : Model). model m (length s)) (back .value)
+    where
+      record-two : drop (length (modelBytes M)) s ≡ twoBytes 0x434F ++ f .costs
+      record-two = unfold twoBytes in record-there
+
+  -- a call that reads models without costs finds bytes left, at the cost record
+  pub read-without-costs : readWhole L s ≡ noModel (fault 9) (length (modelBytes M))
+  unfolding readWhole scanWhole refuseBytesLeft readingOf costModelBytes costsBytes
+  read-without-costs =
+      ap (λ (k : Scan). readingOf s (refuseBytesLeft s k)) (sym (back .scan))
+      ∙ ap (readingOf s) (sym (less _ (omega (arith, ap length (f .encoded), length-append (modelBytes M) (costsBytes (f .costs)))) refl))
+
+-- the numbers of reading a cost model: 1 to 9, and 29
+unfoldable pub CostModelNumber : ℕ → Type 0
+CostModelNumber k = ModelNumber k ⊎ (k ≡ 29)
+
+abbrev Listed : Fault → Type 0
+Listed f = NoneOr CostModelNumber f
+
+listed : (k : ℕ) → ModelNumber k → Listed (fault k)
+unfolding CostModelNumber ModelNumber
+listed k h = record { number = inr (inl h); told = told-fault k (omega (arith, h)) }
+
+none-listed : Listed noFault
+none-listed = record { number = inl refl; told = told-fault 0 (omega arith) }
+
+cost-listed : (cost : ℕ) → Listed (costFault cost)
+unfolding costFault CostModelNumber
+cost-listed cost = eitherLess Listed _ _ (record { number = inr (inr refl); told = told-fault 29 (omega arith) }) none-listed
+
+open-listed : (mark size : ℕ) (s : List ℕ) (at : ℕ) → Listed (openFault modelRecord mark size s at)
+unfolding ModelNumber
+open-listed mark size s at = either-open modelRecord mark size s at Listed (listed 1 (omega arith, omega arith)) (listed 2 (omega arith, omega arith)) none-listed
+
+-- what a refusal of reading tells, and where a sound scan ends
+abbrev Refusal : List ℕ → Fault → (place : ℕ) → Type 0
+Refusal s f place = (f .number ≡ 0 → ⊥) × CostModelNumber (f .number) × (place ≤ length s) × Told f
+
+abbrev CostTells : List ℕ → Scan → Type 0
+CostTells s (sound n m count end) = end ≤ length s
+CostTells s (refused f place) = Refusal s f place
+
+module _ (s : List ℕ) where
+  refused-tells : (f : Fault) (place : ℕ) → Listed f → place ≤ length s → (f .number ≡ 0 → ⊥) → Refusal s f place
+  refused-tells f place l inside n = (n, ⊎-elim (λ z. absurd (n z)) (λ z. z) (l .number), inside, l .told)
+
+  costs-tell : (left at : ℕ) (next : Scan) → at + left ≤ length s → CostTells s next → CostTells s (scanCosts s left at next)
+  unfolding scanCosts
+  costs-tell zero at next inside t = t
+  costs-tell (suc left) at next inside t =
+      refuse-cases (CostTells s) _ at _ (refused-tells _ at (cost-listed _) (omega arith)) (λ p. costs-tell left (at + 1) next (omega arith) t)
+
+  record-tells : (L : Limits) (scan : Scan) → Tells L s scan → CostTells s (scanCostRecord s scan)
+  unfolding scanCostRecord CostModelNumber ModelNumber
+  record-tells L (sound n m count end) t =
+      refuse-cases (CostTells s) _ end _ (refused-tells _ end (open-listed 0x434F (2 + count) s end) (t .inside))
+      (λ p.
+      let o = opened modelRecord 0x434F (2 + count) s end model-refuses p in
+      costs-tell count (end + 2) _ (omega (arith, o .whole)) (omega (arith, o .whole)))
+  record-tells L (refused f place) t = (λ z. omega (arith, t .some), inl (t .some, t .known), t .inside, t .told)
+
+  left-tells : (scan : Scan) → CostTells s scan → CostTells s (refuseBytesLeft s scan)
+  unfolding refuseBytesLeft ModelNumber
+  left-tells (sound n m count end) t = eitherLess (CostTells s) end (length s) (refused-tells (fault 9) end (listed 9 (omega arith, omega arith)) t (λ z. omega (arith, z))) t
+  left-tells (refused f place) t = t
+
+pub cost-refusal-told : (L : Limits) (s : List ℕ) (f : Fault) (place : ℕ) → readCosts L s ≡ noModel f place → (f .number ≡ 0 → ⊥) × CostModelNumber (f .number) × (place ≤ length s) × Told f
+unfolding readCosts scanCostModel readingOf
+cost-refusal-told L s f place e = go (scanCostModel L s) (left-tells s _ (record-tells s L _ (scan-tells L s))) e
+  where
+    go : (scan : Scan) → CostTells s scan → readingOf s scan ≡ noModel f place → Refusal s f place
+    go (sound n m count end) t q = let z : _≡_ {A = ℕ} 0 1 = cc in absurd (omega arith)
+    go (refused g at) t q =
+        let same : g ≡ f = cc in
+        let there : at ≡ place = cc in
+        subst (λ (x : Fault). Refusal s x place) same (subst (Refusal s g) there t)
+
+-- files of cost models, within the limits
+abbrev pub costFiles : (L : Limits) → FitsWidths L → ModelFiles L
+costFiles L fits =
+    record {
+      read = readCosts L;
+      isFile = CostFileOf L;
+      exactly = λ s M b. (λ r. cost-read-sound L s b M (length s) r .0, cost-read-back L fits s M);
+      whole = λ s M end b r. cost-read-sound L s b M end r .1;
+      sound = λ s M f. f .sound;
+      numbers = CostModelNumber;
+      answers = cost-refusal-told L;
+    }

@@ -5,9 +5,9 @@
  * changed by others during the call, and a lent buffer overlaps no input and no other lent buffer. A refusal writes no byte of any
  * lent buffer.
  *
- * Stack. zolkirta_reduce, zolkirta_judge and zolkirta_alike use at most 11,000 bytes each, zolkirta_sheet 12,400, zolkirta_join and
- * zolkirta_fetch 2,400 (measured, rounded up). In a dynamically linked program the loader adds some 3 KiB when it binds memcpy or
- * memset at the first call. No heap is used.
+ * Stack. zolkirta_reduce, zolkirta_judge, zolkirta_judge_costs and zolkirta_alike use at most 11,000 bytes each, zolkirta_sheet 12,400,
+ * zolkirta_join and zolkirta_fetch 2,500 (measured, rounded up). In a dynamically linked program the loader adds some 3 KiB when it
+ * binds memcpy or memset at the first call. No heap is used.
  *
  * Threads. The library has no state and keeps no pointer: any number of calls may run at once.
  *
@@ -19,13 +19,13 @@
 #include <stddef.h>
 #include <stdint.h>
 
-#define ZOLKIRTA_VERSION "0.5.0"
-#define ZOLKIRTA_VERSION_NUMBER 500 /* major * 10000 + minor * 100 + patch */
+#define ZOLKIRTA_VERSION "0.6.0"
+#define ZOLKIRTA_VERSION_NUMBER 600 /* major * 10000 + minor * 100 + patch */
 
 /* The most states that a model has: a block buffer of this length is always long enough. */
 #define ZOLKIRTA_STATES 64
 /* The bytes of the longest model, 8 + 64 + 7 * 256 + 3 * 1024: an output buffer of this length is always long enough for
- * zolkirta_reduce and zolkirta_join, and a longer model file is always refused. */
+ * zolkirta_reduce and zolkirta_join, and a longer model file is always refused; a cost model's has up to 258 bytes more. */
 #define ZOLKIRTA_MODEL 4936
 /* The bytes of the longest sheet, 64 lines of 73: a sheet buffer of this length is always long enough. */
 #define ZOLKIRTA_SHEET 4672
@@ -46,7 +46,7 @@ enum zolkirta_number {
     ZOLKIRTA_ENTRY = 6,                 /* an entry's state is absent or does not ascend, or its weight is 0 */
     ZOLKIRTA_SUM = 7,                   /* a transition's weights do not add up to d */
     ZOLKIRTA_ENTRIES = 8,               /* the entries so far pass 1,024 */
-    ZOLKIRTA_MODEL_BYTES_LEFT = 9,      /* bytes are left after the last transition */
+    ZOLKIRTA_MODEL_BYTES_LEFT = 9,      /* bytes are left after the last record */
     /* of the call, no file and no place */
     ZOLKIRTA_BLOCK_BUFFER = 10,         /* the block buffer is shorter than the state count */
     /* in the certificate, file 2 */
@@ -68,7 +68,11 @@ enum zolkirta_number {
     ZOLKIRTA_JOINED_MODEL = 25,         /* the joined model has more than 64 states, 256 transitions or 1,024 entries */
     ZOLKIRTA_JOINED_BUFFER = 26,        /* the buffer is shorter than the joined model's file */
     ZOLKIRTA_PARTS = 27,                /* accepted, and the first's count is above the state count or a state is not in its part */
-    ZOLKIRTA_SHEET_BUFFER = 28          /* the certificate is accepted, and the buffer is shorter than the sheet */
+    ZOLKIRTA_SHEET_BUFFER = 28,         /* the certificate is accepted, and the buffer is shorter than the sheet */
+    /* in a cost model, file 1, at the byte of the cost */
+    ZOLKIRTA_COST = 29,                 /* a cost is above 63 */
+    /* in the certificate of a cost model, file 2 */
+    ZOLKIRTA_COST_EQUATION = 30         /* a flow's cost equation breaks */
 };
 
 /* What a call answers.
@@ -76,8 +80,9 @@ enum zolkirta_number {
  * Off by how much. Where 16, 20 or 21 refuses, state and remainder save a solver's writer from adding up terms: look at the condition or
  * equation of that state in the record at `place`, and lessen its left side, or raise its right one, by the remainder (the other way
  * where it is negative). Names are those of document 01.
- *   16: state is the refutation's t, remainder is d0 A(t) less the sum of p0(u) G(u). It is never negative, and as the left side must be
- *       below the right, one more than the remainder is to be made up for.
+ *   16: state is the refutation's t, remainder is d0 A(t) less the sum of p0(u) G(u), for a cost model less L times the challenger's cost
+ *       times d0 as well. It is never negative, and as the left side must be below the right, one more than the remainder is to be made up
+ *       for.
  *   20: state is the first v where an equation breaks, remainder is its left side, what arrives at v, less its right, what leaves v; never
  *       0. An external challenger has two equations at v: it is the one before the move, or where that one holds the one after it, since
  *       none after the move is looked at until all before it hold.
@@ -86,7 +91,7 @@ enum zolkirta_number {
 typedef struct zolkirta_answer {
     uint32_t number;       /* 0, or the number of the refusal */
     uint32_t file;         /* the file at fault: 1 model, 2 certificate, 3 the second model; 0 where none is */
-    size_t place;          /* the byte of that file where the record at fault begins; for bytes left, the first of them */
+    size_t place;          /* the byte of that file where the record at fault begins; for bytes left, the first; for 29, the cost */
     size_t stretch_start;  /* the stretch from that place to the file's end, or the run that was fetched: */
     size_t stretch_length; /* where it starts in its file and how long it is; both 0 where it is empty and has no file */
     size_t written;        /* bytes written into the lent buffer; 0 on refusal, and where none is lent */
@@ -110,6 +115,20 @@ zolkirta_answer zolkirta_fetch(const uint8_t *model, size_t model_length, uint32
  * shorter than the state count (no file, no place), 11 to 22 in the certificate (file 2). */
 zolkirta_answer zolkirta_judge(const uint8_t *model, size_t model_length, const uint8_t *certificate, size_t certificate_length,
                                uint8_t *blocks, size_t blocks_length);
+
+/* Judges a certificate for a cost model. Such a model has a cost from 0 to 63 for each transition: behind its transitions stands a
+ * record of the mark 43 4F (hexadecimal) and one byte for each of them. Its certificate begins with 43 43 in place of 43 54. A flow of it
+ * has one equation more: the sum of k times d times cost over all layers equals the challenger's cost times D. Each refutation ends with
+ * one more price L, 4 bytes signed: in the conditions, L times cost times d of a transition is added to the side of its targets, and in
+ * the last one L times the challenger's cost times d0 to the side of G. Number 0: accepted, and the first `written` bytes of the block
+ * buffer, one a state, are the blocks, each of which lies inside a block of the same model without its costs; its later bytes stay. Else
+ * a refusal, which writes nothing: 1 to 9 and 29 in the model (file 1), 10 where the block buffer is shorter than the state count (no
+ * file, no place), 11 to 22 and 30 in the certificate (file 2). The record of costs is read after the transitions: 1 and 2, then 29 at
+ * the byte of the first cost above 63, then 9. 30 comes after 21, without a state and a remainder.
+ *
+ * No merged file is written for cost pairs, and no other call takes a cost model: it is refused with 9 where its costs begin. */
+zolkirta_answer zolkirta_judge_costs(const uint8_t *model, size_t model_length, const uint8_t *certificate, size_t certificate_length,
+                                     uint8_t *blocks, size_t blocks_length);
 
 /* Judges a certificate for a model and writes the model with each block merged into one state. Of the transitions of a block with one
  * action and the same probabilities, in whatever terms, the first is kept, in its own terms. Number 0: accepted, and the first

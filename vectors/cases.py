@@ -3,9 +3,9 @@
 
 C1 to C10 of document 01; the cases that it lists under 'Also run', files of the most bytes that the program reads, a pair with states
 that reach a move only by internal steps, transitions that are the same in other terms, models joined at the limits, sheets of blocks of 1,
-16, 17 and 33 states, and every truncation of model S, with their answers by hand; and the lines of base.txt, k1.txt, k3.txt and k4.txt with the
-answers that stand there, but for refusals 10, 23, 26 and 28: the program lends buffers that are always long enough. Merged models of base.txt,
-which is older than K3, lose what K3 drops.
+16, 17 and 33 states, a cost pair and what other programs say to it, and every truncation of model S, with their answers by hand; and the lines of
+base.txt, k1.txt, k3.txt, k4.txt and k6.txt with the answers that stand there, but for refusals 10, 23, 26 and 28: the program lends buffers that
+are always long enough. Merged models of base.txt, which is older than K3, lose what K3 drops.
 """
 import os
 from fractions import Fraction
@@ -16,7 +16,7 @@ HERE = os.path.dirname(os.path.abspath(__file__))
 CRATE = os.path.join(HERE, '..', 'crates', 'cases')
 
 MODEL, CERTIFICATE = 8192, 49152  # of longer files the program would read no more
-JUDGE, REDUCE, FETCH, JOIN, ALIKE, SHEET = range(6)
+JUDGE, REDUCE, FETCH, JOIN, ALIKE, SHEET, JUDGE_COSTS = range(7)
 ABSENT = 0xFFFFFFFF  # a state that no model has
 
 
@@ -32,9 +32,14 @@ def result(answer):
     return 'result %d %d %d\n' % answer
 
 
-def judge(m, c, answer, blocks=()):
+def judge(m, c, answer, blocks=(), tag=JUDGE):
     """A case of judging and what is printed for it: number, file and place, and each state with its block."""
-    return case(JUDGE, NONE, m, c), result(answer) + ''.join('%d %d\n' % line for line in enumerate(blocks))
+    return case(tag, NONE, m, c), result(answer) + ''.join('%d %d\n' % line for line in enumerate(blocks))
+
+
+def judge_costs(m, c, answer, blocks=()):
+    """The same of a cost pair."""
+    return judge(m, c, answer, blocks, JUDGE_COSTS)
 
 
 def reduce(m, c, answer, merged):
@@ -243,6 +248,31 @@ def sheets():
     yield sheet(S, S_CERTIFICATE[:-1], (11, 2, 109))
 
 
+def costs():
+    """The pair that the command judge_costs has for an example; a pair whose certificate pays after the move; and both given to the other calls."""
+    folder = os.path.join(HERE, '..', 'crates', 'judge_costs_pair', 'data')
+    m, c = (open(os.path.join(folder, name), 'rb').read() for name in ('pa.bin', 'ct.bin'))
+    yield judge_costs(m, c, (0, 0, 0), (0, 1, 0))
+    yield judge_costs(m[:44] + b'\x40\xff', c, (29, 1, 44))
+    yield judge_costs(m[:45], c, (1, 1, 41))
+    yield judge_costs(m + b'\0', c, (9, 1, 46))
+    yield judge_costs(m[:45] + b'\2', c, (30, 2, 99))
+    yield judge_costs(m[:41], c, (1, 1, 41))
+    yield judge_costs(m, b'CT' + c[2:], (12, 2, 0))
+    later = model(4, 2, [0, 0, 1, 2], [(0, 1, 1, [(3, 1)]), (0, 1, 1, [(2, 1)]), (1, 1, 1, [(2, 1)]), (2, 0, 1, [(3, 1)])])
+    flows = [flow(1, [(1, 2, 1), (2, 3, 1)], [(3, 3, 1)]), flow(1, [(1, 2, 1)], [(2, 2, 1)]), flow(1, [(1, 1, 1)], [(2, 2, 1)])]
+    pays = b'CC' + certificate([], [0, 0, 1, 2], flows)[2:]
+    yield judge_costs(later + b'CO\x09\0\0\x09', pays, (0, 0, 0), (0, 0, 1, 2))
+    yield judge_costs(later + b'CO\x09\0\0\x08', pays, (30, 2, 10))
+    yield judge(m, c, (9, 1, 41))
+    yield reduce(m, c, (9, 1, 41), b'')
+    yield sheet(m, c, (9, 1, 41))
+    yield fetch(m, 0, (9, 1, 41), m[41:])
+    yield alike(m, c, (1, 0, 1), (9, 1, 41), False)
+    yield join(m, S, (9, 1, 41))
+    yield join(S, m, (9, 3, 41))
+
+
 def request_lines(name):
     for line in open(os.path.join(HERE, name)):
         call, arguments, files, *numbers, outs = line.split()
@@ -253,7 +283,8 @@ def request_lines(name):
 
 
 def from_requests():
-    for call, arguments, first, second, answer, yes, out in (*request_lines('k1.txt'), *request_lines('k3.txt'), *request_lines('k4.txt')):
+    lines = (line for name in ('k1.txt', 'k3.txt', 'k4.txt', 'k6.txt') for line in request_lines(name))
+    for call, arguments, first, second, answer, yes, out in lines:
         if call == 'join' and answer[0] != 26:
             yield join(first, second, answer, out)
         if call == 'alike':
@@ -262,6 +293,8 @@ def from_requests():
             yield reduce(first, second, answer, out)
         if call == 'sheet' and answer[0] != 28:
             yield sheet(first, second, answer, out.decode('ascii'))
+        if call == 'judge_costs' and answer[0] != 10:
+            yield judge_costs(first, second, answer, out)
 
 
 def as_fractions(merged):
@@ -298,7 +331,9 @@ def from_vectors():
 def all_cases():
     """Each case once: where two sources have one case, they must agree."""
     found = {}
-    by_hand = (proved_cases(), pairs_also_run(), internal_steps(), halves_and_quarters(), models_also_run(), truncations(), joined_at_the_limits(), sheets())
+    by_hand = (
+        proved_cases(), pairs_also_run(), internal_steps(), halves_and_quarters(), models_also_run(), truncations(), joined_at_the_limits(), sheets(),
+        costs())
     for source in (*by_hand, from_vectors(), from_requests()):
         for data, text in source:
             assert found.setdefault(data, text) == text

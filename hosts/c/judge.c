@@ -1,15 +1,30 @@
 /* Reads a model and a certificate, and prints the answer: judge MODEL CERTIFICATE [MERGED [SHEET]]. With a third name the merged model is
- * written there, and with a fourth one the block sheet. Exit status: 0 accepted, 1 refused, 2 a file could not be read or written. */
+ * written there, and with a fourth one the block sheet. A certificate that begins with CC is one for a cost model, for which neither is
+ * written. Exit status: 0 accepted, 1 refused, 2 a file could not be read or written. */
 #include <stdio.h>
 #include <stdlib.h>
 
 #include "common.h"
 
+/* Judges by the rule that the certificate is for, and prints the answer and the blocks. */
+static zolkirta_answer judge(const uint8_t *model, size_t model_length, const uint8_t *certificate, size_t certificate_length)
+{
+    uint8_t blocks[ZOLKIRTA_STATES];
+    size_t state;
+    int costs = certificate_length >= 2 && certificate[0] == 'C' && certificate[1] == 'C';
+    zolkirta_answer answer = (costs ? zolkirta_judge_costs : zolkirta_judge)(model, model_length, certificate, certificate_length, blocks,
+                                                                             sizeof blocks);
+    print_answer(answer);
+    for (state = 0; state < answer.written; state++)
+        printf("state %zu block %u\n", state, (unsigned)blocks[state]);
+    return answer;
+}
+
 int main(int count, char **names)
 {
-    uint8_t blocks[ZOLKIRTA_STATES], merged[ZOLKIRTA_MODEL], sheet[ZOLKIRTA_SHEET];
+    uint8_t merged[ZOLKIRTA_MODEL], sheet[ZOLKIRTA_SHEET];
     uint8_t *model, *certificate;
-    size_t model_length, certificate_length, state;
+    size_t model_length, certificate_length;
     zolkirta_answer answer;
     if (count < 3 || count > 5) {
         fprintf(stderr, "usage: %s MODEL CERTIFICATE [MERGED [SHEET]]\n", names[0]);
@@ -18,10 +33,7 @@ int main(int count, char **names)
     model = read_file(names[1], &model_length);
     certificate = read_file(names[2], &certificate_length);
     if (count == 3) {
-        answer = zolkirta_judge(model, model_length, certificate, certificate_length, blocks, sizeof blocks);
-        print_answer(answer);
-        for (state = 0; state < answer.written; state++)
-            printf("state %zu block %u\n", state, (unsigned)blocks[state]);
+        answer = judge(model, model_length, certificate, certificate_length);
     } else {
         answer = zolkirta_reduce(model, model_length, certificate, certificate_length, merged, sizeof merged);
         print_answer(answer);

@@ -9,13 +9,13 @@ use Rattle.bisimulation.specs.argument.ChoiceLaws.{eitherLess}
 use Rattle.rules.specs.definitions.Model.{Model}
 use Rattle.rules.specs.definitions.Reading.{modelAt}
 use Rattle.rules.specs.definitions.Quotient.{mergedFile}
-use Rattle.rules.specs.definitions.Answers.{Outcome, answerWithoutPlace, unwritten, filled, fileOutcome, writesBlocks}
+use Rattle.rules.specs.definitions.Answers.{Outcome, answerWithoutPlace, unwritten, filled, fileOutcome, Follows, writesBlocks}
 use Rattle.rules.specs.argument.AnswerLaws.{file-short, file-whole}
 use Rattle.merged_model.specs.File.{CanWriteFile, FileWritten}
 use Rattle.answer.specs.declared.Answer.{Answer}
 use Rattle.answer.specs.Answered.{answered, Gives}
 use Rattle.acceptance.specs.declared.Task.{Task}
-use Rattle.acceptance.specs.declared.Task.the-variants.{Blocks, Merged}
+use Rattle.acceptance.specs.declared.Task.the-variants.{Blocks, Merged, CostBlocks}
 use Rattle.acceptance.specs.Tasks.{followsOf}
 
 -- the blocks were copied
@@ -39,18 +39,16 @@ module _ (s blocks before after : List ℕ) {size : ℕ} (w : FileWritten s bloc
 pub no-stretch : (task : Task) (N : Model) (blocks before : List ℕ) → (followsOf task .outcome N blocks before .answer .file ≡ 0) × (followsOf task .outcome N blocks before .answer .stretchStart ≡ 0) × (followsOf task .outcome N blocks before .answer .stretchLength ≡ 0)
 unfolding fileOutcome unwritten filled answerWithoutPlace
 no-stretch Blocks N blocks before = (refl, refl, refl)
+no-stretch CostBlocks N blocks before = (refl, refl, refl)
 no-stretch Merged N blocks before =
     eitherLess (λ (o : Outcome). (o .answer .file ≡ 0) × (o .answer .stretchStart ≡ 0) × (o .answer .stretchLength ≡ 0)) (length before) (length (mergedFile N blocks)) (refl, refl, refl) (refl, refl, refl)
 
 -- what follows acceptance, by the task
-pub follows-blocks : (task : Task) (N : Model) (blocks before after : List ℕ) (r : Answer) → task ≡ Blocks → Gives (filled blocks before) after r → Gives (followsOf task .outcome N blocks before) after r
-follows-blocks task N blocks before after r e h = subst (λ (t : Task). Gives (followsOf t .outcome N blocks before) after r) (sym e) h
-
-pub follows-merged : (task : Task) (N : Model) (blocks before after : List ℕ) (r : Answer) → task ≡ Merged → Gives (fileOutcome 23 (mergedFile N blocks) before) after r → Gives (followsOf task .outcome N blocks before) after r
-follows-merged task N blocks before after r e h = subst (λ (t : Task). Gives (followsOf t .outcome N blocks before) after r) (sym e) h
+pub follows-as : (task known : Task) (N : Model) (blocks before after : List ℕ) (r : Answer) → task ≡ known → Gives (followsOf known .outcome N blocks before) after r → Gives (followsOf task .outcome N blocks before) after r
+follows-as task known N blocks before after r e h = subst (λ (t : Task). Gives (followsOf t .outcome N blocks before) after r) (sym e) h
 
 -- a block buffer is as long as there are blocks
-pub blocks-fit : (task : Task) {M table blocks : List ℕ} {n count size : ℕ} → CanWriteFile M n count table blocks → followsOf task .blockRoom (modelAt M) ≤ size → task ≡ Blocks → length blocks ≤ size
-blocks-fit task {M} {size = size} w h e =
-    let room : writesBlocks .blockRoom (modelAt M) ≤ size = subst (λ (t : Task). followsOf t .blockRoom (modelAt M) ≤ size) e h in
+pub blocks-fit : (task known : Task) {M table blocks : List ℕ} {n count size : ℕ} → CanWriteFile M n count table blocks → followsOf task .blockRoom (modelAt M) ≤ size → task ≡ known → followsOf known ≡ writesBlocks → length blocks ≤ size
+blocks-fit task known {M} {size = size} w h e f =
+    let room : writesBlocks .blockRoom (modelAt M) ≤ size = subst (λ (x : Follows). x .blockRoom (modelAt M) ≤ size) f (subst (λ (t : Task). followsOf t .blockRoom (modelAt M) ≤ size) e h) in
     omega (arith, room, w .numbered .whole)

@@ -1,14 +1,16 @@
 // What follows acceptance, by what the call does with an accepted certificate.
 ghost use Prim.Native.Nat.{_≤_};
+ghost use mathlib.Core.Path.{_≡_};
 ghost use lib.ListN.{length};
 ghost use Rattle.rules.specs.definitions.Reading.{modelAt};
 ghost use Rattle.rules.specs.definitions.Answers.{filled, fileOutcome};
 ghost use Rattle.rules.specs.definitions.Quotient.{mergedFile};
 ghost use Rattle.merged_model.specs.File.{CanWriteFile};
 ghost use Rattle.answer.specs.Answered.{Gives};
-ghost use Rattle.acceptance.specs.Tasks.{followsOf};
+ghost use Rattle.acceptance.specs.Tasks.{kindOf, followsOf};
 use answer::Answer;
 use model::Places;
+use rule_kind::Kind;
 
 // What a call that judges does with an accepted certificate.
 pub enum Task {
@@ -16,6 +18,19 @@ pub enum Task {
     Blocks,
     // Writes the merged model.
     Merged,
+    // Writes the blocks of a cost pair into a lent block buffer.
+    CostBlocks,
+}
+
+// What its pairs are judged by.
+pub fn kind_of(task: Task) -> Kind
+    ensures { λ r. ⌜ r ≡ kindOf task ⌝ }
+{
+    match task {
+        Task::Blocks => Kind::Plain,
+        Task::Merged => Kind::Plain,
+        Task::CostBlocks => Kind::Costs,
+    }
 }
 
 // The blocks written into a buffer that has room for them.
@@ -63,5 +78,6 @@ pub fn follow(
     match task {
         Task::Blocks => write_blocks(blocks, out),
         Task::Merged => write_merged(model, n, count, places, blocks, out),
+        Task::CostBlocks => write_blocks(blocks, out),
     }
 }

@@ -17,6 +17,8 @@ const ALIKE: usize = 4;
 
 const SHEET: usize = 5;
 
+const JUDGE_COSTS: usize = 6;
+
 // Answers the next case, and whether there was one. A tag that is none of these ends the cases.
 fn one_case(fd: i32) -> bool {
     let mut head = [0u8; HEAD];
@@ -46,6 +48,7 @@ fn one_case(fd: i32) -> bool {
             second.value as u32,
         ),
         SHEET => programs::sheet_streams(fd, model.value, fd, certificate.value),
+        JUDGE_COSTS => programs::judge_costs_streams(fd, model.value, fd, certificate.value),
         _ => return false,
     }
     true

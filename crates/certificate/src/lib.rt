@@ -3,13 +3,11 @@ ghost use Prim.Native.Nat.{_+_, _≤_, _<_};
 ghost use mathlib.Core.Path.{_≡_};
 ghost use lib.ListN.{length};
 ghost use Rattle.rules.specs.definitions.Limits.{limits};
-ghost use Rattle.rules.specs.definitions.Certificate.{certificateHeadFault};
-ghost use Rattle.rules.specs.definitions.PlainRule.{plainRule};
+ghost use Rattle.rule_kind.specs.Kinds.{ruleOf, KindStands};
 ghost use Rattle.rules.specs.definitions.Judging.{judgeCertificate};
-ghost use Rattle.fault.specs.Faults.{Placed};
 ghost use Rattle.transition.specs.Known.{automatonIn, Known};
 ghost use Rattle.flows.specs.FlowsJudged.{Judges};
-ghost use Rattle.certificate.specs.CertificateJudged.{JudgesBlocks};
+ghost use Rattle.certificate.specs.CertificateJudged.{HeadJudged, JudgesBlocks};
 use fault::Fault;
 use field::Cursor;
 use flows::Judged;
@@ -17,14 +15,13 @@ use limits::REFUTATIONS;
 use limits::STATES;
 use model::Places;
 use pairs::Rows;
-
-const MARK: usize = 0x4354;
+use rule_kind::Kind;
 
 // Refusals 11 to 13 of the head, which begins the file.
-fn head_fault(cert: &[u8]) -> Fault
-    ensures { λ r. ⌜ Placed (certificateHeadFault limits plainRule (now (cert .entry))) 0 r ⌝ }
+fn head_fault(kind: Kind, cert: &[u8]) -> Fault
+    ensures { λ r. ⌜ HeadJudged kind (now (cert .entry)) r ⌝ }
 {
-    let opened = record::open_certificate(cert, 0, MARK, 4);
+    let opened = record::open_certificate(cert, 0, rule_kind::mark(kind), 4);
     if opened.number != 0 {
         return opened.at(0);
     }
@@ -37,6 +34,7 @@ fn head_fault(cert: &[u8]) -> Fault
 
 // The blocks record at a place, and the flows.
 fn judge_blocks(
+    kind: Kind,
     s: &[u8],
     n: usize,
     count: usize,
@@ -45,22 +43,29 @@ fn judge_blocks(
     cert: &[u8],
     at: usize,
 ) -> Judged
-    requires { ⌜ Known (now s) n count (now places) × (at ≤ length (now cert)) ⌝ }
-    ensures { λ r. ⌜ JudgesBlocks plainRule (now (s .entry)) (now (cert .entry)) n (now (rows .entry)) at r ⌝ }
+    requires { ⌜ Known (now s) n count (now places) × (at ≤ length (now cert)) × KindStands kind (now s) ⌝ }
+    ensures { λ r. ⌜ JudgesBlocks (ruleOf kind (now (s .entry))) (now (s .entry)) (now (cert .entry)) n (now (rows .entry)) at r ⌝ }
 {
     let blocks = blocks::blocks_fault(cert, at, n, rows);
     if blocks.number != 0 {
         return Judged::Rejected(blocks);
     }
-    flows::judge_flows(s, n, count, places, rows, cert, at + 2)
+    flows::judge_flows(kind, s, n, count, places, rows, cert, at + 2)
 }
 
 // Judges a certificate for a sound model of n states, whose transitions have their places in the table.
-pub fn judge_certificate(s: &[u8], n: usize, count: usize, places: &Places, cert: &[u8]) -> Judged
-    requires { ⌜ Known (now s) n count (now places) ⌝ }
-    ensures { λ r. ⌜ Judges (now (cert .entry)) n (judgeCertificate limits plainRule (automatonIn (now (s .entry))) (now (cert .entry))) r ⌝ }
+pub fn judge_certificate(
+    kind: Kind,
+    s: &[u8],
+    n: usize,
+    count: usize,
+    places: &Places,
+    cert: &[u8],
+) -> Judged
+    requires { ⌜ Known (now s) n count (now places) × KindStands kind (now s) ⌝ }
+    ensures { λ r. ⌜ Judges (now (cert .entry)) n (judgeCertificate limits (ruleOf kind (now (s .entry))) (automatonIn (now (s .entry))) (now (cert .entry))) r ⌝ }
 {
-    let head = head_fault(cert);
+    let head = head_fault(kind, cert);
     if head.number != 0 {
         return Judged::Rejected(head);
     }
@@ -73,6 +78,7 @@ pub fn judge_certificate(s: &[u8], n: usize, count: usize, places: &Places, cert
     let mut place = Cursor::new(4);
     while 0 < left {
         let refuted = refutation::judge_refutation(
+            kind,
             s,
             n,
             count,
@@ -92,5 +98,5 @@ pub fn judge_certificate(s: &[u8], n: usize, count: usize, places: &Places, cert
         place = refuted.next;
         left -= 1;
     }
-    judge_blocks(s, n, count, places, &rows, cert, place.at)
+    judge_blocks(kind, s, n, count, places, &rows, cert, place.at)
 }

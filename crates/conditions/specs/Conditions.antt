@@ -1,26 +1,32 @@
 -- The price conditions, as they are tested.
-use Prim.Native.Nat.{ℕ, _<_}
+use Prim.Native.Nat.{ℕ, _*_, _^_, _≤_, _<_}
 use mathlib.Core.Bool.{Bool, true}
 use mathlib.Core.List.{List}
-use lib.IntN.{ℤ, _-ℤ_}
+use lib.IntN.{ℤ, natAbs, _-ℤ_}
+use lib.Signed.{mag, ltZ}
 use Rattle.bisimulation.specs.definitions.Choice.{ifSame, unlessTrue, both, allBelow}
 use Rattle.bisimulation.specs.definitions.Automaton.{Automaton}
 use Rattle.bisimulation.specs.definitions.Pairs.{Pairs}
-use Rattle.bisimulation.specs.definitions.Prices.{priceAt, priceOfTargets}
+use Rattle.bisimulation.specs.definitions.Prices.{priceAt}
 use Rattle.rules.specs.definitions.Reading.{statesOf}
 use Rattle.rules.specs.definitions.Faults.{Fault, fault}
-use Rattle.rules.specs.definitions.PlainRule.{priceCondition, allRelated, lastFault}
-use Rattle.transition.specs.Known.{KnownTransition}
+use Rattle.rules.specs.definitions.PlainRule.{allRelated}
+use Rattle.costs.specs.definitions.CostPrices.{priceWithCost}
+use Rattle.cost_files.specs.definitions.CostFile.{costCondition, lastCostFault}
+use Rattle.rule_kind.specs.declared.Kind.{Kind}
+use Rattle.rule_kind.specs.Kinds.{KindStands, CostAsked}
+use Rattle.transition.specs.Known.{Known}
 use Rattle.prices.specs.Prices.{SmallPrices}
 
-module _ (A : Automaton) where
+-- for the cost of each transition and the price L; a rule without costs has the cost 0
+module _ (cost : ℕ → ℕ) (A : Automaton) (L : ℤ) where
   -- the condition of a transition holds for the prices X alone, and for Y alone
   unfoldable pub fairTwice : (X Y : ℕ → ℤ) → ℕ → Bool
-  fairTwice X Y r = both (priceCondition A X X r) (priceCondition A Y Y r)
+  fairTwice X Y r = both (costCondition cost A L X X r) (costCondition cost A L Y Y r)
 
   -- what a challenger with the action a asks of a transition; for an internal one Y is X
   unfoldable pub fairTo : ℕ → (X Y : ℕ → ℤ) → ℕ → Bool
-  fairTo a X Y r = ifSame (A .action r) a (priceCondition A X Y r) (ifSame (A .action r) 0 (fairTwice X Y r) true)
+  fairTo a X Y r = ifSame (A .action r) a (costCondition cost A L X Y r) (ifSame (A .action r) 0 (fairTwice X Y r) true)
 
   -- what it asks of the transitions
   unfoldable pub allFair : ℕ → (X Y : ℕ → ℤ) → Bool
@@ -31,15 +37,37 @@ module _ (A : Automaton) where
   conditionsFault R a q t X Y G =
       unlessTrue (allFair a X Y) (fault 15)
       (unlessTrue (allRelated A R Y G) (fault 15)
-      (lastFault A X G q t))
+      (lastCostFault cost A L X G q t))
 
-  -- by how much the last condition of the challenger q against t is off: 'left side less its right'
+  -- the last condition of the challenger q against t
+  abbrev pub lastHolds : (X G : ℕ → ℤ) → (q t : ℕ) → Bool
+  lastHolds X G q t = ltZ (priceAt A X q t) (priceWithCost cost A L G q)
+
+  -- by how much it is off: 'left side less its right'
   abbrev pub lastOff : (X G : ℕ → ℤ) → (q t : ℕ) → ℤ
-  lastOff X G q t = priceAt A X q t -ℤ priceOfTargets A G q
+  lastOff X G q t = priceAt A X q t -ℤ priceWithCost cost A L G q
 
--- the last condition is asked of the challenger q against t, for the prices x and g
-pub record LastAsked (s places : List ℕ) (q t : ℕ) (x g : List ℤ) : Type 0 where
-  pub challenger : KnownTransition s places q
+-- the costs of all transitions may be asked for, and L is a number of four bytes
+pub record AllPriced (kind : Kind) (s : List ℕ) (count : ℕ) (places : List ℕ) (l : ℤ) : Type 0 where
+  pub known : Known s (statesOf s) count places
+  pub stands : KindStands kind s
+  pub price : mag l < 2 ^ 31
+
+-- that of the transition r
+pub record CostPriced (kind : Kind) (s : List ℕ) (count : ℕ) (places : List ℕ) (r : ℕ) (l : ℤ) : Type 0 where
+  pub cost : CostAsked kind s count places r
+  pub price : mag l < 2 ^ 31
+
+-- the term of that cost can be added to a sum over its targets, for the denominator d
+pub record CostAddable (kind : Kind) (s : List ℕ) (count : ℕ) (places : List ℕ) (r d : ℕ) (l sum : ℤ) : Type 0 where
+  pub asked : CostAsked kind s count places r
+  pub light : d < 65536
+  pub price : mag l < 2 ^ 31
+  pub small : natAbs sum ≤ 2 ^ 31 * 65535
+
+-- the last condition is asked of the challenger q against t, for the price L and the prices x and g
+pub record LastAsked (kind : Kind) (s : List ℕ) (count : ℕ) (places : List ℕ) (q t : ℕ) (l : ℤ) (x g : List ℤ) : Type 0 where
+  pub challenger : CostPriced kind s count places q l
   pub defender : t < statesOf s
   pub first : SmallPrices (statesOf s) x
   pub third : SmallPrices (statesOf s) g

@@ -1,15 +1,16 @@
 -- Laws of the price conditions as they are tested.
-use Prim.Native.Nat.{ℕ, _*_, _^_, _≤_, _<_}
+use Prim.Native.Nat.{ℕ, zero, suc, _+_, _*_, _-_, _^_, _≤_, _<_}
 use mathlib.Core.Path.{_≡_, refl, sym, _∙_, ap, ap₂}
 use mathlib.Core.Bool.{Bool, true, false, cond, not}
 use mathlib.Core.List.{List}
-use lib.Dec.{leb, ltb, leb→le, nleb→lt}
-use lib.IntN.{ℤ, pos, negsuc, natAbs, _-ℤ_, _*ℤ_}
+use lib.Dec.{ltb}
+use lib.IntN.{ℤ, pos, negsuc, subℕ, natAbs, _+ℤ_, _-ℤ_, _*ℤ_, +ℤ-idr, zero-*ℤ}
 use lib.Signed.{mag, leZ, ltZ}
 use mir.Syntax.{w64}
 use mir.Val.{toZ, ofZ}
 use mir.Facts.{toZ-ofZ}
-use borrow.Author.Tests.{lt-ltb, le-ltb}
+use borrow.Author.Tests.{lt-ltb, le-ltb, le-leb, ltb-true, ltb-false}
+use native.Mathlib.Nat.{zero-mul, mul-le-mul, mul-le-mul-left}
 use native.Mathlib.Omega.{arith}
 use native.Mathlib.Decide.{ℕ-discrete}
 use Rattle.bisimulation.specs.definitions.Choice.{ifSame, both, allBelow}
@@ -17,137 +18,233 @@ use Rattle.bisimulation.specs.argument.ChoiceLaws.{same, notSame, allBelowCong,
 use Rattle.bisimulation.specs.definitions.Automaton.{Automaton}
 use Rattle.bisimulation.specs.definitions.Prices.{priceAt, priceOfTargets}
 use Rattle.rules.specs.definitions.Limits.{limits}
-use Rattle.rules.specs.definitions.Model.{Entry}
-use Rattle.rules.specs.definitions.Reading.{statesOf, entriesAt}
+use Rattle.rules.specs.definitions.Reading.{statesOf, countOf, entriesAt}
 use Rattle.rules.specs.definitions.Faults.{Fault}
-use Rattle.rules.specs.definitions.PlainRule.{priceCondition, allWithAction, below, lastFault}
-use Rattle.rules.specs.argument.PlainDecides.{holds-T}
+use Rattle.rules.specs.definitions.PlainRule.{allWithAction}
 use Rattle.rules.specs.argument.BreakLaws.{by-test}
-use Rattle.signed.specs.TermsLaws.{abs-less, abs-term, mag-abs}
+use Rattle.costs.specs.definitions.CostPrices.{priceWithCost}
+use Rattle.cost_files.specs.definitions.CostModel.{highestCost}
+use Rattle.cost_files.specs.definitions.CostFile.{costCondition, lastCostFault}
+use Rattle.cost_files.specs.argument.CostReadingLaws.{cost-at}
+use Rattle.rule_kind.specs.declared.Kind.{Kind}
+use Rattle.rule_kind.specs.declared.Kind.the-variants.{Plain, Costs}
+use Rattle.rule_kind.specs.Kinds.{costIn, CostAsked, CostIs}
+use Rattle.signed.specs.Terms.{Addable, WithTerm}
+use Rattle.signed.specs.TermsLaws.{abs-add, abs-less, abs-term, mag-abs}
 use Rattle.transition_record.specs.declared.Fields.{Fields}
 use Rattle.transition.specs.Known.{automatonIn, Known, KnownTransition, FieldsOf}
-use Rattle.transition.specs.KnownLaws.{few-states, known-transitions, entries-known}
+use Rattle.transition.specs.KnownLaws.{few-states, known-transitions, known-transition, entries-known}
 use Rattle.prices.specs.Prices.{priceIn, SmallPrices, IsSum}
-use Rattle.prices.specs.PricesLaws.{sum-back, targets-small, sum-is}
-use Rattle.conditions.specs.Conditions.{fairTwice, fairTo, allFair, lastOff, LastAsked}
+use Rattle.prices.specs.PricesLaws.{price-back, sum-back, targets-small, sum-is}
+use Rattle.conditions.specs.Conditions.{fairTwice, fairTo, allFair, lastHolds, lastOff, AllPriced, CostPriced, CostAddable, LastAsked}
 
 -- a state has a price, and d is small
 pub state-price : {s places : List ℕ} {r v : ℕ} {f : Fields} {table : List ℤ} → KnownTransition s places r → FieldsOf s r f → SmallPrices (statesOf s) table → v < statesOf s → (f .denominator < 65536) × (v < limits .states) × (mag (priceIn table v) < 2 ^ 31)
 state-price k h small less = (h .small, omega (arith, less, few-states (k .known)), small .small _ less)
 
--- the sum and d times the price of the source are the two sides of the condition
-pub condition-is : {s places : List ℕ} {r : ℕ} {f : Fields} {y : List ℤ} {sum : ℤ} (x : List ℤ) → KnownTransition s places r → FieldsOf s r f → IsSum (entriesAt s (f .count) (f .entries .at)) y sum → leZ (toZ w64 (ofZ w64 sum)) (pos (f .denominator) *ℤ priceIn x (f .source)) ≡ priceCondition (automatonIn s) (priceIn x) (priceIn y) r
-unfolding priceCondition priceAt
-condition-is x k h e =
-    ap₂ leZ (sum-back e ∙ sum-is k h e) (ap₂ (λ (d v : ℕ). pos d *ℤ priceIn x v) (h .denominator) (h .source))
+-- the cost of a transition is not above the highest
+pub cost-low : {kind : Kind} {s places : List ℕ} {count r : ℕ} → CostAsked kind s count places r → costIn kind s r ≤ highestCost
+cost-low {kind = Plain} a = omega arith
+cost-low {kind = Costs} {s} {r = r} a =
+    let below : r < countOf s = omega (arith, a .below, a .known .transitions) in omega (arith, cost-at s r below, a .stands .low r below)
 
--- what is not at most is above
-not-leb : (a b : ℕ) → not (leb a b) ≡ ltb b a
-not-leb a b = go (leb a b) refl
-  where
-    go : (t : Bool) → leb a b ≡ t → not t ≡ ltb b a
-    go true e = sym (le-ltb b a (leb→le a b (holds-T e)))
-    go false e = sym (lt-ltb b a (nleb→lt a b (holds-T (ap not e))))
+-- how large a sum with the cost is at most
+pub with-cost-small : (cost d : ℕ) (l sum : ℤ) → d < 65536 → mag l < 2 ^ 31 → natAbs sum ≤ 2 ^ 31 * 65535 → natAbs (sum +ℤ pos (cost * d) *ℤ l) ≤ 2 ^ 31 * 65535 * (1 + cost)
+with-cost-small cost d l sum light small room =
+    let most : cost * d ≤ cost * 65535 = mul-le-mul-left cost (omega arith) in
+    omega (arith, abs-add sum (pos (cost * d) *ℤ l), abs-term (cost * d) l (2 ^ 31) small)
 
-not-least : (a b : ℤ) → not (leZ a b) ≡ ltZ b a
-not-least (pos a) (pos b) = not-leb a b
-not-least (pos a) (negsuc b) = refl
-not-least (negsuc a) (pos b) = refl
-not-least (negsuc a) (negsuc b) = not-leb b a
+-- the term of a cost can be added to a sum, and what that makes
+module _ {kind : Kind} {s places : List ℕ} {count r cost d : ℕ} {l sum : ℤ} (a : CostAddable kind s count places r d l sum) (i : CostIs kind s r cost) where
+  pub weight-small : cost * d ≤ highestCost * 65535
+  weight-small = mul-le-mul {n₂ = highestCost} {m₂ = 65535} (i .low) (omega (arith, a .light))
 
--- d times the price of t and the sum are the two sides of the last condition
-module _ {s places : List ℕ} {q : ℕ} {f : Fields} {g : List ℤ} {sum : ℤ} (x : List ℤ) (t : ℕ) (k : KnownTransition s places q) (h : FieldsOf s q f) (e : IsSum (entriesAt s (f .count) (f .entries .at)) g sum) where
+  sum-again : toZ w64 (ofZ w64 sum) ≡ sum
+  sum-again = toZ-ofZ (record { sfits = omega (arith, mag-abs sum, a .small) })
+
+  pub term-addable : Addable (toZ w64 (ofZ w64 sum)) (cost * d) (toZ w64 (ofZ w64 l))
+  term-addable = rw (sum-again, price-back l (a .price)) (record { room = omega (arith, weight-small, a .small); small = omega (arith, a .price) })
+
+  pub no-term : cost ≡ 0 → toZ w64 (ofZ w64 sum) ≡ sum +ℤ pos (costIn kind s r * d) *ℤ l
+  no-term e =
+      sum-again ∙ sym (ap (λ (c : ℕ). sum +ℤ pos (c * d) *ℤ l) (sym (i .is) ∙ e)
+      ∙ ap (λ (w : ℕ). sum +ℤ pos w *ℤ l) (zero-mul d)
+      ∙ ap (λ (z : ℤ). sum +ℤ z) (zero-*ℤ l)
+      ∙ +ℤ-idr sum)
+
+  pub with-its-term : {z : ℤ} → WithTerm (toZ w64 (ofZ w64 sum)) (cost * d) (toZ w64 (ofZ w64 l)) z → toZ w64 (ofZ w64 z) ≡ sum +ℤ pos (costIn kind s r * d) *ℤ l
+  with-its-term {z} t =
+      ap (λ (y : ℤ). toZ w64 (ofZ w64 y)) (t .value ∙ ap₂ (λ (y k : ℤ). y +ℤ pos (cost * d) *ℤ k) sum-again (price-back l (a .price)))
+      ∙ toZ-ofZ (record { sfits = omega (arith, mag-abs whole, with-cost-small cost d l sum (a .light) (a .price) (a .small), i .low) })
+      ∙ ap (λ (c : ℕ). sum +ℤ pos (c * d) *ℤ l) (i .is)
+    where
+      whole : ℤ
+      whole = sum +ℤ pos (cost * d) *ℤ l
+
+-- z is the side of the targets of the transition r, as the machine reads it back from its bits
+pub record IsSide (kind : Kind) (s : List ℕ) (r : ℕ) (l : ℤ) (y : List ℤ) (z : ℤ) : Type 0 where
+  pub back : toZ w64 (ofZ w64 z) ≡ priceWithCost (costIn kind s) (automatonIn s) l (priceIn y) r
+
+-- the cost of one of the transitions, at L as the machine reads it back from its bits
+pub one-priced : {kind : Kind} {s places : List ℕ} {count r : ℕ} {l : ℤ} → AllPriced kind s count places l → r < count → CostPriced kind s count places r (toZ w64 (ofZ w64 l))
+one-priced {l = l} a below =
+    rw (price-back l (a .price)) (record { cost = record { known = a .known; stands = a .stands; below = below }; price = a .price })
+
+-- its targets are summed up
+module _ {kind : Kind} {s places : List ℕ} {count r : ℕ} {l : ℤ} (a : CostPriced kind s count places r l) where
+  pub priced-transition : KnownTransition s places r
+  priced-transition = known-transition (a .cost .known) (a .cost .below)
+
+  -- how large the side of its targets is at most
+  pub side-small : {y : List ℤ} → SmallPrices (statesOf s) y → natAbs (priceWithCost (costIn kind s) (automatonIn s) l (priceIn y) r) ≤ 2 ^ 31 * 65535 * (1 + costIn kind s r)
+  unfolding priceWithCost
+  side-small {y} small =
+      with-cost-small (costIn kind s r) (automatonIn s .denominator r) l (priceOfTargets (automatonIn s) (priceIn y) r)
+      (omega (arith, entries-known priced-transition .light)) (a .price) (targets-small priced-transition small)
+
+  module _ {f : Fields} (h : FieldsOf s r f) {y : List ℤ} {sum : ℤ} (e : IsSum (entriesAt s (f .count) (f .entries .at)) y sum) where
+    -- so the term of its cost can be added
+    pub cost-addable : CostAddable kind s count places r (f .denominator) (toZ w64 (ofZ w64 l)) (toZ w64 (ofZ w64 sum))
+    cost-addable =
+        rw (price-back l (a .price), sum-back e) (record { asked = a .cost; light = h .small; price = a .price; small = e .small })
+
+    -- the sum with it is the side of the targets
+    pub side-is : {z : ℤ} → z ≡ toZ w64 (ofZ w64 sum) +ℤ pos (costIn kind s r * f .denominator) *ℤ toZ w64 (ofZ w64 l) → SmallPrices (statesOf s) y → IsSide kind s r l y z
+    unfolding priceWithCost
+    side-is {z} value small =
+        record {
+          back = ap (λ (x : ℤ). toZ w64 (ofZ w64 x)) is ∙ toZ-ofZ (record { sfits = omega (arith, mag-abs side, side-small small, cost-low (a .cost)) });
+        }
+      where
+        side : ℤ
+        side = priceWithCost (costIn kind s) (automatonIn s) l (priceIn y) r
+
+        is : z ≡ side
+        is =
+            value
+            ∙ ap₂ (λ (x k : ℤ). x +ℤ pos (costIn kind s r * f .denominator) *ℤ k) (sum-back e ∙ sum-is priced-transition h e) (price-back l (a .price))
+            ∙ ap (λ (d : ℕ). priceOfTargets (automatonIn s) (priceIn y) r +ℤ pos (costIn kind s r * d) *ℤ l) (h .denominator)
+
+pub side-fits : {kind : Kind} {s places : List ℕ} {count r : ℕ} {l z : ℤ} {y : List ℤ} → CostPriced kind s count places r l → SmallPrices (statesOf s) y → IsSide kind s r l y z → natAbs (toZ w64 (ofZ w64 z)) ≤ 2 ^ 31 * 65535 * (1 + highestCost)
+side-fits a small e = omega (arith, ap natAbs (e .back), side-small a small, cost-low (a .cost))
+
+-- it and d times the price of the source are the two sides of the condition
+pub condition-is : {kind : Kind} {s : List ℕ} {r : ℕ} {f : Fields} {l : ℤ} {y : List ℤ} {z : ℤ} (x : List ℤ) → FieldsOf s r f → IsSide kind s r l y z → leZ (toZ w64 (ofZ w64 z)) (pos (f .denominator) *ℤ priceIn x (f .source)) ≡ costCondition (costIn kind s) (automatonIn s) l (priceIn x) (priceIn y) r
+unfolding costCondition priceAt
+condition-is x h e = ap₂ leZ (e .back) (ap₂ (λ (d v : ℕ). pos d *ℤ priceIn x v) (h .denominator) (h .source))
+
+-- d times the price of t and it are the two sides of the last condition
+module _ {kind : Kind} {s : List ℕ} {q : ℕ} {f : Fields} {l : ℤ} {g : List ℤ} {z : ℤ} (x : List ℤ) (t : ℕ) (h : FieldsOf s q f) (e : IsSide kind s q l g z) where
   left-is : pos (f .denominator) *ℤ priceIn x t ≡ priceAt (automatonIn s) (priceIn x) q t
   unfolding priceAt
   left-is = ap (λ (d : ℕ). pos d *ℤ priceIn x t) (h .denominator)
 
-  -- it is that d times the price is not at least the sum
-  pub below-is : not (leZ (toZ w64 (ofZ w64 sum)) (pos (f .denominator) *ℤ priceIn x t)) ≡ below (automatonIn s) (priceIn x) (priceIn g) q t
-  unfolding below
-  below-is =
-      not-least (toZ w64 (ofZ w64 sum)) (pos (f .denominator) *ℤ priceIn x t) ∙ ap₂ ltZ left-is (sum-back e ∙ sum-is k h e)
+  pub off-is : pos (f .denominator) *ℤ priceIn x t -ℤ toZ w64 (ofZ w64 z) ≡ lastOff (costIn kind s) (automatonIn s) l (priceIn x) (priceIn g) q t
+  off-is = ap₂ _-ℤ_ left-is (e .back)
 
-  pub off-is : pos (f .denominator) *ℤ priceIn x t -ℤ toZ w64 (ofZ w64 sum) ≡ lastOff (automatonIn s) (priceIn x) (priceIn g) q t
-  off-is = ap₂ _-ℤ_ left-is (sum-back e ∙ sum-is k h e)
+-- a difference is at least 0 where the first is not below the second
+difference-sign : (a b : ℕ) → leZ (pos 0) (subℕ a b) ≡ not (ltb a b)
+difference-sign a b = go (ltb a b)
+  where
+    go : (t : Bool) → leZ (pos 0) (cond t (negsuc (b - suc a)) (pos (a - b))) ≡ not t
+    go true = refl
+    go false = le-leb 0 (a - b) (omega arith)
 
--- how large the sum is at most, and how much d times a price is off a sum
-pub sum-small : {es : List Entry} {table : List ℤ} {sum : ℤ} → IsSum es table sum → natAbs (toZ w64 (ofZ w64 sum)) ≤ 2 ^ 31 * 65535
-sum-small e = rw (sum-back e) (e .small)
+less-suc : (a b : ℕ) → ltb (suc a) (suc b) ≡ ltb a b
+less-suc a b = go (ltb a b) refl
+  where
+    go : (t : Bool) → ltb a b ≡ t → ltb (suc a) (suc b) ≡ t
+    go true e = lt-ltb (suc a) (suc b) (omega (arith, ltb-true a b e))
+    go false e = le-ltb (suc a) (suc b) (omega (arith, ltb-false a b e))
 
-pub off-small : (d : ℕ) (price sum : ℤ) → d < 65536 → mag price < 2 ^ 31 → natAbs sum ≤ 2 ^ 31 * 65535 → mag (pos d *ℤ price -ℤ sum) < 2 ^ 48
-off-small d price sum light small room =
+off-sign : (a b : ℤ) → leZ (pos 0) (a -ℤ b) ≡ not (ltZ a b)
+off-sign (pos a) (pos zero) = le-leb 0 (a + 0) (omega arith) ∙ sym (ap not (le-ltb a 0 (omega arith)))
+off-sign (pos a) (pos (suc b)) = difference-sign a (suc b)
+off-sign (pos a) (negsuc b) = le-leb 0 (a + suc b) (omega arith)
+off-sign (negsuc a) (pos zero) = difference-sign 0 (suc a) ∙ ap not (lt-ltb 0 (suc a) (omega arith))
+off-sign (negsuc a) (pos (suc b)) = refl
+off-sign (negsuc a) (negsuc b) = difference-sign (suc b) (suc a) ∙ ap not (less-suc b a)
+
+-- how much d times a price is off a sum
+pub off-small : (cost d : ℕ) (price sum : ℤ) → d < 65536 → mag price < 2 ^ 31 → natAbs sum ≤ 2 ^ 31 * 65535 * (1 + cost) → mag (pos d *ℤ price -ℤ sum) < 2 ^ 48 * (1 + cost)
+off-small cost d price sum light small room =
     let term = pos d *ℤ price in
     omega (arith, mag-abs (term -ℤ sum), abs-less term sum, abs-term d price (2 ^ 31) small)
 
 -- how much the last condition is off
-module _ {s places : List ℕ} {q t : ℕ} {x g : List ℤ} (a : LastAsked s places q t x g) where
-  off-fits : mag (lastOff (automatonIn s) (priceIn x) (priceIn g) q t) < 2 ^ 48
+module _ {kind : Kind} {s places : List ℕ} {count q t : ℕ} {l : ℤ} {x g : List ℤ} (a : LastAsked kind s count places q t l x g) where
+  off-fits : mag (lastOff (costIn kind s) (automatonIn s) l (priceIn x) (priceIn g) q t) < 2 ^ 48 * (1 + costIn kind s q)
   unfolding priceAt
   off-fits =
-      off-small (automatonIn s .denominator q) (priceIn x t) (priceOfTargets (automatonIn s) (priceIn g) q)
-      (omega (arith, entries-known (a .challenger) .light)) (a .first .small t (a .defender)) (targets-small (a .challenger) (a .third))
+      off-small (costIn kind s q) (automatonIn s .denominator q) (priceIn x t) (priceWithCost (costIn kind s) (automatonIn s) l (priceIn g) q)
+      (omega (arith, entries-known (priced-transition (a .challenger)) .light)) (a .first .small t (a .defender)) (side-small (a .challenger) (a .third))
 
   -- the remainder of 16 fits 8 bytes
-  pub last-fits : mag (lastFault (automatonIn s) (priceIn x) (priceIn g) q t .remainder) < 2 ^ 48
-  unfolding lastFault
-  last-fits = by-test (λ (f : Fault). mag (f .remainder) < 2 ^ 48) _ (λ e. omega arith) (λ e. off-fits)
+  pub last-fits : mag (lastCostFault (costIn kind s) (automatonIn s) l (priceIn x) (priceIn g) q t .remainder) < 2 ^ 48 * (1 + costIn kind s q)
+  unfolding lastCostFault
+  last-fits = by-test (λ (f : Fault). mag (f .remainder) < 2 ^ 48 * (1 + costIn kind s q)) _ (λ e. omega arith) (λ e. off-fits)
 
   -- so the machine reads it back from its bits
-  pub off-back : {r : ℤ} → r ≡ lastOff (automatonIn s) (priceIn x) (priceIn g) q t → toZ w64 (ofZ w64 r) ≡ lastOff (automatonIn s) (priceIn x) (priceIn g) q t
-  off-back e = ap (λ (z : ℤ). toZ w64 (ofZ w64 z)) e ∙ toZ-ofZ (record { sfits = omega (arith, off-fits) })
+  pub off-back : {r : ℤ} → r ≡ lastOff (costIn kind s) (automatonIn s) l (priceIn x) (priceIn g) q t → toZ w64 (ofZ w64 r) ≡ lastOff (costIn kind s) (automatonIn s) l (priceIn x) (priceIn g) q t
+  off-back e = ap (λ (z : ℤ). toZ w64 (ofZ w64 z)) e ∙ toZ-ofZ (record { sfits = omega (arith, off-fits, cost-low (a .challenger .cost)) })
+
+  -- it is off by 0 or more where the last condition breaks
+  pub off-tells : {r : ℤ} → r ≡ lastOff (costIn kind s) (automatonIn s) l (priceIn x) (priceIn g) q t → leZ (pos 0) (toZ w64 (ofZ w64 r)) ≡ not (lastHolds (costIn kind s) (automatonIn s) l (priceIn x) (priceIn g) q t)
+  off-tells e =
+      ap (leZ (pos 0)) (off-back e) ∙ off-sign (priceAt (automatonIn s) (priceIn x) q t) (priceWithCost (costIn kind s) (automatonIn s) l (priceIn g) q)
 
 -- both conditions hold, by the first and then the second
-module _ (A : Automaton) (X Y : ℕ → ℤ) (r : ℕ) where
-  pub twice-not : priceCondition A X X r ≡ false → false ≡ fairTwice A X Y r
+module _ (cost : ℕ → ℕ) (A : Automaton) (L : ℤ) (X Y : ℕ → ℤ) (r : ℕ) where
+  pub twice-not : costCondition cost A L X X r ≡ false → false ≡ fairTwice cost A L X Y r
   unfolding fairTwice both
-  twice-not e = ap (λ (t : Bool). cond t (priceCondition A Y Y r) false) (sym e)
+  twice-not e = ap (λ (t : Bool). cond t (costCondition cost A L Y Y r) false) (sym e)
 
-  pub twice-then : {z : Bool} → priceCondition A X X r ≡ true → z ≡ priceCondition A Y Y r → z ≡ fairTwice A X Y r
+  pub twice-then : {z : Bool} → costCondition cost A L X X r ≡ true → z ≡ costCondition cost A L Y Y r → z ≡ fairTwice cost A L X Y r
   unfolding fairTwice both
-  twice-then e q = q ∙ ap (λ (t : Bool). cond t (priceCondition A Y Y r) false) (sym e)
+  twice-then e q = q ∙ ap (λ (t : Bool). cond t (costCondition cost A L Y Y r) false) (sym e)
 
 -- the transitions of the head are all of them
-pub all-of-count : {s places : List ℕ} {n count : ℕ} → Known s n count places → (a : ℕ) (X Y : ℕ → ℤ) → allBelow count (fairTo (automatonIn s) a X Y) ≡ allFair (automatonIn s) a X Y
+pub all-of-count : {s places : List ℕ} {n count : ℕ} → Known s n count places → (cost : ℕ → ℕ) (L : ℤ) (a : ℕ) (X Y : ℕ → ℤ) → allBelow count (fairTo cost (automatonIn s) L a X Y) ≡ allFair cost (automatonIn s) L a X Y
 unfolding allFair
-all-of-count {s} k a X Y = ap (λ (n : ℕ). allBelow n (fairTo (automatonIn s) a X Y)) (sym (known-transitions k))
+all-of-count {s} k cost L a X Y = ap (λ (n : ℕ). allBelow n (fairTo cost (automatonIn s) L a X Y)) (sym (known-transitions k))
 
 -- what the tests of each kind of challenger come to
-module _ (A : Automaton) where
-  pub fair-internal : (X : ℕ → ℤ) → allFair A 0 X X ≡ allWithAction A 0 (priceCondition A X X)
+module _ (cost : ℕ → ℕ) (A : Automaton) (L : ℤ) where
+  pub fair-internal : (X : ℕ → ℤ) → allFair cost A L 0 X X ≡ allWithAction A 0 (costCondition cost A L X X)
   unfolding allFair allWithAction fairTo
   fair-internal X = allBelowCong (A .transitions) _ _ (λ r l. go r (ℕ-discrete (A .action r) 0))
     where
-      go : (r : ℕ) → Dec (A .action r ≡ 0) → fairTo A 0 X X r ≡ ifSame (A .action r) 0 (priceCondition A X X r) true
+      go : (r : ℕ) → Dec (A .action r ≡ 0) → fairTo cost A L 0 X X r ≡ ifSame (A .action r) 0 (costCondition cost A L X X r) true
       go r (yes e) = same true e (sym (same _ e refl))
-      go r (no e) = notSame (priceCondition A X X r) e (sym (notSame (priceCondition A X X r) e (notSame (fairTwice A X X r) e refl)))
+      go r (no e) = notSame (costCondition cost A L X X r) e (sym (notSame (costCondition cost A L X X r) e (notSame (fairTwice cost A L X X r) e refl)))
 
   module _ (a : ℕ) (X Y : ℕ → ℤ) (external : 0 < a) where
-    each-fair : (r : ℕ) → fairTo A a X Y r ≡ both (both (ifSame (A .action r) 0 (priceCondition A X X r) true) (ifSame (A .action r) 0 (priceCondition A Y Y r) true)) (ifSame (A .action r) a (priceCondition A X Y r) true)
+    each-fair : (r : ℕ) → fairTo cost A L a X Y r ≡ both (both (ifSame (A .action r) 0 (costCondition cost A L X X r) true) (ifSame (A .action r) 0 (costCondition cost A L Y Y r) true)) (ifSame (A .action r) a (costCondition cost A L X Y r) true)
     unfolding fairTo fairTwice both
     each-fair r = go (ℕ-discrete (A .action r) 0)
       where
         move : Bool
-        move = ifSame (A .action r) a (priceCondition A X Y r) true
+        move = ifSame (A .action r) a (costCondition cost A L X Y r) true
 
         after : (b : Bool) → b ≡ cond b true false
         after true = refl
         after false = refl
 
-        go : Dec (A .action r ≡ 0) → fairTo A a X Y r ≡ cond (cond (ifSame (A .action r) 0 (priceCondition A X X r) true) (ifSame (A .action r) 0 (priceCondition A Y Y r) true) false) move false
+        go : Dec (A .action r ≡ 0) → fairTo cost A L a X Y r ≡ cond (cond (ifSame (A .action r) 0 (costCondition cost A L X X r) true) (ifSame (A .action r) 0 (costCondition cost A L Y Y r) true) false) move false
         go (yes e) =
             let other : A .action r ≡ a → ⊥ = λ q. omega arith in
-            sym (notSame (priceCondition A X Y r) other (same true e refl)) ∙ after _
+            sym (notSame (costCondition cost A L X Y r) other (same true e refl)) ∙ after _
             ∙ ap₂ (λ (b c : Bool). cond b c false)
             (ap₂ (λ (b c : Bool). cond b c false) (same true e refl) (same true e refl))
-            (notSame (priceCondition A X Y r) other refl)
+            (notSame (costCondition cost A L X Y r) other refl)
         go (no e) =
-            ap (ifSame (A .action r) a (priceCondition A X Y r)) (sym (notSame (fairTwice A X Y r) e refl))
+            ap (ifSame (A .action r) a (costCondition cost A L X Y r)) (sym (notSame (fairTwice cost A L X Y r) e refl))
             ∙ ap (λ (b : Bool). cond b move false)
-            (ap₂ (λ (b c : Bool). cond b c false) (notSame (priceCondition A X X r) e refl) (notSame (priceCondition A Y Y r) e refl))
+            (ap₂ (λ (b c : Bool). cond b c false) (notSame (costCondition cost A L X X r) e refl) (notSame (costCondition cost A L Y Y r) e refl))
 
-    pub fair-external : allFair A a X Y ≡ both (both (allWithAction A 0 (priceCondition A X X)) (allWithAction A 0 (priceCondition A Y Y))) (allWithAction A a (priceCondition A X Y))
+    pub fair-external : allFair cost A L a X Y ≡ both (both (allWithAction A 0 (costCondition cost A L X X)) (allWithAction A 0 (costCondition cost A L Y Y))) (allWithAction A a (costCondition cost A L X Y))
     unfolding allFair allWithAction
     fair-external =
         allBelowCong (A .transitions) _ _ (λ r l. each-fair r)
         ∙ all-both (A .transitions) _ _
-        ∙ ap (λ (b : Bool). both b (allBelow (A .transitions) (λ r. ifSame (A .action r) a (priceCondition A X Y r) true))) (all-both (A .transitions) _ _)
+        ∙ ap (λ (b : Bool). both b (allBelow (A .transitions) (λ r. ifSame (A .action r) a (costCondition cost A L X Y r) true))) (all-both (A .transitions) _ _)

@@ -1,4 +1,2 @@
 pub mod Conditions
 pub mod ConditionsLaws
-pub mod Highest
-pub mod HighestLaws

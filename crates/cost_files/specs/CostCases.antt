@@ -97,6 +97,26 @@ stepsMetCertificate =
     ∷ 0x46 ∷ 0x4C ∷ 0 ∷ 0 ∷ 0 ∷ 1 ∷ 0 ∷ 1 ∷ 0 ∷ 0 ∷ 1 ∷ 0 ∷ 0 ∷ 0 ∷ 1 ∷ 0 ∷ 1 ∷ 2 ∷ 2 ∷ 0 ∷ 0 ∷ 0 ∷ 1
     ∷ 0x46 ∷ 0x4C ∷ 0 ∷ 0 ∷ 0 ∷ 1 ∷ 0 ∷ 1 ∷ 0 ∷ 0 ∷ 0 ∷ 0 ∷ 0 ∷ 0 ∷ 1 ∷ 0 ∷ 1 ∷ 2 ∷ 2 ∷ 0 ∷ 0 ∷ 0 ∷ 1 ∷ []
 
+-- labels 0 0 1 2; by action 1 from 0 to 3 at the cost 9, and from 0 and 1 to 2; an internal step from 2 to 3 at the cost 9
+unfoldable pub laterFile : List ℕ
+laterFile =
+    0x50 ∷ 0x41 ∷ 4 ∷ 2 ∷ 0 ∷ 4
+    ∷ 0x4C ∷ 0x42 ∷ 0 ∷ 0 ∷ 1 ∷ 2
+    ∷ 0x54 ∷ 0x52 ∷ 0 ∷ 1 ∷ 0 ∷ 1 ∷ 1 ∷ 3 ∷ 0 ∷ 1
+    ∷ 0x54 ∷ 0x52 ∷ 0 ∷ 1 ∷ 0 ∷ 1 ∷ 1 ∷ 2 ∷ 0 ∷ 1
+    ∷ 0x54 ∷ 0x52 ∷ 1 ∷ 1 ∷ 0 ∷ 1 ∷ 1 ∷ 2 ∷ 0 ∷ 1
+    ∷ 0x54 ∷ 0x52 ∷ 2 ∷ 0 ∷ 0 ∷ 1 ∷ 1 ∷ 3 ∷ 0 ∷ 1
+    ∷ 0x43 ∷ 0x4F ∷ 9 ∷ 0 ∷ 0 ∷ 9 ∷ []
+
+-- blocks 0 0 1 2; transition 0 is met by 1 with D 1, k(1,2) 1 and k(2,3) 1, which pays after the move; transition 1 by 1, transition 2 by 0
+unfoldable pub laterCertificate : List ℕ
+laterCertificate =
+    0x43 ∷ 0x43 ∷ 0 ∷ 0
+    ∷ 0x42 ∷ 0x4B ∷ 0 ∷ 0 ∷ 1 ∷ 2
+    ∷ 0x46 ∷ 0x4C ∷ 0 ∷ 0 ∷ 0 ∷ 1 ∷ 0 ∷ 2 ∷ 1 ∷ 0 ∷ 2 ∷ 0 ∷ 0 ∷ 0 ∷ 1 ∷ 2 ∷ 0 ∷ 3 ∷ 0 ∷ 0 ∷ 0 ∷ 1 ∷ 0 ∷ 1 ∷ 3 ∷ 3 ∷ 0 ∷ 0 ∷ 0 ∷ 1
+    ∷ 0x46 ∷ 0x4C ∷ 0 ∷ 0 ∷ 0 ∷ 1 ∷ 0 ∷ 1 ∷ 1 ∷ 0 ∷ 2 ∷ 0 ∷ 0 ∷ 0 ∷ 1 ∷ 0 ∷ 1 ∷ 2 ∷ 2 ∷ 0 ∷ 0 ∷ 0 ∷ 1
+    ∷ 0x46 ∷ 0x4C ∷ 0 ∷ 0 ∷ 0 ∷ 1 ∷ 0 ∷ 1 ∷ 1 ∷ 0 ∷ 1 ∷ 0 ∷ 0 ∷ 0 ∷ 1 ∷ 0 ∷ 1 ∷ 2 ∷ 2 ∷ 0 ∷ 0 ∷ 0 ∷ 1 ∷ []
+
 -- one state and no transitions: the mark alone
 unfoldable pub stillFile : List ℕ
 stillFile = 0x50 ∷ 0x41 ∷ 1 ∷ 1 ∷ 0 ∷ 0 ∷ 0x4C ∷ 0x42 ∷ 0 ∷ 0x43 ∷ 0x4F ∷ []
@@ -142,6 +162,9 @@ costCases =
     ∷ record { model = set stepsFile 34 1; certificate = stepsMetCertificate; expected = accepted (0 ∷ 0 ∷ 1 ∷ []) }
     ∷ record { model = stepsFile; certificate = stepsMetCertificate; expected = rejected (fault 30) 2 9 }
     ∷ record { model = stepsFile; certificate = set stepsMetCertificate 31 2; expected = rejected (faultBy 20 2 (negsuc 0)) 2 9 }
+    -- a step after the move pays 9, or 8 where 9 are owed
+    ∷ record { model = laterFile; certificate = laterCertificate; expected = accepted (0 ∷ 0 ∷ 1 ∷ 2 ∷ []) }
+    ∷ record { model = set laterFile 57 8; certificate = laterCertificate; expected = rejected (fault 30) 2 10 }
     -- transition 2 costs 2: the first flow's equations hold but for the cost equation, 1·1·2 and 1·1
     ∷ record { model = set sendersFile 45 2; certificate = sendersCertificate; expected = rejected (fault 30) 2 99 }
     -- and with w(2,2) for w(2,0) 21 comes first
@@ -173,9 +196,9 @@ cost-model-cases = (refl, refl, refl, refl, refl, refl)
 
 -- the tables; and for document 01's calls a cost model has bytes left, and a cost certificate another mark
 pub cost-cases : Each (λ (c : FilesCase). judge limits (readCosts limits) (costFile (costsIn (c .model))) (c .model) (c .certificate) ≡ c .expected) costCases × (judge limits (readWhole limits) plainRule sendersFile sendersCertificate ≡ rejected (fault 9) 1 41) × (judge limits (readWhole limits) plainRule (withoutCosts sendersFile) sendersCertificate ≡ rejected (fault 12) 2 0) × Each (λ (c : CostOutcomeCase). pairOutcome limits (readCosts limits) (costFile (costsIn (c .model))) writesBlocks (c .model) sendersCertificate (c .before) ≡ c .expected) costOutcomeCases
-unfolding ifLess ifSame ifTrue allBelow sum sumℤ arriving leaving overTargets overSources beforeMove afterMove internalMove atTarget priceAt priceOfTargets byteAt twoAt threeAt fourAt signedAt twoBytes fourBytes complement priceBytes weightOf automatonOf openFault statesOf actionsOf countOf rangeFault headFault labelFault labelsFault sourceAt actionAt denominatorAt entryCountAt afterTransition fixedFault fixedFaultAt entriesFault transitionFault refuseAt scanTransitions scanModel refuseBytesLeft scanWhole entriesAt transitionAt transitionsAt modelAt readingOf readWhole placeOf firstOf both equalLabels isPair removed refutationCount certificateHeadFault challengerAt defenderAt pricesAt afterRefutation pairFault refutationFault pairsAfter blocksAt numberedFault sameBlock agree pairsFault blocksFault kCountAt afterK wCountAt afterFlow kOf wOf flowAt kFault wFault flowFault byKind plainPriceCount allWithAction allRelated internalInQuestion externalInQuestion plainInQuestion breakFrom firstBreak internalEquationsFault externalEquationsFault plainEquationsFault rejectAt questionsOfPair questionsOfState questionsFrom questions judgeFlows judgeBlocks judgeRefutations judgeCertificate judgeReading judge Each priceWithCost priceAfter costOfLayer layers costEquation costOf costsBytes transitionsEnd costsIn withoutCosts costFault scanCosts scanCostRecord scanCostModel readCosts costPriceCount costCondition lastCostFault internalCostPricesFault externalCostPricesFault costPricesFault costEquationFault costEquationsFault sendersFile sendersCertificate stepsFile stepsCertificate stepsMetCertificate stillFile withPrice costCases refusalIn answerWithoutPlace fileOf judgementAnswer unwritten filled judgedOutcome readOutcome pairOutcome costOutcomeCases
+unfolding ifLess ifSame ifTrue allBelow sum sumℤ arriving leaving overTargets overSources beforeMove afterMove internalMove atTarget priceAt priceOfTargets byteAt twoAt threeAt fourAt signedAt twoBytes fourBytes complement priceBytes weightOf automatonOf openFault statesOf actionsOf countOf rangeFault headFault labelFault labelsFault sourceAt actionAt denominatorAt entryCountAt afterTransition fixedFault fixedFaultAt entriesFault transitionFault refuseAt scanTransitions scanModel refuseBytesLeft scanWhole entriesAt transitionAt transitionsAt modelAt readingOf readWhole placeOf firstOf both equalLabels isPair removed refutationCount certificateHeadFault challengerAt defenderAt pricesAt afterRefutation pairFault refutationFault pairsAfter blocksAt numberedFault sameBlock agree pairsFault blocksFault kCountAt afterK wCountAt afterFlow kOf wOf flowAt kFault wFault flowFault byKind plainPriceCount allWithAction allRelated internalInQuestion externalInQuestion plainInQuestion breakFrom firstBreak internalEquationsFault externalEquationsFault plainEquationsFault rejectAt questionsOfPair questionsOfState questionsFrom questions judgeFlows judgeBlocks judgeRefutations judgeCertificate judgeReading judge Each priceWithCost priceAfter costOfLayer layers costEquation costOf costsBytes transitionsEnd costsIn withoutCosts costFault scanCosts scanCostRecord scanCostModel readCosts costPriceCount costCondition lastCostFault internalCostPricesFault externalCostPricesFault costPricesFault costEquationFault costEquationsFault sendersFile sendersCertificate stepsFile stepsCertificate stepsMetCertificate laterFile laterCertificate stillFile withPrice costCases refusalIn answerWithoutPlace fileOf judgementAnswer unwritten filled judgedOutcome readOutcome pairOutcome costOutcomeCases
 cost-cases = (
-  (refl, (refl, (refl, (refl, (refl, (refl, (refl, (refl, (refl, (refl, (refl, (refl, (refl, (refl, (refl, (refl, (refl, (refl, (refl, (refl, (refl, (refl, (refl, (refl, (refl, (refl, (refl, tt))))))))))))))))))))))))))),
+  (refl, (refl, (refl, (refl, (refl, (refl, (refl, (refl, (refl, (refl, (refl, (refl, (refl, (refl, (refl, (refl, (refl, (refl, (refl, (refl, (refl, (refl, (refl, (refl, (refl, (refl, (refl, (refl, (refl, tt))))))))))))))))))))))))))))),
   refl,
   refl,
   (refl, (refl, (refl, (refl, (refl, tt))))),

@@ -4,3 +4,4 @@ pub mod CostCertificates
 pub mod CostReadingLaws
 pub mod CostRules
 pub mod CostAnswerLaws
+pub mod OtherCalls

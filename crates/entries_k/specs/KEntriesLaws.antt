@@ -1,10 +1,11 @@
--- Laws of the k entries taken into the remainders.
+-- Laws of the k entries taken into the remainders, and of what they cost.
 use Prim.Native.Nat.{ℕ, zero, suc, _+_, _*_, _-_, _^_, _≤_, _<_}
 use mathlib.Core.Path.{_≡_, refl, sym, _∙_, ap, subst, subst₂}
 use mathlib.Core.Bool.{Bool, true, false}
 use mathlib.Core.List.{List}
 use lib.ListN.{length}
 use lib.IntN.{ℤ, pos, negℤ}
+use native.Mathlib.Nat.{mul-le-mul}
 use native.Mathlib.Omega.{arith}
 use native.Mathlib.Decide.{ℕ-discrete}
 use Rattle.bisimulation.specs.argument.ChoiceLaws.{less, notLess, notSame, isTrue, isFalse, eitherLess, eitherSame, eitherTrue, false-not}
@@ -16,12 +17,16 @@ use Rattle.rules.specs.definitions.Limits.{limits}
 use Rattle.field.specs.declared.Field.{Field}
 use Rattle.field.specs.Taken as field
 use Rattle.field.specs.Taken.{taken-at}
-use Rattle.transition.specs.Known.{automatonIn, Known, entriesOf}
-use Rattle.transition.specs.KnownLaws.{few-transitions, known-transition}
+use Rattle.cost_files.specs.definitions.CostModel.{highestCost}
+use Rattle.rule_kind.specs.declared.Kind.{Kind}
+use Rattle.rule_kind.specs.Kinds.{costIn, KindStands, CostIs}
+use Rattle.transition_record.specs.declared.Fields.{Fields}
+use Rattle.transition.specs.Known.{automatonIn, Known, FieldsOf, entriesOf}
+use Rattle.transition.specs.KnownLaws.{few-transitions, known-own, known-transition, known-transitions}
 use Rattle.entries_k.specs.declared.Taken.{Taken}
 use Rattle.remainders.specs.Nonzero.{nonzeroIn, Counted, Became}
 use Rattle.remainders.specs.Moving.{arrived, departed, Room, CanMove}
-use Rattle.entries_k.specs.Taking.{arrivalOf, departureOf, Tests, WrongK, unordered, absent, unasked, nothing, RightK, TellsK, tookK, tookKs, CanTake, mostKs, CanTakeKs, TookKs}
+use Rattle.entries_k.specs.Taking.{arrivalOf, departureOf, Tests, WrongK, unordered, absent, unasked, nothing, RightK, TellsK, tookK, tookKs, CanTake, kSum, costOfK, mostCostOfK, PriceAsked, PriceIs, mostKs, CanTakeKs, TookKs}
 use Rattle.signed.specs.TermsLaws.{minus-small}
 use Rattle.remainders.specs.MovingLaws.{room-fewer, arrived-length, arrived-room, departed-room}
 
@@ -70,6 +75,24 @@ module _ {s places : List ℕ} {r k : ℕ} {remainders : List ℤ} {nonzero : �
       middle : List ℤ
       middle = arrived (entriesOf s r) (pos k) (arrivalOf layer) remainders
 
+-- what k of a transition costs, where its cost is 0 and where it is not
+module _ {kind : Kind} {s : List ℕ} {r cost : ℕ} (c : CostIs kind s r cost) (k : ℕ) where
+  pub price-none : cost ≡ 0 → PriceIs (costIn kind s) s r k 0
+  price-none z =
+      let none = ap (λ (x : ℕ). k * automatonIn s .denominator r * x) (sym (c .is) ∙ z) in
+      record { is = λ layer. omega (arith, none); low = omega arith }
+
+  module _ (small : k < 2 ^ 32) {f : Fields} (d : FieldsOf s r f) where
+    pub k-times-d : k * f .denominator ≤ 4294967295 * 65535
+    k-times-d = mul-le-mul {n₂ = 4294967295} {m₂ = 65535} (omega arith) (omega (arith, d .small))
+
+    pub price-is : PriceIs (costIn kind s) s r k (k * f .denominator * cost)
+    price-is =
+        record {
+          is = λ layer. ap (λ (x : ℕ). k * x * cost) (d .denominator) ∙ ap (λ (x : ℕ). k * automatonIn s .denominator r * x) (c .is);
+          low = mul-le-mul {n₂ = 4294967295 * 65535} {m₂ = highestCost} k-times-d (c .low);
+        }
+
 -- a k entry as it was read at a place
 pub record KRead (C : List ℕ) (at layer r k : ℕ) : Type 0 where
   pub layer-is : layer ≡ byteAt C at
@@ -86,6 +109,25 @@ k-read x y z =
       small = z .small;
     }
 
+-- its turn in what is taken, and in what is paid
+module _ (s C : List ℕ) (left : ℕ) {at layer r k : ℕ} (e : KRead C at layer r k) where
+  took-next : (remainders : List ℤ) {after : List ℤ} → after ≡ tookK s layer r k remainders → tookKs s C left (at + 7) after ≡ tookKs s C (suc left) at remainders
+  unfolding tookKs
+  took-next remainders b =
+      ap (tookKs s C left (at + 7))
+      (b
+      ∙ ap (λ (l : ℕ). tookK s l r k remainders) (e .layer-is)
+      ∙ ap (λ (i : ℕ). tookK s (byteAt C at) i k remainders) (e .transition-is)
+      ∙ ap (λ (m : ℕ). tookK s (byteAt C at) (twoAt C (at + 1)) m remainders) (e .k-is))
+
+  paid-next : (cost : ℕ → ℕ) {price : ℕ} → ((layer : ℕ) → price ≡ costOfK cost (automatonIn s) layer r k) → price + kSum C (costOfK cost (automatonIn s)) left (at + 7) ≡ kSum C (costOfK cost (automatonIn s)) (suc left) at
+  unfolding kSum
+  paid-next cost p =
+      ap (λ (x : ℕ). x + kSum C (costOfK cost (automatonIn s)) left (at + 7))
+      (p layer
+      ∙ ap (λ (i : ℕ). costOfK cost (automatonIn s) layer i k) (e .transition-is)
+      ∙ ap (costOfK cost (automatonIn s) layer (twoAt C (at + 1))) (e .k-is))
+
 -- the test's two answers
 module _ {count lowest layer r k : ℕ} {asked : Bool} where
   pub tells-wrong : WrongK count lowest layer r k asked → TellsK count lowest layer r k asked false
@@ -95,7 +137,7 @@ module _ {count lowest layer r k : ℕ} {asked : Bool} where
   tells-right o = record { wrong = λ e. absurd (false-not (sym e)); right = λ e. o }
 
 -- before each k entry: the keys before the lowest are those of at most `layer` layers and x transitions, so at most `ahead` entries follow
-pub record TakingKs (rule : FileRule) (s C : List ℕ) (action start entries : ℕ) (before remainders : List ℤ) (left at lowest nonzero : ℕ) : Type 0 where
+pub record TakingKs (rule : FileRule) (cost : ℕ → ℕ) (s C : List ℕ) (action start entries : ℕ) (before remainders : List ℤ) (left at lowest nonzero paid : ℕ) : Type 0 where
   pub layer : ℕ
   pub x : ℕ
   pub ahead : ℕ
@@ -110,8 +152,10 @@ pub record TakingKs (rule : FileRule) (s C : List ℕ) (action start entries : �
   pub room : (more : ℕ) → Room before (2 * mostKs + more) → Room remainders (2 * ahead + more)
   pub number : (q t : ℕ) → action ≡ automatonIn s .action q → kFault rule (automatonIn s) C q t left at lowest ≡ kFault rule (automatonIn s) C q t entries start 0
   pub makesUp : tookKs s C left at remainders ≡ tookKs s C entries start before
+  pub pays : paid + kSum C (costOfK cost (automatonIn s)) left at ≡ kSum C (costOfK cost (automatonIn s)) entries start
+  pub fits : paid + ahead * mostCostOfK ≤ mostKs * mostCostOfK
 
-pub ks-start : {rule : FileRule} {s C : List ℕ} {count : ℕ} {places : List ℕ} {at entries : ℕ} {remainders : List ℤ} {nonzero : ℕ} → CanTakeKs s C count places at entries remainders nonzero → (action : ℕ) → TakingKs rule s C action at entries remainders remainders entries at 0 nonzero
+pub ks-start : {rule : FileRule} {cost : ℕ → ℕ} {kind : Kind} {s C : List ℕ} {count : ℕ} {places : List ℕ} {at entries : ℕ} {remainders : List ℤ} {nonzero : ℕ} → CanTakeKs kind s C count places at entries remainders nonzero → (action : ℕ) → TakingKs rule cost s C action at entries remainders remainders entries at 0 nonzero 0
 ks-start c action =
     record {
       layer = 0;
@@ -128,6 +172,8 @@ ks-start c action =
       room = λ more room. room;
       number = λ q t a. refl;
       makesUp = refl;
+      pays = omega arith;
+      fits = omega arith;
     }
 
 -- the tests of one entry
@@ -165,9 +211,9 @@ module _ {rule : FileRule} {test : ℕ → ℕ → ℕ → Bool} (tests : Tests 
       (less _ (omega (arith, e .k-is, w .some))
       (ap (λ (key : ℕ). kFault rule (automatonIn s) C q t left (at + 7) (key + 1)) key-is))))
 
-module _ {rule : FileRule} {test : ℕ → ℕ → ℕ → Bool} (tests : Tests test rule) {s C : List ℕ} {action start entries : ℕ} {before remainders : List ℤ} {count : ℕ} (known : automatonIn s .transitions ≡ count) where
-  -- an entry is refused, or can be taken
-  pub ks-refused : (left : ℕ) {at lowest nonzero layer r k : ℕ} {x : Taken} → TakingKs rule s C action start entries before remainders left at lowest nonzero → 0 < left → KRead C at layer r k → WrongK count lowest layer r k (test action layer (automatonIn s .action r)) → x .good ≡ false → TookKs rule s C action start entries before remainders x
+-- the entries from one that is wrong on
+module _ {rule : FileRule} {test : ℕ → ℕ → ℕ → Bool} (tests : Tests test rule) {cost : ℕ → ℕ} {s C : List ℕ} {action start entries : ℕ} {before remainders : List ℤ} {count : ℕ} (known : automatonIn s .transitions ≡ count) where
+  pub ks-refused : (left : ℕ) {at lowest nonzero paid layer r k : ℕ} {x : Taken} → TakingKs rule cost s C action start entries before remainders left at lowest nonzero paid → 0 < left → KRead C at layer r k → WrongK count lowest layer r k (test action layer (automatonIn s .action r)) → x .good ≡ false → TookKs rule cost s C action start entries before remainders x
   ks-refused zero h some e w n = absurd (omega arith)
   ks-refused (suc left) h some e w n =
       record {
@@ -175,62 +221,89 @@ module _ {rule : FileRule} {test : ℕ → ℕ → ℕ → Bool} (tests : Tests 
         passed = λ z. absurd (false-not (sym n ∙ z));
         became = λ z. absurd (false-not (sym n ∙ z));
         room = λ z. absurd (false-not (sym n ∙ z));
+        paid = λ z. absurd (false-not (sym n ∙ z));
         next = λ z. absurd (false-not (sym n ∙ z));
       }
 
-  pub ks-asks : {left at lowest nonzero layer r k states : ℕ} {places : List ℕ} → TakingKs rule s C action start entries before remainders left at lowest nonzero → KRead C at layer r k → Known s states count places → RightK count lowest layer r k (test action layer (automatonIn s .action r)) → CanTake s places r k remainders nonzero
-  ks-asks {layer = layer} {r = r} h e m w =
+-- an entry that is right, in its turn
+pub record StandingK (test : ℕ → ℕ → ℕ → Bool) (rule : FileRule) (cost : ℕ → ℕ) (s C : List ℕ) (count : ℕ) (places : List ℕ) (action start entries : ℕ) (before remainders : List ℤ) (left at lowest nonzero paid layer r k : ℕ) : Type 0 where
+  pub tests : Tests test rule
+  pub turn : TakingKs rule cost s C action start entries before remainders left at lowest nonzero paid
+  pub some : 0 < left
+  pub read : KRead C at layer r k
+  pub states : ℕ
+  pub known : Known s states count places
+  pub right : RightK count lowest layer r k (test action layer (automatonIn s .action r))
+
+module _ {test : ℕ → ℕ → ℕ → Bool} {rule : FileRule} {cost : ℕ → ℕ} {s C : List ℕ} {count : ℕ} {places : List ℕ} {action start entries : ℕ} {before remainders : List ℤ} {left at lowest nonzero paid layer r k : ℕ} (g : StandingK test rule cost s C count places action start entries before remainders left at lowest nonzero paid layer r k) where
+  in-layers : layer ≤ 2
+  in-layers = g .tests .layers action layer (automatonIn s .action r) (g .right .asked-is)
+
+  -- how many can follow it
+  abbrev following : ℕ
+  following = mostKs - (layer * limits .transitions + (r + 1))
+
+  one-fewer : following + 1 ≤ g .turn .ahead
+  one-fewer =
+      let h = g .turn in
+      omega (arith, h .key, h .low, h .few, h .follow, g .right .ordered, g .right .present, few-transitions (g .known), in-layers)
+
+  -- it can be taken, and paid
+  pub ks-asks : CanTake s places r k remainders nonzero
+  ks-asks =
       record {
-        known = known-transition m (w .present);
-        small = e .small;
-        table = h .table;
-        room = room-fewer (omega (arith, h .key, h .low, h .few, h .follow, w .ordered, w .present, few-transitions m, tests .layers action layer (automatonIn s .action r) (w .asked-is))) (h .room 0 (room-fewer (omega arith) (h .enough)));
+        known = known-transition (g .known) (g .right .present);
+        small = g .read .small;
+        table = g .turn .table;
+        room = room-fewer (omega (arith, one-fewer)) (g .turn .room 0 (room-fewer (omega arith) (g .turn .enough)));
       }
 
-  one-k : (left : ℕ) {at lowest nonzero layer r k states now : ℕ} {places : List ℕ} {after : List ℤ} → TakingKs rule s C action start entries before remainders (suc left) at lowest nonzero → KRead C at layer r k → Known s states count places → RightK count lowest layer r k (test action layer (automatonIn s .action r)) → Became (tookK s layer r k remainders) after now → TakingKs rule s C action start entries before after left (at + 7) (layer * 65536 + r + 1) now
-  unfolding tookKs
-  one-k left {at} {lowest} {nonzero} {layer} {r} {k} h e m w b =
-      let low = tests .layers action layer (automatonIn s .action r) (w .asked-is) in
-      let left-ahead : ℕ = mostKs - (layer * limits .transitions + (r + 1)) in
-      let rest : suc (suc (2 * left-ahead)) ≤ 2 * h .ahead = omega (arith, h .key, h .low, h .few, h .follow, w .ordered, w .present, few-transitions m, low) in
-      record {
-        layer = layer;
-        x = r + 1;
-        ahead = left-ahead;
-        key = omega arith;
-        low = low;
-        few = omega (arith, w .present, few-transitions m);
-        follow = omega (arith, low, w .present, few-transitions m);
-        whole = omega (arith, h .whole);
-        ends = omega (arith, h .ends);
-        table = b .counted;
-        enough = h .enough;
-        room = λ more room. subst (λ (x : List ℤ). Room x (2 * left-ahead + more)) (sym (b .same)) (took-room (ks-asks h e m w) layer (room-fewer (omega arith) (h .room more room)));
-        number = λ q t a. right-k tests s C left known e q t a w ∙ h .number q t a;
-        makesUp =
-            ap (tookKs s C left (at + 7))
-            (b .same
-            ∙ ap (λ (l : ℕ). tookK s l r k remainders) (e .layer-is)
-            ∙ ap (λ (i : ℕ). tookK s (byteAt C at) i k remainders) (e .transition-is)
-            ∙ ap (λ (m : ℕ). tookK s (byteAt C at) (twoAt C (at + 1)) m remainders) (e .k-is))
-            ∙ h .makesUp;
-      }
+  pub ks-prices : (kind : Kind) → KindStands kind s → PriceAsked kind s count places r k
+  ks-prices kind stands = record { cost = record { known = known-own (g .known); stands = stands; below = g .right .present }; small = g .read .small }
 
-  pub ks-turn : (left : ℕ) {at next lowest above nonzero layer r k states now : ℕ} {places : List ℕ} {after : List ℤ} → TakingKs rule s C action start entries before remainders left at lowest nonzero → 0 < left → KRead C at layer r k → Known s states count places → RightK count lowest layer r k (test action layer (automatonIn s .action r)) → Became (tookK s layer r k remainders) after now → next ≡ at + 7 → above ≡ layer * 65536 + r + 1 → TakingKs rule s C action start entries before after (left - 1) next above now
-  ks-turn zero h some e m w b n p = absurd (omega arith)
-  ks-turn (suc left) {next = next} {above = above} {now = now} {after = after} h some e m w b n p =
-      let one : left ≡ suc left - 1 = omega arith in
-      subst (λ (j : ℕ). TakingKs rule s C action start entries before after j next above now) one
-      (subst₂ (λ (i l : ℕ). TakingKs rule s C action start entries before after left i l now) (sym n) (sym p) (one-k left h e m w b))
+  pub ks-fits : {price : ℕ} → PriceIs cost s r k price → paid + price < 2 ^ 64
+  ks-fits p = omega (arith, one-fewer, g .turn .fits, p .low)
 
-pub ks-end : {rule : FileRule} {s C : List ℕ} {action start entries : ℕ} {before remainders : List ℤ} (left : ℕ) {at lowest nonzero : ℕ} {x : Taken} → TakingKs rule s C action start entries before remainders left at lowest nonzero → left ≤ 0 → x .good ≡ true → x .nonzero ≡ nonzero → x .next .at ≡ at → TookKs rule s C action start entries before remainders x
-unfolding kFault tookKs
-ks-end {s = s} {C} {action} {start} {entries} {before} {remainders} zero {x = x} h none z n p =
+  pub ks-turn : {next above price now : ℕ} {after : List ℤ} → Became (tookK s layer r k remainders) after now → PriceIs cost s r k price → next ≡ at + 7 → above ≡ layer * 65536 + r + 1 → TakingKs rule cost s C action start entries before after (left - 1) next above now (paid + price)
+  ks-turn {next} {above} {price} {now} {after} b p n o = go left (g .turn) (g .some) one-fewer
+    where
+      one-k : (left : ℕ) (h : TakingKs rule cost s C action start entries before remainders (suc left) at lowest nonzero paid) → following + 1 ≤ h .ahead → TakingKs rule cost s C action start entries before after left (at + 7) (layer * 65536 + r + 1) now (paid + price)
+      one-k left h fewer =
+          record {
+            layer = layer;
+            x = r + 1;
+            ahead = following;
+            key = omega arith;
+            low = in-layers;
+            few = omega (arith, g .right .present, few-transitions (g .known));
+            follow = omega (arith, in-layers, g .right .present, few-transitions (g .known));
+            whole = omega (arith, h .whole);
+            ends = omega (arith, h .ends);
+            table = b .counted;
+            enough = h .enough;
+            room = λ more room. subst (λ (x : List ℤ). Room x (2 * following + more)) (sym (b .same)) (took-room ks-asks layer (room-fewer (omega (arith, fewer)) (h .room more room)));
+            number = λ q t a. right-k (g .tests) s C left (known-transitions (g .known)) (g .read) q t a (g .right) ∙ h .number q t a;
+            makesUp = took-next s C left (g .read) remainders (b .same) ∙ h .makesUp;
+            pays = omega (arith, paid-next s C left (g .read) cost (p .is), h .pays);
+            fits = omega (arith, fewer, h .fits, p .low);
+          }
+
+      go : (left : ℕ) (h : TakingKs rule cost s C action start entries before remainders left at lowest nonzero paid) → 0 < left → following + 1 ≤ h .ahead → TakingKs rule cost s C action start entries before after (left - 1) next above now (paid + price)
+      go zero h some fewer = absurd (omega arith)
+      go (suc left) h some fewer =
+          let one : left ≡ suc left - 1 = omega arith in
+          subst (λ (j : ℕ). TakingKs rule cost s C action start entries before after j next above now (paid + price)) one
+          (subst₂ (λ (i l : ℕ). TakingKs rule cost s C action start entries before after left i l now (paid + price)) (sym n) (sym o) (one-k left h fewer))
+
+pub ks-end : {rule : FileRule} {cost : ℕ → ℕ} {s C : List ℕ} {action start entries : ℕ} {before remainders : List ℤ} (left : ℕ) {at lowest nonzero paid : ℕ} {x : Taken} → TakingKs rule cost s C action start entries before remainders left at lowest nonzero paid → left ≤ 0 → x .good ≡ true → x .nonzero ≡ nonzero → x .paid ≡ paid → x .next .at ≡ at → TookKs rule cost s C action start entries before remainders x
+unfolding kFault tookKs kSum
+ks-end {s = s} {C} {action} {start} {entries} {before} {remainders} zero {x = x} h none z n o p =
     record {
       refused = λ y. absurd (false-not (sym y ∙ z));
       passed = λ y q t a. pass-on (h .number q t a) refl;
       became = λ y. subst (λ (m : ℕ). Became (tookKs s C entries start before) remainders m) (sym n) (record { same = h .makesUp; counted = h .table });
       room = λ y more room. room-fewer (omega arith) (h .room more room);
+      paid = λ y. omega (arith, h .pays, o);
       next = λ y. omega (arith, h .ends);
     }
-ks-end (suc left) h none z n p = absurd (omega arith)
+ks-end (suc left) h none z n o p = absurd (omega arith)

@@ -1,11 +1,15 @@
--- The code's test of what is in the question is document 01's.
+-- The code's test of what is in the question is document 01's, and that of each step rule.
 use Prim.Native.Nat.{ℕ, _≤_}
 use mathlib.Core.Path.{_≡_, refl, sym, _∙_, ap}
 use mathlib.Core.Bool.{Bool, true}
+use mathlib.Core.List.{List}
 use native.Mathlib.Omega.{arith}
-use Rattle.rules.specs.definitions.PlainRule.{plainInQuestion, plainRule}
+use Rattle.rules.specs.definitions.PlainRule.{plainInQuestion}
 use Rattle.rules.specs.definitions.PlainSays.{InPlainQuestion}
 use Rattle.rules.specs.argument.PlainDecides.{six-cases}
+use Rattle.rule_kind.specs.declared.Kind.{Kind}
+use Rattle.rule_kind.specs.Kinds.{ruleOf}
+use Rattle.rule_kind.specs.KindsLaws.{asks-of}
 use Rattle.entries_k.specs.Taking.{TellsLayer, Tests}
 
 -- an answer of the six cases tells what the request's sentence does
@@ -24,5 +28,9 @@ layer-of (InPlainQuestion.before z b) = omega arith
 layer-of (InPlainQuestion.move n o b) = omega arith
 layer-of (InPlainQuestion.after n w b) = omega arith
 
-pub plain-tests : Tests plainInQuestion plainRule
-plain-tests = record { is = λ A q t layer r. refl; layers = λ challenger layer action e. layer-of (six-cases challenger layer action .0 e) }
+pub tests-of : (kind : Kind) (s : List ℕ) → Tests plainInQuestion (ruleOf kind s)
+tests-of kind s =
+    record {
+      is = λ A q t layer r. sym (asks-of kind s A q t layer r);
+      layers = λ challenger layer action e. layer-of (six-cases challenger layer action .0 e);
+    }

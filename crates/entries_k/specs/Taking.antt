@@ -1,4 +1,4 @@
--- What the k entries of a flow change in the remainders.
+-- What the k entries of a flow change in the remainders, and what they cost.
 use Prim.Native.Nat.{ℕ, zero, suc, _+_, _*_, _^_, _≤_, _<_}
 use mathlib.Core.Path.{_≡_}
 use mathlib.Core.Logic.{_↔_}
@@ -14,6 +14,9 @@ use Rattle.rules.specs.definitions.Faults.{fault, Passes}
 use Rattle.rules.specs.definitions.Limits.{limits}
 use Rattle.rules.specs.definitions.PlainRule.{plainInQuestion}
 use Rattle.rules.specs.definitions.PlainSays.{InPlainQuestion}
+use Rattle.cost_files.specs.definitions.CostModel.{highestCost}
+use Rattle.rule_kind.specs.declared.Kind.{Kind}
+use Rattle.rule_kind.specs.Kinds.{KindStands, CostAsked}
 use Rattle.transition.specs.Known.{automatonIn, Known, KnownTransition, entriesOf}
 use Rattle.remainders.specs.Nonzero.{Counted, Became}
 use Rattle.remainders.specs.Moving.{arrived, departed, Room}
@@ -78,22 +81,48 @@ pub record CanTake (s places : List ℕ) (r k : ℕ) (remainders : List ℤ) (no
   pub table : Counted remainders nonzero
   pub room : Room remainders 2
 
+-- a sum over the k entries left at a place, of a term for the layer, the transition and k
+unfoldable pub kSum : List ℕ → (ℕ → ℕ → ℕ → ℕ) → (left at : ℕ) → ℕ
+kSum C f zero at = 0
+kSum C f (suc left) at = f (byteAt C at) (twoAt C (at + 1)) (fourAt C (at + 3)) + kSum C f left (at + 7)
+
+-- 'k times d times cost' of one k entry
+abbrev pub costOfK : (cost : ℕ → ℕ) → Automaton → (layer r k : ℕ) → ℕ
+costOfK cost A layer r k = k * A .denominator r * cost r
+
+-- the most that it is: k has four bytes, d two
+abbrev pub mostCostOfK : ℕ
+mostCostOfK = 4294967295 * 65535 * highestCost
+
+-- what k of the transition r costs is asked for
+pub record PriceAsked (kind : Kind) (s : List ℕ) (count : ℕ) (places : List ℕ) (r k : ℕ) : Type 0 where
+  pub cost : CostAsked kind s count places r
+  pub small : k < 2 ^ 32
+
+-- it is this
+pub record PriceIs (cost : ℕ → ℕ) (s : List ℕ) (r k price : ℕ) : Type 0 where
+  pub is : (layer : ℕ) → price ≡ costOfK cost (automatonIn s) layer r k
+  pub low : price ≤ mostCostOfK
+
 -- so many k entries can ascend: one for each layer and transition
 abbrev pub mostKs : ℕ
 mostKs = 3 * limits .transitions
 
 -- k entries that can be taken: they lie in the file, and the remainders have room for every key once, to arrive and to leave
-pub record CanTakeKs (s C : List ℕ) (count : ℕ) (places : List ℕ) (at entries : ℕ) (remainders : List ℤ) (nonzero : ℕ) : Type 0 where
+pub record CanTakeKs (kind : Kind) (s C : List ℕ) (count : ℕ) (places : List ℕ) (at entries : ℕ) (remainders : List ℤ) (nonzero : ℕ) : Type 0 where
   pub states : ℕ
   pub known : Known s states count places
+  pub stands : KindStands kind s
   pub whole : at + 7 * entries ≤ length C
   pub table : Counted remainders nonzero
   pub room : Room remainders (2 * mostKs)
 
--- whether the k entries are without fault, for each challenger with this action; where they are, they are taken, and the cursor is past them
-pub record TookKs (rule : FileRule) (s C : List ℕ) (action at entries : ℕ) (before remainders : List ℤ) (r : Taken) : Type 0 where
+-- whether the k entries are without fault, for each challenger with this action; where they are, they are taken, their costs are summed, and the
+-- cursor is past them
+pub record TookKs (rule : FileRule) (cost : ℕ → ℕ) (s C : List ℕ) (action at entries : ℕ) (before remainders : List ℤ) (r : Taken) : Type 0 where
   pub refused : r .good ≡ false → (q t : ℕ) → action ≡ automatonIn s .action q → fault 19 ≡ kFault rule (automatonIn s) C q t entries at 0
   pub passed : r .good ≡ true → (q t : ℕ) → action ≡ automatonIn s .action q → Passes (kFault rule (automatonIn s) C q t entries at 0)
   pub became : r .good ≡ true → Became (tookKs s C entries at before) remainders (r .nonzero)
   pub room : r .good ≡ true → (more : ℕ) → Room before (2 * mostKs + more) → Room remainders more
+  pub paid : r .good ≡ true → r .paid ≡ kSum C (costOfK cost (automatonIn s)) entries at
   pub next : r .good ≡ true → r .next .at ≡ at + 7 * entries

@@ -1,19 +1,22 @@
 // The k entries of a flow judged, and taken into its equations.
 ghost use mathlib.Core.Path.{_≡_};
-ghost use Rattle.rules.specs.definitions.PlainRule.{plainInQuestion, plainRule};
+ghost use Rattle.rules.specs.definitions.PlainRule.{plainInQuestion};
+ghost use Rattle.rule_kind.specs.Kinds.{ruleOf, costIn};
 ghost use Rattle.transition.specs.Known.{automatonIn};
 ghost use Rattle.remainders.specs.Nonzero.{Became};
-ghost use Rattle.entries_k.specs.Taking.{arrivalOf, departureOf, TellsLayer, CanTest, TellsK, tookK, CanTake, CanTakeKs, TookKs};
+ghost use Rattle.entries_k.specs.Taking.{arrivalOf, departureOf, TellsLayer, CanTest, TellsK, tookK, CanTake, PriceAsked, PriceIs, CanTakeKs, TookKs};
 use field::Cursor;
 use limits::STATES;
 use model::Places;
 use remainders::Remainders;
+use rule_kind::Kind;
 
-// What the k entries come to: whether all of them are good; and where they are, how many remainders are not zero then, and the cursor past
-// them.
+// What the k entries come to: whether all of them are good; and where they are, how many remainders are not zero then, the sum of k times d
+// times cost, and the cursor past them.
 pub struct Taken {
     pub good: bool,
     pub nonzero: usize,
+    pub paid: usize,
     pub next: Cursor,
 }
 
@@ -86,6 +89,18 @@ fn take_k(
     )
 }
 
+// What k of the transition r costs: k times d times its cost.
+fn price_of(kind: Kind, s: &[u8], count: usize, places: &Places, r: usize, k: usize) -> usize
+    requires { ⌜ PriceAsked kind (now s) count (now places) r k ⌝ }
+    ensures { λ x. ⌜ PriceIs (costIn kind (now (s .entry))) (now (s .entry)) r k x ⌝ }
+{
+    let cost = rule_kind::cost_of(kind, s, count, places, r);
+    if cost == 0 {
+        return 0;
+    }
+    k * transition::fields_of(s, places, r).denominator * cost
+}
+
 // A k entry is in order, its transition is there and in the question, and it is not zero.
 fn stands(
     s: &[u8],
@@ -118,6 +133,7 @@ fn stands(
 
 // Each good k entry taken into the equations, up to the first that is not.
 pub fn take_ks(
+    kind: Kind,
     s: &[u8],
     count: usize,
     places: &Places,
@@ -128,13 +144,14 @@ pub fn take_ks(
     remainders: &mut Remainders,
     initial: usize,
 ) -> Taken
-    requires { ⌜ CanTakeKs (now s) (now cert) count (now places) (first .at) entries (now remainders) initial ⌝ }
-    ensures { λ r. ⌜ TookKs plainRule (now (s .entry)) (now (cert .entry)) action (first .at) entries (now (remainders .entry)) (now (remainders .exit)) r ⌝ }
+    requires { ⌜ CanTakeKs kind (now s) (now cert) count (now places) (first .at) entries (now remainders) initial ⌝ }
+    ensures { λ r. ⌜ TookKs (ruleOf kind (now (s .entry))) (costIn kind (now (s .entry))) (now (s .entry)) (now (cert .entry)) action (first .at) entries (now (remainders .entry)) (now (remainders .exit)) r ⌝ }
 {
     let mut left = entries;
     let mut place = first;
     let mut lowest = 0;
     let mut nonzero = initial;
+    let mut paid = 0;
     while 0 < left {
         let layer = place.byte(cert);
         let which = layer.next.pair(cert);
@@ -146,10 +163,12 @@ pub fn take_ks(
             return Taken {
                 good: false,
                 nonzero,
+                paid,
                 next: place,
             };
         }
         nonzero = take_k(s, places, l, r, k, remainders, nonzero);
+        paid += price_of(kind, s, count, places, r, k);
         lowest = l * 65536 + r + 1;
         place = amount.next;
         left -= 1;
@@ -157,6 +176,7 @@ pub fn take_ks(
     Taken {
         good: true,
         nonzero,
+        paid,
         next: place,
     }
 }

@@ -8,17 +8,13 @@ use Rattle.bisimulation.specs.definitions.Automaton.{Automaton}
 use Rattle.bisimulation.specs.definitions.Pairs.{Pairs}
 use Rattle.bisimulation.specs.definitions.StepRule.{Sides}
 use Rattle.rules.specs.definitions.Limits.{limits}
-use Rattle.rules.specs.definitions.Bytes.{byteAt, twoAt, fourAt}
+use Rattle.rules.specs.definitions.Bytes.{byteAt, fourAt}
 use Rattle.rules.specs.definitions.Certificate.{FileRule, kCountAt, afterK, wCountAt, flowAt, kFault, wFault}
 use Rattle.rules.specs.definitions.Faults.{Fault, faultBy, fault, noFault, firstOf, Passes}
 use Rattle.rules.specs.definitions.PlainRule.{firstBreak}
 use Rattle.remainders.specs.Remainders.{remainderAt}
 use Rattle.remainders.specs.Nonzero.{isNonzero}
-
--- a sum over the k entries left at a place, of a term for the layer, the transition and k
-unfoldable pub kSum : List ℕ → (ℕ → ℕ → ℕ → ℕ) → (left at : ℕ) → ℕ
-kSum C f zero at = 0
-kSum C f (suc left) at = f (byteAt C at) (twoAt C (at + 1)) (fourAt C (at + 3)) + kSum C f left (at + 7)
+use Rattle.entries_k.specs.Taking.{kSum, costOfK}
 
 -- a sum over the w entries left at a place, of a term for v, u and w
 unfoldable pub wSum : List ℕ → (ℕ → ℕ → ℕ → ℕ) → (left at : ℕ) → ℕ
@@ -76,21 +72,43 @@ module _ (A : Automaton) (C : List ℕ) (q t at : ℕ) where
   unfoldable pub targetRight : ℕ → ℕ
   targetRight u = A .weight q u * fourAt C (at + 2)
 
+  -- of the cost equation
+  unfoldable pub costLeft : (cost : ℕ → ℕ) → ℕ
+  costLeft cost = kTotal (costOfK cost A)
+
+  unfoldable pub costRight : (cost : ℕ → ℕ) → ℕ
+  costRight cost = cost q * fourAt C (at + 2)
+
 -- the sides of an equation at each state
 abbrev pub sidesOf : (left right : ℕ → ℕ) → ℕ → Sides
 sidesOf left right v = record { left = left v; right = right v }
 
--- the sums decide the rule's equations: before the move, or of an internal one, first; then after it; then at the targets
-pub record Decided (rule : FileRule) (A : Automaton) (C : List ℕ) (q t at : ℕ) : Type 0 where
-  pub is : firstOf (firstBreak A 20 (sidesOf (firstLeft A C q t at) (firstRight A C q t at))) (firstOf (firstBreak A 20 (sidesOf (secondLeft A C q t at) (secondRight A C q t at))) (firstBreak A 21 (sidesOf (targetLeft A C q t at) (targetRight A C q t at)))) ≡ rule .equationsFault A q t (flowAt C at)
+module _ (A : Automaton) (C : List ℕ) (q t at : ℕ) where
+  -- the first break before the move, or of an internal challenger; after the move; and at the targets
+  abbrev pub beforeBreak : Fault
+  beforeBreak = firstBreak A 20 (sidesOf (firstLeft A C q t at) (firstRight A C q t at))
+
+  abbrev pub afterBreak : Fault
+  afterBreak = firstBreak A 20 (sidesOf (secondLeft A C q t at) (secondRight A C q t at))
+
+  abbrev pub targetBreak : Fault
+  targetBreak = firstBreak A 21 (sidesOf (targetLeft A C q t at) (targetRight A C q t at))
+
+-- '30, the cost equation breaks', by what was paid and what was owed
+unfoldable pub costBreak : (paid owed : ℕ) → Fault
+costBreak paid owed = unlessSame paid owed (fault 30) noFault
+
+-- the sums decide the rule's equations, in this order
+pub record Decided (rule : FileRule) (cost : ℕ → ℕ) (A : Automaton) (C : List ℕ) (q t at : ℕ) : Type 0 where
+  pub is : firstOf (beforeBreak A C q t at) (firstOf (afterBreak A C q t at) (firstOf (targetBreak A C q t at) (costBreak (costLeft A C q t at cost) (costRight A C q t at cost)))) ≡ rule .equationsFault A q t (flowAt C at)
 
 -- they do so for entries without fault
-abbrev pub DecidesEquations : FileRule → Type 0
-DecidesEquations rule =
+abbrev pub DecidesEquations : FileRule → (cost : ℕ → ℕ) → Type 0
+DecidesEquations rule cost =
     (A : Automaton) (C : List ℕ) (R : Pairs) (q t at : ℕ)
     → Passes (kFault rule A C q t (kCountAt C at) (at + 8) 0)
     → Passes (wFault A C R (wCountAt C at) (afterK C at + 2) 0)
-    → Decided rule A C q t at
+    → Decided rule cost A C q t at
 
 -- the first of the remainders left, from v on, that is not zero; they begin at `first` in a table
 unfoldable pub remainderBreak : (number : ℕ) → List ℤ → (first left v : ℕ) → Fault
@@ -99,9 +117,9 @@ remainderBreak number table first (suc left) v =
     unlessSame (isNonzero (remainderAt table (first + v))) 0 (faultBy number v (remainderAt table (first + v)))
     (remainderBreak number table first left (v + 1))
 
--- the equations' fault, by the remainders and by how many of each table are not zero
-unfoldable pub verdictOf : (n : ℕ) → List ℤ → (nonzero : ℕ) → List ℤ → (asked : ℕ) → Fault
-verdictOf n remainders nonzero target asked =
+-- the equations' fault, by the remainders and by how many of each table are not zero, and by what was paid and what was owed
+unfoldable pub verdictOf : (n : ℕ) → List ℤ → (nonzero : ℕ) → List ℤ → (asked : ℕ) → (paid owed : ℕ) → Fault
+verdictOf n remainders nonzero target asked paid owed =
     unlessSame nonzero 0 (firstOf (remainderBreak 20 remainders 0 n 0) (firstOf (remainderBreak 20 remainders (limits .states) n 0) (fault 20)))
     (unlessSame asked 0 (firstOf (remainderBreak 21 target 0 n 0) (fault 21))
-    noFault)
+    (costBreak paid owed))

@@ -30,11 +30,11 @@ use Rattle.limits.specs.Sizes as sizes
 use Rattle.transition.specs.Known.{automatonIn, Known, KnownTransition, entriesOf}
 use Rattle.transition.specs.KnownLaws.{few-states, known-states, known-transitions, known-transition, entries-known}
 use Rattle.remainders.specs.Remainders.{remainderAt, AllZero}
-use Rattle.equations.specs.Differences.{kSum, wSum, beforeLeft, beforeRight, afterLeft, afterRight, takenAt, givenAt, firstLeft, firstRight, secondLeft, secondRight, targetLeft, targetRight, sidesOf, Decided, remainderBreak, verdictOf}
+use Rattle.equations.specs.Differences.{wSum, beforeLeft, beforeRight, afterLeft, afterRight, takenAt, givenAt, firstLeft, firstRight, secondLeft, secondRight, targetLeft, targetRight, costLeft, costRight, sidesOf, beforeBreak, afterBreak, targetBreak, costBreak, Decided, remainderBreak, verdictOf}
 use Rattle.remainders.specs.Nonzero.{isNonzero, Counted}
 use Rattle.remainders.specs.NonzeroLaws.{zero-remainders, nonzero-remainders}
 use Rattle.remainders.specs.Moving.{added, arrived, departed}
-use Rattle.entries_k.specs.Taking.{arrivalOf, departureOf, tookK, tookKs}
+use Rattle.entries_k.specs.Taking.{arrivalOf, departureOf, tookK, tookKs, kSum}
 use Rattle.entries_w.specs.Matching.{tookWs, tookVs, tookUs}
 use Rattle.remainders.specs.MovingLaws.{added-length, added-raised, landed, arrived-length, arrived-raised, landed-weight, landed-none}
 
@@ -449,15 +449,15 @@ module _ (number : ℕ) (table : List ℤ) (first : ℕ) (L R : ℕ → ℕ) (mo
       go r later (no n) = sym (notSame _ (λ z. n (sides-same r (is-zero _ z))) refl) ∙ ap (faultBy number v) (raised-is r) ∙ notSame _ n refl
 
 -- the equations by the remainders
-module _ {rule : FileRule} {A : Automaton} {C : List ℕ} {n q t at : ℕ} {remainders target : List ℤ} (known : A .states ≡ n) (few : n ≤ limits .states) (e : Ended A C n q t at remainders target) (d : Decided rule A C q t at) where
+module _ {rule : FileRule} {cost : ℕ → ℕ} {A : Automaton} {C : List ℕ} {n q t at : ℕ} {remainders target : List ℤ} (known : A .states ≡ n) (few : n ≤ limits .states) (e : Ended A C n q t at remainders target) (d : Decided rule cost A C q t at) where
   abbrev before : Fault
-  before = firstBreak A 20 (sidesOf (firstLeft A C q t at) (firstRight A C q t at))
+  before = beforeBreak A C q t at
 
   abbrev after : Fault
-  after = firstBreak A 20 (sidesOf (secondLeft A C q t at) (secondRight A C q t at))
+  after = afterBreak A C q t at
 
   abbrev aimed-at : Fault
-  aimed-at = firstBreak A 21 (sidesOf (targetLeft A C q t at) (targetRight A C q t at))
+  aimed-at = targetBreak A C q t at
 
   -- each is the first break of its remainders
   break-of : (number : ℕ) (table : List ℤ) (first : ℕ) (L R : ℕ → ℕ) → ((v : ℕ) → v < limits .states → Raised (R v) (L v) (remainderAt table (first + v))) → remainderBreak number table first n 0 ≡ firstBreak A number (sidesOf L R)
@@ -513,44 +513,49 @@ module _ {rule : FileRule} {A : Automaton} {C : List ℕ} {n q t at : ℕ} {rema
     none 20 _ _ (λ v l. sides-same (e .second v (omega (arith, known))) (z .zero (limits .states + v) (omega (arith, known)))),
   )
 
-  -- some remainder is not zero: the fault is before or after the move
-  some-break : (((i : ℕ) → i < sizes.remainders → remainderAt remainders i ≡ pos 0) → ⊥) → firstOf before (firstOf after (fault 20)) ≡ firstOf before (firstOf after aimed-at)
-  some-break o = go (ℕ-discrete (before .number) 0) (ℕ-discrete (after .number) 0)
+  -- some remainder is not zero: the fault is before or after the move, whatever follows
+  some-break : (((i : ℕ) → i < sizes.remainders → remainderAt remainders i ≡ pos 0) → ⊥) → (next : Fault) → firstOf before (firstOf after (fault 20)) ≡ firstOf before (firstOf after next)
+  some-break o next = go (ℕ-discrete (before .number) 0) (ℕ-discrete (after .number) 0)
     where
-      go : Dec (before .number ≡ 0) → Dec (after .number ≡ 0) → firstOf before (firstOf after (fault 20)) ≡ firstOf before (firstOf after aimed-at)
+      go : Dec (before .number ≡ 0) → Dec (after .number ≡ 0) → firstOf before (firstOf after (fault 20)) ≡ firstOf before (firstOf after next)
       go (no m) y = sym (first-stops _ _ refl m) ∙ first-stops _ _ refl m
       go (yes z) (no m) = ap (firstOf before) (sym (first-stops _ _ refl m) ∙ first-stops _ _ refl m)
       go (yes z) (yes y) = absurd (o (remainders-zero (passed 20 _ _ (λ w. omega (arith, w)) z) (passed 20 _ _ (λ w. omega (arith, w)) y)))
 
   -- the same at the targets
-  some-aim : (((i : ℕ) → i < sizes.remainders → remainderAt target i ≡ pos 0) → ⊥) → firstOf aimed-at (fault 21) ≡ aimed-at
-  some-aim o = go (ℕ-discrete (aimed-at .number) 0)
+  some-aim : (((i : ℕ) → i < sizes.remainders → remainderAt target i ≡ pos 0) → ⊥) → (next : Fault) → firstOf aimed-at (fault 21) ≡ firstOf aimed-at next
+  some-aim o next = go (ℕ-discrete (aimed-at .number) 0)
     where
-      go : Dec (aimed-at .number ≡ 0) → firstOf aimed-at (fault 21) ≡ aimed-at
-      go (no m) = sym (first-stops _ _ refl m)
+      go : Dec (aimed-at .number ≡ 0) → firstOf aimed-at (fault 21) ≡ firstOf aimed-at next
+      go (no m) = sym (first-stops _ _ refl m) ∙ first-stops _ _ refl m
       go (yes z) = absurd (o (target-zero (passed 21 _ _ (λ w. omega (arith, w)) z)))
 
   -- the verdict is that of the equations
-  pub verdict-is : {nonzero asked : ℕ} → Counted remainders nonzero → Counted target asked → verdictOf n remainders nonzero target asked ≡ rule .equationsFault A q t (flowAt C at)
+  pub verdict-is : {nonzero asked paid owed : ℕ} → Counted remainders nonzero → Counted target asked → paid ≡ costLeft A C q t at cost → owed ≡ costRight A C q t at cost → verdictOf n remainders nonzero target asked paid owed ≡ rule .equationsFault A q t (flowAt C at)
   unfolding verdictOf
-  verdict-is {nonzero} {asked} c b = go (ℕ-discrete nonzero 0) (ℕ-discrete asked 0) ∙ d .is
+  verdict-is {nonzero} {asked} {paid} {owed} c b l r =
+      go (ℕ-discrete nonzero 0) (ℕ-discrete asked 0)
+      ∙ ap₂ (λ (x y : ℕ). firstOf before (firstOf after (firstOf aimed-at (costBreak x y)))) l r
+      ∙ d .is
     where
-      go : Dec (nonzero ≡ 0) → Dec (asked ≡ 0) → ifSame nonzero 0 (ifSame asked 0 noFault (firstOf (remainderBreak 21 target 0 n 0) (fault 21))) (firstOf (remainderBreak 20 remainders 0 n 0) (firstOf (remainderBreak 20 remainders (limits .states) n 0) (fault 20))) ≡ firstOf before (firstOf after aimed-at)
-      go (no o) y = sym (notSame _ o refl) ∙ ap₂ (λ (x y : Fault). firstOf x (firstOf y (fault 20))) before-is after-is ∙ some-break (nonzero-remainders c o)
+      go : Dec (nonzero ≡ 0) → Dec (asked ≡ 0) → ifSame nonzero 0 (ifSame asked 0 (costBreak paid owed) (firstOf (remainderBreak 21 target 0 n 0) (fault 21))) (firstOf (remainderBreak 20 remainders 0 n 0) (firstOf (remainderBreak 20 remainders (limits .states) n 0) (fault 20))) ≡ firstOf before (firstOf after (firstOf aimed-at (costBreak paid owed)))
+      go (no o) y = sym (notSame _ o refl) ∙ ap₂ (λ (x y : Fault). firstOf x (firstOf y (fault 20))) before-is after-is ∙ some-break (nonzero-remainders c o) _
       go (yes z) y =
           let p = zeros-pass (zero-remainders c z) in
           sym (same _ z refl) ∙ targets y ∙ first-passes _ _ (p .1) refl refl ∙ first-passes _ _ (p .0) refl refl
         where
-          targets : Dec (asked ≡ 0) → ifSame asked 0 noFault (firstOf (remainderBreak 21 target 0 n 0) (fault 21)) ≡ aimed-at
-          targets (no o) = sym (notSame _ o refl) ∙ ap (λ (x : Fault). firstOf x (fault 21)) target-is ∙ some-aim (nonzero-remainders b o)
-          targets (yes y) = sym (same _ y refl) ∙ none 21 _ _ (λ u l. sides-same (e .aim u (omega (arith, known))) (zero-remainders b y .zero u (omega (arith, known))))
+          targets : Dec (asked ≡ 0) → ifSame asked 0 (costBreak paid owed) (firstOf (remainderBreak 21 target 0 n 0) (fault 21)) ≡ firstOf aimed-at (costBreak paid owed)
+          targets (no o) = sym (notSame _ o refl) ∙ ap (λ (x : Fault). firstOf x (fault 21)) target-is ∙ some-aim (nonzero-remainders b o) _
+          targets (yes y) =
+              sym (same _ y refl)
+              ∙ first-passes _ _ (none 21 _ _ (λ u l. sides-same (e .aim u (omega (arith, known))) (zero-remainders b y .zero u (omega (arith, known))))) refl refl
 
 -- where it is none all remainders are zero
-pub verdict-zeros : (n : ℕ) {remainders target : List ℤ} {nonzero asked : ℕ} → Counted remainders nonzero → Counted target asked → Passes (verdictOf n remainders nonzero target asked) → AllZero remainders × AllZero target
+pub verdict-zeros : (n : ℕ) {remainders target : List ℤ} {nonzero asked : ℕ} (paid owed : ℕ) → Counted remainders nonzero → Counted target asked → Passes (verdictOf n remainders nonzero target asked paid owed) → AllZero remainders × AllZero target
 unfolding verdictOf
-verdict-zeros n {remainders} {target} {nonzero} {asked} c b p = go (ℕ-discrete nonzero 0) (ℕ-discrete asked 0)
+verdict-zeros n {remainders} {target} {nonzero} {asked} paid owed c b p = go (ℕ-discrete nonzero 0) (ℕ-discrete asked 0)
   where
-    number : {f : Fault} → f ≡ ifSame nonzero 0 (ifSame asked 0 noFault (firstOf (remainderBreak 21 target 0 n 0) (fault 21))) (firstOf (remainderBreak 20 remainders 0 n 0) (firstOf (remainderBreak 20 remainders (limits .states) n 0) (fault 20))) → Passes f
+    number : {f : Fault} → f ≡ ifSame nonzero 0 (ifSame asked 0 (costBreak paid owed) (firstOf (remainderBreak 21 target 0 n 0) (fault 21))) (firstOf (remainderBreak 20 remainders 0 n 0) (firstOf (remainderBreak 20 remainders (limits .states) n 0) (fault 20))) → Passes f
     number q = ap (λ (x : Fault). x .number) q ∙ p
 
     go : Dec (nonzero ≡ 0) → Dec (asked ≡ 0) → AllZero remainders × AllZero target

@@ -1,4 +1,4 @@
 pub mod EntrySums
 pub mod Differences
 pub mod EquationsLaws
-pub mod PlainEquations
+pub mod RuleEquations

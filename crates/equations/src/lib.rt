@@ -38,17 +38,20 @@ fn or_number(found: Fault, number: u32) -> Fault
     fault::refusal(number)
 }
 
-// 20 and 21, of n states, by how many remainders of each table are not zero. The state is looked for only where one is: a flow that
-// passes costs nothing more. It is always found; that the number follows from the counts needs no such argument.
+// 20 and 21, of n states, by how many remainders of each table are not zero; then 30, by what was paid and what was owed. The state is looked
+// for only where one is: a flow that passes costs nothing more. It is always found; that the number follows from the counts needs no such
+// argument.
 pub fn verdict(
     n: usize,
     remainders: &Remainders,
     nonzero: usize,
     target: &Remainders,
     asked: usize,
+    paid: usize,
+    owed: usize,
 ) -> Fault
     requires { ⌜ n ≤ limits .states ⌝ }
-    ensures { λ r. ⌜ faultOf r ≡ verdictOf n (now (remainders .entry)) nonzero (now (target .entry)) asked ⌝ }
+    ensures { λ r. ⌜ faultOf r ≡ verdictOf n (now (remainders .entry)) nonzero (now (target .entry)) asked paid owed ⌝ }
 {
     if nonzero != 0 {
         let before = first_break(20, remainders, 0, n);
@@ -61,6 +64,9 @@ pub fn verdict(
     if asked != 0 {
         let aimed = first_break(21, target, 0, n);
         return or_number(aimed, 21);
+    }
+    if paid != owed {
+        return fault::refusal(30);
     }
     fault::none()
 }

@@ -11,6 +11,8 @@ use Rattle.rules.specs.definitions.Faults.{Fault, Passes, certificateRecord, op
 use Rattle.fault.specs.Faults.{faultOf}
 use Rattle.pairs.specs.Rows.{HoldsPairs}
 use Rattle.transition.specs.Known.{automatonIn, Known}
+use Rattle.rule_kind.specs.declared.Kind.{Kind}
+use Rattle.rule_kind.specs.Kinds.{KindStands}
 use Rattle.remainders.specs.Remainders.{AllZero}
 use Rattle.entries_k.specs.Taking.{mostKs}
 use Rattle.entries_w.specs.Matching.{mostWs}
@@ -40,8 +42,9 @@ abbrev pub flowChanges : ℕ
 flowChanges = 1 + 2 * mostKs + mostWs
 
 -- a flow whose entries can be judged
-pub record CanJudge (s C : List ℕ) (n count : ℕ) (places : List ℕ) (q t at : ℕ) (head : Head) (remainders target : List ℤ) : Type 0 where
+pub record CanJudge (kind : Kind) (s C : List ℕ) (n count : ℕ) (places : List ℕ) (q t at : ℕ) (head : Head) (remainders target : List ℤ) : Type 0 where
   pub known : Known s n count places
+  pub rule : KindStands kind s
   pub challenger : q < count
   pub defender : t < n
   pub stands : FlowStands C at

@@ -1,6 +1,6 @@
 -- A flow record's ways out.
 use Prim.Native.Nat.{ℕ, _+_, _*_, _≤_, _<_}
-use mathlib.Core.Path.{_≡_, refl, _∙_, ap}
+use mathlib.Core.Path.{_≡_, refl, _∙_}
 use mathlib.Core.List.{List}
 use lib.ListN.{length}
 use lib.IntN.{ℤ}
@@ -13,9 +13,9 @@ use Rattle.rules.specs.definitions.Bytes.{fourAt}
 use Rattle.rules.specs.definitions.Certificate.{FileRule, kCountAt, wCountAt, afterK, afterFlow, kFault, wFault, flowAt, flowFault}
 use Rattle.rules.specs.definitions.Faults as rules
 use Rattle.rules.specs.definitions.Faults.{fault, Passes, certificateRecord, firstOf}
-use Rattle.rules.specs.argument.FaultLaws.{first-stops, first-none, certificate-refuses, opened}
+use Rattle.rules.specs.argument.FaultLaws.{pass-on, first-stops, first-none, certificate-refuses, opened}
 use Rattle.fault.specs.Faults.{faultOf, Placed}
-use Rattle.fault.specs.FaultsLaws.{none-is, placed-some}
+use Rattle.fault.specs.FaultsLaws.{none-is}
 use Rattle.fault.specs.declared.Fault.{Fault}
 use Rattle.pairs.specs.Rows.{HoldsPairs}
 use Rattle.transition.specs.Known.{automatonIn}
@@ -66,19 +66,20 @@ module _ (rule : FileRule) (A : Automaton) {C : List ℕ} (R : Pairs) (q t : ℕ
 
 -- a refusal says nothing of the remainders, nor of what follows
 module _ {rule : FileRule} {s C : List ℕ} {n : ℕ} {rows : List ℕ} {q t at : ℕ} {remainders target : List ℤ} {r : Met} where
-  refused-by : (f : Fault) → Placed (faultOf f) at (r .fault) → (f .number ≡ 0 → ⊥) → ((R : Pairs) → HoldsPairs n R rows → faultOf f ≡ flowFault rule (automatonIn s) C R q t at) → FlowJudged rule s C n rows q t at remainders target r
+  refused-by : (f : rules.Fault) → Placed f at (r .fault) → (f .number ≡ 0 → ⊥) → ((R : Pairs) → HoldsPairs n R rows → f ≡ flowFault rule (automatonIn s) C R q t at) → FlowJudged rule s C n rows q t at remainders target r
   refused-by f p some e =
+      let fails : r .fault .number ≡ 0 → ⊥ = λ z. some (pass-on (p .is) z) in
       record {
         is = λ R h. p .is ∙ e R h;
         place = p .at;
-        next = λ z. absurd (placed-some f p some z);
-        inside = λ z. absurd (placed-some f p some z);
-        zeros = λ z. absurd (placed-some f p some z);
+        next = λ z. absurd (fails z);
+        inside = λ z. absurd (fails z);
+        zeros = λ z. absurd (fails z);
       }
 
   pub not-opened : (f : Fault) → Placed (faultOf f) at (r .fault) → (f .number ≡ 0 → ⊥) → faultOf f ≡ flowOpens C at → FlowJudged rule s C n rows q t at remainders target r
   unfolding flowFault
-  not-opened f p some e = refused-by f p some (λ R h. first-stops _ _ e some)
+  not-opened f p some e = refused-by (faultOf f) p some (λ R h. first-stops _ _ e some)
 
-  pub refused-with : (f : Fault) {m : ℕ} → Placed (faultOf f) at (r .fault) → faultOf f ≡ fault m → 0 < m → ((R : Pairs) → HoldsPairs n R rows → fault m ≡ flowFault rule (automatonIn s) C R q t at) → FlowJudged rule s C n rows q t at remainders target r
-  refused-with f p is some e = refused-by f p (λ z. omega (arith, ap (λ (g : rules.Fault). g .number) is)) (λ R h. is ∙ e R h)
+  pub refused-with : (m : ℕ) → Placed (fault m) at (r .fault) → 0 < m → ((R : Pairs) → HoldsPairs n R rows → fault m ≡ flowFault rule (automatonIn s) C R q t at) → FlowJudged rule s C n rows q t at remainders target r
+  refused-with m p some e = refused-by (fault m) p (λ z. omega arith) e

@@ -1,7 +1,8 @@
 // A flow record judged: its entries, and its equations as one signed number a state, left less right.
 ghost use Prim.Native.Nat.{_+_, _≤_, _<_};
 ghost use lib.ListN.{length};
-ghost use Rattle.rules.specs.definitions.PlainRule.{plainRule};
+ghost use Rattle.rules.specs.definitions.Faults as rules;
+ghost use Rattle.rule_kind.specs.Kinds.{ruleOf, KindStands};
 ghost use Rattle.fault.specs.Faults.{faultOf, Placed};
 ghost use Rattle.transition.specs.Known.{Known};
 ghost use Rattle.remainders.specs.Remainders.{AllZero};
@@ -11,6 +12,7 @@ use field::Cursor;
 use model::Places;
 use pairs::Rows;
 use remainders::Remainders;
+use rule_kind::Kind;
 
 const MARK: usize = 0x464C;
 
@@ -50,8 +52,15 @@ fn refused(fault: Fault, place: Cursor) -> Met
     }
 }
 
+fn refused_with(number: u32, place: Cursor) -> Met
+    ensures { λ r. ⌜ Placed (rules.fault number) (place .at) (r .fault) ⌝ }
+{
+    refused(fault::refusal(number), place)
+}
+
 // The flow at a place, from its k entries on, which are whole.
 fn judge_entries(
+    kind: Kind,
     s: &[u8],
     n: usize,
     count: usize,
@@ -65,12 +74,13 @@ fn judge_entries(
     remainders: &mut Remainders,
     target: &mut Remainders,
 ) -> Met
-    requires { ⌜ CanJudge (now s) (now cert) n count (now places) q t (place .at) head (now remainders) (now target) ⌝ }
-    ensures { λ r. ⌜ FlowJudged plainRule (now (s .entry)) (now (cert .entry)) n (now (rows .entry)) q t (place .at) (now (remainders .exit)) (now (target .exit)) r ⌝ }
+    requires { ⌜ CanJudge kind (now s) (now cert) n count (now places) q t (place .at) head (now remainders) (now target) ⌝ }
+    ensures { λ r. ⌜ FlowJudged (ruleOf kind (now (s .entry))) (now (s .entry)) (now (cert .entry)) n (now (rows .entry)) q t (place .at) (now (remainders .exit)) (now (target .exit)) r ⌝ }
 {
     let challenger = transition::fields_of(s, places, q);
     let given = remainders::give(remainders, t, 1, head.d, 0);
     let k = entries_k::take_ks(
+        kind,
         s,
         count,
         places,
@@ -82,14 +92,14 @@ fn judge_entries(
         given,
     );
     if !k.good {
-        return refused(fault::refusal(19), place);
+        return refused_with(19, place);
     }
     if cert.len() - k.next.at < 2 {
-        return refused(fault::refusal(11), place);
+        return refused_with(11, place);
     }
     let entries = k.next.pair(cert);
     if cert.len() - entries.next.at < 6 * entries.value {
-        return refused(fault::refusal(11), place);
+        return refused_with(11, place);
     }
     let asked = remainders::arrive(s, places, q, signed::minus(head.d), 0, target, 0);
     let w = entries_w::take_ws(
@@ -106,17 +116,20 @@ fn judge_entries(
         asked,
     );
     if !w.good {
-        return refused(fault::refusal(19), place);
+        return refused_with(19, place);
     }
+    let owed = rule_kind::cost_of(kind, s, count, places, q) * head.d;
+    let judged = equations::verdict(n, remainders, w.nonzero, target, w.target, k.paid, owed);
     let next = w.next;
     Met {
-        fault: equations::verdict(n, remainders, w.nonzero, target, w.target).at(place.at),
+        fault: judged.at(place.at),
         next,
     }
 }
 
 // The flow record at a place, for the challenger q against t. The remainders are zero before it, and after it where it has no fault.
 pub fn judge_flow(
+    kind: Kind,
     s: &[u8],
     n: usize,
     count: usize,
@@ -129,8 +142,8 @@ pub fn judge_flow(
     remainders: &mut Remainders,
     target: &mut Remainders,
 ) -> Met
-    requires { ⌜ Known (now s) n count (now places) × (q < count) × (t < n) × (place .at ≤ length (now cert)) × AllZero (now remainders) × AllZero (now target) ⌝ }
-    ensures { λ r. ⌜ FlowJudged plainRule (now (s .entry)) (now (cert .entry)) n (now (rows .entry)) q t (place .at) (now (remainders .exit)) (now (target .exit)) r ⌝ }
+    requires { ⌜ Known (now s) n count (now places) × (q < count) × (t < n) × (place .at ≤ length (now cert)) × AllZero (now remainders) × AllZero (now target) × KindStands kind (now s) ⌝ }
+    ensures { λ r. ⌜ FlowJudged (ruleOf kind (now (s .entry))) (now (s .entry)) (now (cert .entry)) n (now (rows .entry)) q t (place .at) (now (remainders .exit)) (now (target .exit)) r ⌝ }
 {
     let opened = record::open_certificate(cert, place.at, MARK, 8);
     if opened.number != 0 {
@@ -138,12 +151,13 @@ pub fn judge_flow(
     }
     let head = head_at(cert, place.at);
     if head.d == 0 {
-        return refused(fault::refusal(19), place);
+        return refused_with(19, place);
     }
     if cert.len() - head.first.at < 7 * head.entries {
-        return refused(fault::refusal(11), place);
+        return refused_with(11, place);
     }
     judge_entries(
+        kind,
         s,
         n,
         count,

@@ -1,13 +1,14 @@
 // The flows of a certificate judged, for each question in its order, and what is left after them.
 ghost use Prim.Native.Nat.{_+_, _≤_};
 ghost use lib.ListN.{length};
-ghost use Rattle.rules.specs.definitions.PlainRule.{plainRule};
+ghost use Rattle.rule_kind.specs.Kinds.{ruleOf, KindStands};
 ghost use Rattle.transition.specs.Known.{Known};
 ghost use Rattle.flows.specs.FlowsJudged.{JudgesFlows};
 use fault::Fault;
 use field::Cursor;
 use model::Places;
 use pairs::Rows;
+use rule_kind::Kind;
 
 // The certificate is accepted, and its blocks stand at a place; or it is rejected, by the fault of a record.
 pub enum Judged {
@@ -17,6 +18,7 @@ pub enum Judged {
 
 // The flows from the end of the n blocks on, and 22.
 pub fn judge_flows(
+    kind: Kind,
     s: &[u8],
     n: usize,
     count: usize,
@@ -25,8 +27,8 @@ pub fn judge_flows(
     cert: &[u8],
     blocks: usize,
 ) -> Judged
-    requires { ⌜ Known (now s) n count (now places) × (blocks + n ≤ length (now cert)) ⌝ }
-    ensures { λ r. ⌜ JudgesFlows plainRule (now (s .entry)) (now (cert .entry)) n (now (rows .entry)) blocks r ⌝ }
+    requires { ⌜ Known (now s) n count (now places) × (blocks + n ≤ length (now cert)) × KindStands kind (now s) ⌝ }
+    ensures { λ r. ⌜ JudgesFlows (ruleOf kind (now (s .entry))) (now (s .entry)) (now (cert .entry)) n (now (rows .entry)) blocks r ⌝ }
 {
     let mut remainders = remainders::no_remainders();
     let mut target = remainders::no_remainders();
@@ -42,6 +44,7 @@ pub fn judge_flows(
             let mut r = first;
             while r < end {
                 let met = flow::judge_flow(
+                    kind,
                     s,
                     n,
                     count,

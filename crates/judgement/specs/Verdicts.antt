@@ -5,26 +5,37 @@ use mathlib.Core.Logic.{_↔_}
 use mathlib.Core.List.{List, [], _∷_}
 use lib.ListN.{length, take, drop}
 use Rattle.rules.specs.definitions.Limits.{limits}
-use Rattle.rules.specs.definitions.JudgedBy.{plainPairs}
 use Rattle.rules.specs.definitions.Model.{Model}
-use Rattle.rules.specs.definitions.Reading.{readWhole, model}
-use Rattle.rules.specs.definitions.Judging.{accepted, judge}
+use Rattle.rules.specs.definitions.Reading.{Scan, scanWhole, modelAt, model}
 use Rattle.rules.specs.definitions.Answers as rules
 use Rattle.rules.specs.definitions.Answers.{answerWithoutPlace, unwritten, Follows}
-use Rattle.rules.specs.definitions.Demands.{outcomeBy}
-use Rattle.rules.specs.definitions.PlainRule.{plainRule}
+use Rattle.rules.specs.definitions.Demands.{AcceptedBy, outcomeBy}
+use Rattle.cost_files.specs.definitions.CostReading.{scanCostModel}
 use Rattle.transition.specs.Known.{Known}
-use Rattle.transition.specs.ModelRead.{ReadsModel}
+use Rattle.rule_kind.specs.Kinds.{pairsBy, KindStands}
+use Rattle.rule_kind.specs.declared.Kind.{Kind}
+use Rattle.rule_kind.specs.declared.Kind.the-variants.{Plain, Costs}
 use Rattle.answer.specs.declared.Answer.{Answer}
 use Rattle.judgement.specs.declared.Verdict.{Verdict}
 use Rattle.judgement.specs.declared.Verdict.the-variants.{Accepted, Refused}
 use Rattle.answer.specs.Answered.{answered, OutcomeIs}
 
+-- how a model file is scanned
+abbrev pub scanBy : Kind → List ℕ → Scan
+scanBy Plain = scanWhole limits
+scanBy Costs = scanCostModel limits
+
+-- the model file is read as sound, and has what the rule asks of it
+pub record ReadsBy (kind : Kind) (M : List ℕ) : Type 0 where
+  pub end : ℕ
+  pub reads : pairsBy kind M .read M ≡ model (modelAt M) end
+  pub stands : KindStands kind M
+
 -- an accepted certificate: the blocks are the n bytes at a place of it, and there is room for them
-pub record AcceptedAt (M C table : List ℕ) (room n count at : ℕ) : Type 0 where
+pub record AcceptedAt (kind : Kind) (M C table : List ℕ) (room n count at : ℕ) : Type 0 where
   pub known : Known M n count table
-  pub model : ReadsModel M
-  pub judged : judge limits (readWhole limits) plainRule M C ≡ accepted (take n (drop at C))
+  pub model : ReadsBy kind M
+  pub judged : AcceptedBy (pairsBy kind M) M C (take n (drop at C))
   pub inside : at + n ≤ length C
   pub fits : n ≤ room
 
@@ -33,12 +44,12 @@ abbrev pub RoomFor : Follows → (before : List ℕ) → (room : ℕ) → Type 0
 RoomFor follows before room = (N : Model) → length (N .labels) ≤ limits .states → (length before < follows .blockRoom N) ↔ (room < length (N .labels))
 
 -- a refusal, in document 01's terms, whatever would follow acceptance
-pub record RefusedAs (M C : List ℕ) (room : ℕ) (r : Answer) : Type 0 where
-  pub refuses : (follows : Follows) (before : List ℕ) → RoomFor follows before room → OutcomeIs (outcomeBy plainPairs follows M C before) (M ∷ C ∷ []) before r
+pub record RefusedAs (kind : Kind) (M C : List ℕ) (room : ℕ) (r : Answer) : Type 0 where
+  pub refuses : (follows : Follows) (before : List ℕ) → RoomFor follows before room → OutcomeIs (outcomeBy (pairsBy kind M) follows M C before) (M ∷ C ∷ []) before r
 
-abbrev pub VerdictSays : (M C table : List ℕ) (room : ℕ) → Verdict → Type 0
-VerdictSays M C table room (Accepted n count at) = AcceptedAt M C table room n count at
-VerdictSays M C table room (Refused r) = RefusedAs M C room r
+abbrev pub VerdictSays : (kind : Kind) (M C table : List ℕ) (room : ℕ) → Verdict → Type 0
+VerdictSays kind M C table room (Accepted n count at) = AcceptedAt kind M C table room n count at
+VerdictSays kind M C table room (Refused r) = RefusedAs kind M C room r
 
 -- document 01's number, file and place for each case: 0, 0 and 0 where the certificate is accepted
 abbrev pub verdictAnswer : Verdict → rules.Answer
@@ -49,6 +60,6 @@ verdictAnswer (Refused r) = answered r
 abbrev pub judgesOnly : Follows
 judgesOnly = record { blockRoom = λ N. length (N .labels); outcome = λ N blocks buffer. unwritten (answerWithoutPlace 0 0) buffer; late = 0 }
 
-pub record VerdictIs (M C table : List ℕ) (room : ℕ) (r : Verdict) : Type 0 where
-  pub says : VerdictSays M C table room r
-  pub answers : (before : List ℕ) → length before ≡ room → verdictAnswer r ≡ outcomeBy plainPairs judgesOnly M C before .answer
+pub record VerdictIs (kind : Kind) (M C table : List ℕ) (room : ℕ) (r : Verdict) : Type 0 where
+  pub says : VerdictSays kind M C table room r
+  pub answers : (before : List ℕ) → length before ≡ room → verdictAnswer r ≡ outcomeBy (pairsBy kind M) judgesOnly M C before .answer

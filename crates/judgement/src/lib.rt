@@ -5,12 +5,13 @@ ghost use Rattle.limits.specs.Sizes as sizes;
 ghost use Rattle.rules.specs.definitions.Limits.{limits};
 ghost use Rattle.rules.specs.definitions.Reading.{headFault};
 ghost use Rattle.transition.specs.Known.{Known};
-ghost use Rattle.transition.specs.ModelRead.{ReadsModel};
-ghost use Rattle.judgement.specs.Verdicts.{VerdictIs};
+ghost use Rattle.model.specs.Scanned.{Scans};
+ghost use Rattle.judgement.specs.Verdicts.{scanBy, ReadsBy, VerdictIs};
 use answer::Answer;
 use flows::Judged;
 use model::Places;
 use model::Scanned;
+use rule_kind::Kind;
 
 // What a judging call finds: the model's counts and where in the certificate the accepted blocks begin; or the answer of a refusal.
 pub enum Verdict {
@@ -24,6 +25,7 @@ pub enum Verdict {
 
 // A sound model's certificate judged, for a buffer with room for so many blocks.
 fn judge_sound(
+    kind: Kind,
     model: &[u8],
     n: usize,
     count: usize,
@@ -31,13 +33,13 @@ fn judge_sound(
     certificate: &[u8],
     room: usize,
 ) -> Verdict
-    requires { ⌜ Known (now model) n count (now places) × ReadsModel (now model) ⌝ }
-    ensures { λ r. ⌜ VerdictIs (now (model .entry)) (now (certificate .entry)) (now (places .entry)) room r ⌝ }
+    requires { ⌜ Known (now model) n count (now places) × ReadsBy kind (now model) ⌝ }
+    ensures { λ r. ⌜ VerdictIs kind (now (model .entry)) (now (certificate .entry)) (now (places .entry)) room r ⌝ }
 {
     if room < n {
         return Verdict::Refused(answer::without_place(10, 0));
     }
-    let judged = certificate::judge_certificate(model, n, count, places, certificate);
+    let judged = certificate::judge_certificate(kind, model, n, count, places, certificate);
     match judged {
         Judged::Accepted { blocks } => Verdict::Accepted {
             states: n,
@@ -52,15 +54,40 @@ fn judge_sound(
     }
 }
 
-// The model read from its labels on, then its certificate judged. A call without a block buffer gives the most states that a model has.
-pub fn judge_files(model: &[u8], certificate: &[u8], places: &mut Places, room: usize) -> Verdict
+// The model read from its labels on, as the kind of its pair asks.
+fn scan(kind: Kind, model: &[u8], places: &mut Places) -> Scanned
     requires { ⌜ (length (now places) ≡ sizes.places) × (headFault limits (now model) .number ≡ 0) ⌝ }
-    ensures { λ r. ⌜ VerdictIs (now (model .entry)) (now (certificate .entry)) (now (places .exit)) room r ⌝ }
+    ensures { λ r. ⌜ Scans (now (model .entry)) (scanBy kind (now (model .entry))) r (now (places .exit)) ⌝ }
 {
-    let scanned = model::scan_whole(model, places);
+    match kind {
+        Kind::Plain => model::scan_whole(model, places),
+        Kind::Costs => cost_model::scan_cost_model(model, places),
+    }
+}
+
+// The model read, then its certificate judged. A call without a block buffer gives the most states that a model has.
+pub fn judge_files(
+    kind: Kind,
+    model: &[u8],
+    certificate: &[u8],
+    places: &mut Places,
+    room: usize,
+) -> Verdict
+    requires { ⌜ (length (now places) ≡ sizes.places) × (headFault limits (now model) .number ≡ 0) ⌝ }
+    ensures { λ r. ⌜ VerdictIs kind (now (model .entry)) (now (certificate .entry)) (now (places .exit)) room r ⌝ }
+{
+    let scanned = scan(kind, model, places);
     match scanned {
         Scanned::Sound(m) => {
-            judge_sound(model, m.states, m.transitions, places, certificate, room)
+            judge_sound(
+                kind,
+                model,
+                m.states,
+                m.transitions,
+                places,
+                certificate,
+                room,
+            )
         }
         Scanned::Refused(wrong) => Verdict::Refused(answer::refusal_in(wrong, 1, model.len())),
     }

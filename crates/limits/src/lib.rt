@@ -11,6 +11,9 @@ pub const REFUTATIONS: usize = 2016;
 
 pub const LABEL: usize = 63;
 
+// The highest cost of a transition (document 02, K6).
+pub const COST: usize = 63;
+
 // A place for each transition, and one for where the records end.
 pub const PLACES: usize = TRANSITIONS + 1;
 

@@ -4,7 +4,9 @@ use mathlib.Core.Path.{_≡_, refl, _∙_, ap}
 use mathlib.Core.List.{List}
 use lib.ListN.{length, getD}
 use Rattle.rules.specs.definitions.Limits.{limits}
-use Rattle.rules.specs.definitions.Reading.{headFault, Scan, sound, refused, scanWhole, placeOf}
+use Rattle.bisimulation.specs.argument.ChoiceLaws.{eitherLess}
+use Rattle.rules.specs.definitions.Faults.{fault}
+use Rattle.rules.specs.definitions.Reading.{headFault, Scan, sound, refused, refuseBytesLeft, scanWhole, placeOf}
 use Rattle.rules.specs.argument.ReadingLaws.{head-stops}
 use Rattle.rules.specs.definitions.Answers.{Answer, refusalIn, answerWithoutPlace, scanAnswer}
 use Rattle.fault.specs.Faults.{faultOf, Placed}
@@ -46,6 +48,12 @@ scans {s} r e places size = record { answer = e; says = cases r ∙ ap (scanAnsw
     cases : (x : Scanned) → scannedAnswer (length s) x ≡ scanAnswer (length s) (scanOf x)
     cases (Sound m) = unfold scanAnswer in refl
     cases (Refused f) = unfold scanAnswer in refl
+
+-- bytes left make nothing of the places
+pub left-held : (s table : List ℕ) (scan : Scan) → PlacesOf s table scan → PlacesOf s table (refuseBytesLeft s scan)
+unfolding refuseBytesLeft
+left-held s table (sound n m count end) h = eitherLess (PlacesOf s table) end (length s) {x = refused (fault 9) end} {y = sound n m count end} tt h
+left-held s table (refused f place) h = tt
 
 -- a fault of the head is the file's
 pub head-refused : (s : List ℕ) (f : Fault) → Placed (headFault limits s) 0 f → (f .number ≡ 0 → ⊥) → refused (faultOf f) (f .place) ≡ scanWhole limits s

@@ -3,9 +3,9 @@ ghost use Prim.Native.Nat.{_+_, _≤_};
 ghost use lib.ListN.{length};
 ghost use mathlib.Core.Path.{_≡_};
 ghost use Rattle.rules.specs.definitions.Limits.{limits};
-ghost use Rattle.rules.specs.definitions.Reading.{headFault, statesOf, scanTransitions, scanModel, scanWhole};
+ghost use Rattle.rules.specs.definitions.Reading.{headFault, statesOf, sound, scanTransitions, scanModel, refuseBytesLeft, scanWhole};
 ghost use Rattle.limits.specs.Sizes as sizes;
-ghost use Rattle.model.specs.Scanned.{Scans};
+ghost use Rattle.model.specs.Scanned.{scanOf, Scans};
 use fault::Fault;
 use field::Cursor;
 use limits::PLACES;
@@ -70,6 +70,16 @@ pub fn scan_model(s: &[u8], places: &mut Places) -> Scanned
     scan_transitions(s, head.states, head.actions, head.transitions, places)
 }
 
+// 9, or the model that fills its file.
+pub fn whole(s: &[u8], m: Model) -> Scanned
+    ensures { λ r. ⌜ scanOf r ≡ refuseBytesLeft (now (s .entry)) (sound (m .states) (m .actions) (m .transitions) (m .end)) ⌝ }
+{
+    if m.end < s.len() {
+        return Scanned::Refused(fault::refusal(9).at(m.end));
+    }
+    Scanned::Sound(m)
+}
+
 // Refusals 1 to 9 from the labels on, or a sound model that fills the file.
 pub fn scan_whole(s: &[u8], places: &mut Places) -> Scanned
     requires { ⌜ (length (now places) ≡ sizes.places) × (headFault limits (now s) .number ≡ 0) ⌝ }
@@ -77,12 +87,7 @@ pub fn scan_whole(s: &[u8], places: &mut Places) -> Scanned
 {
     let scanned = scan_model(s, places);
     match scanned {
-        Scanned::Sound(m) => {
-            if m.end < s.len() {
-                return Scanned::Refused(fault::refusal(9).at(m.end));
-            }
-            Scanned::Sound(m)
-        }
+        Scanned::Sound(m) => whole(s, m),
         Scanned::Refused(wrong) => Scanned::Refused(wrong),
     }
 }

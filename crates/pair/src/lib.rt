@@ -3,8 +3,8 @@ ghost use mathlib.Core.Path.{_≡_};
 ghost use lib.ListN.{length};
 ghost use Rattle.rules.specs.definitions.Limits.{limits};
 ghost use Rattle.rules.specs.definitions.Reading.{headFault};
-ghost use Rattle.acceptance.specs.Tasks.{followsOf, numbersOf, roomOf};
-ghost use Rattle.pair.specs.Pair.{PairAnswered};
+ghost use Rattle.acceptance.specs.Tasks.{roomOf};
+ghost use Rattle.pair.specs.Pair.{TaskAnswered};
 use acceptance::Task;
 use answer::Answer;
 use judgement::Verdict;
@@ -19,10 +19,16 @@ pub fn answer_headed(
     out: &mut [u8],
 ) -> Answer
     requires { ⌜ (headFault limits (now model) .number ≡ 0) × (room ≡ roomOf task (length (now out))) ⌝ }
-    ensures { λ r. ⌜ PairAnswered (followsOf task) (numbersOf task) (now (model .entry)) (now (certificate .entry)) (now (out .entry)) (now (out .exit)) r ⌝ }
+    ensures { λ r. ⌜ TaskAnswered task (now (model .entry)) (now (certificate .entry)) (now (out .entry)) (now (out .exit)) r ⌝ }
 {
     let mut places = model::no_places();
-    let found = judgement::judge_files(model, certificate, &mut places, room);
+    let found = judgement::judge_files(
+        acceptance::kind_of(task),
+        model,
+        certificate,
+        &mut places,
+        room,
+    );
     match found {
         Verdict::Accepted {
             states,
@@ -44,7 +50,7 @@ pub fn answer_headed(
 // The head, and the rest of the pair. Only a call that lends a block buffer limits the blocks. The
 // rest has a large frame and is called from two places, so that the compiler keeps it out of line: a refusal at the head needs no such frame.
 pub fn answer_pair(task: Task, model: &[u8], certificate: &[u8], out: &mut [u8]) -> Answer
-    ensures { λ r. ⌜ PairAnswered (followsOf task) (numbersOf task) (now (model .entry)) (now (certificate .entry)) (now (out .entry)) (now (out .exit)) r ⌝ }
+    ensures { λ r. ⌜ TaskAnswered task (now (model .entry)) (now (certificate .entry)) (now (out .entry)) (now (out .exit)) r ⌝ }
 {
     let head = model_head::head_fault(model);
     if head.number != 0 {
@@ -54,5 +60,6 @@ pub fn answer_pair(task: Task, model: &[u8], certificate: &[u8], out: &mut [u8])
     match task {
         Task::Blocks => answer_headed(task, size, model, certificate, out),
         Task::Merged => answer_headed(task, STATES, model, certificate, out),
+        Task::CostBlocks => answer_headed(task, size, model, certificate, out),
     }
 }

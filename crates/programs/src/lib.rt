@@ -1,5 +1,5 @@
-// The judging program of document 01, those that reduce, write the block sheet, join and compare beside it, and a fetch, as functions that
-// the programs call.
+// The judging program of document 01, those that judge cost pairs, reduce, write the block sheet, join and compare beside it, and a fetch, as
+// functions that the programs call.
 ghost use Prim.Native.Nat.{_<_};
 ghost use Rattle.io.specs.Counts.{Counts};
 use libc::STDOUT_FILENO;
@@ -9,8 +9,10 @@ const MODEL: usize = 8192;
 
 const CERTIFICATE: usize = 49152;
 
-// What a program writes from two files, and may keep.
+// What a program writes from two files, and may keep but for blocks, which it prints a state to a line.
 enum Output {
+    Blocks,
+    CostBlocks,
     Merged,
     Sheet,
     Joined,
@@ -18,7 +20,6 @@ enum Output {
 
 // What is asked of a model and a certificate, or of two models.
 enum Asked {
-    Judge,
     Write {
         output: Output,
         keeps: bool,
@@ -89,30 +90,6 @@ fn print_result(number: u32, file: u32, place: usize) {
     print(b"\n");
 }
 
-// Prints number, file and place, and on acceptance each state with its block.
-fn judge_and_print<'a>(model: &'a [u8], certificate: &'a [u8], blocks: &mut [u8]) {
-    let mut number = 0;
-    let mut file = 0;
-    let mut place = 0;
-    let mut broken = 0;
-    let mut remainder = 0;
-    let mut written = 0;
-    slices::judge(
-        model,
-        certificate,
-        blocks,
-        &mut number,
-        &mut file,
-        &mut place,
-        &mut broken,
-        &mut remainder,
-        &mut written,
-    );
-    print_result(number, file, place);
-    let end = at_most(written, blocks);
-    print_blocks(&blocks[..end]);
-}
-
 // Writes a file; a line on standard error says why where that fails.
 fn keep_file(path: &[u8], bytes: &[u8]) {
     let fd = os::open_overwrite(path);
@@ -132,12 +109,15 @@ fn keep_output(output: Output, bytes: &[u8]) {
         Output::Merged => keep_file(b"merged.bin", bytes),
         Output::Sheet => keep_file(b"blocks.txt", bytes),
         Output::Joined => keep_file(b"joined.bin", bytes),
+        _ => {}
     }
 }
 
-// Prints what was written, a sheet as it is.
+// Prints what was written: blocks by their states, a sheet as it is.
 fn print_output(output: Output, bytes: &[u8]) {
     match output {
+        Output::Blocks => print_blocks(bytes),
+        Output::CostBlocks => print_blocks(bytes),
         Output::Sheet => print(bytes),
         _ => print_bytes(bytes),
     }
@@ -157,6 +137,28 @@ fn write<'a>(
     written: &mut usize,
 ) -> &'a [u8] {
     match output {
+        Output::Blocks => slices::judge(
+            first,
+            second,
+            out,
+            number,
+            file,
+            place,
+            state,
+            remainder,
+            written,
+        ),
+        Output::CostBlocks => slices::judge_costs(
+            first,
+            second,
+            out,
+            number,
+            file,
+            place,
+            state,
+            remainder,
+            written,
+        ),
         Output::Merged => slices::reduce(
             first,
             second,
@@ -288,12 +290,8 @@ fn alike_and_print<'a>(
 
 fn answer<'a>(asked: Asked, model: &'a [u8], certificate: &'a [u8]) {
     match asked {
-        Asked::Judge => {
-            let mut blocks = [0u8; limits::STATES];
-            judge_and_print(model, certificate, &mut blocks);
-        }
         Asked::Write { output, keeps } => {
-            // long enough: a merged model is no longer than its model, a joined one is a model, and a sheet has at most 73 bytes a state
+            // long enough: blocks and merged models are no longer than their model, a joined one is a model, a sheet has at most 73 bytes a state
             let mut out = [0u8; MODEL];
             write_and_print(output, model, certificate, &mut out, keeps);
         }
@@ -326,37 +324,33 @@ fn answer_streams(asked: Asked, pa: i32, pa_bytes: usize, ct: i32, ct_bytes: usi
     read_and_answer(asked, pa, &mut model[..m], ct, &mut certificate[..c]);
 }
 
+// Writes what is asked for from two open files, of which at most so many bytes are theirs, prints it, and keeps nothing.
+fn write_streams(output: Output, first: i32, first_bytes: usize, second: i32, second_bytes: usize) {
+    let asked = Asked::Write {
+        output,
+        keeps: false,
+    };
+    answer_streams(asked, first, first_bytes, second, second_bytes);
+}
+
 // Judges two open files, of which at most so many bytes are theirs, and prints the answer.
 pub fn judge_streams(pa: i32, pa_bytes: usize, ct: i32, ct_bytes: usize) {
-    answer_streams(Asked::Judge, pa, pa_bytes, ct, ct_bytes);
+    write_streams(Output::Blocks, pa, pa_bytes, ct, ct_bytes);
+}
+
+// Judges a cost pair likewise.
+pub fn judge_costs_streams(pa: i32, pa_bytes: usize, ct: i32, ct_bytes: usize) {
+    write_streams(Output::CostBlocks, pa, pa_bytes, ct, ct_bytes);
 }
 
 // Reduces likewise, and keeps no merged.bin.
 pub fn reduce_streams(pa: i32, pa_bytes: usize, ct: i32, ct_bytes: usize) {
-    answer_streams(
-        Asked::Write {
-            output: Output::Merged,
-            keeps: false,
-        },
-        pa,
-        pa_bytes,
-        ct,
-        ct_bytes,
-    );
+    write_streams(Output::Merged, pa, pa_bytes, ct, ct_bytes);
 }
 
 // Writes the sheet likewise, and keeps no blocks.txt.
 pub fn sheet_streams(pa: i32, pa_bytes: usize, ct: i32, ct_bytes: usize) {
-    answer_streams(
-        Asked::Write {
-            output: Output::Sheet,
-            keeps: false,
-        },
-        pa,
-        pa_bytes,
-        ct,
-        ct_bytes,
-    );
+    write_streams(Output::Sheet, pa, pa_bytes, ct, ct_bytes);
 }
 
 // Fetches a state of an open model file likewise; no certificate is read.
@@ -366,16 +360,7 @@ pub fn fetch_stream(pa: i32, pa_bytes: usize, state: u32) {
 
 // Joins two models of one open file likewise, and keeps no joined.bin. Of each the first 8,192 bytes are read.
 pub fn join_streams(a: i32, a_bytes: usize, b: i32, b_bytes: usize) {
-    answer_streams(
-        Asked::Write {
-            output: Output::Joined,
-            keeps: false,
-        },
-        a,
-        a_bytes,
-        b,
-        b_bytes,
-    );
+    write_streams(Output::Joined, a, a_bytes, b, b_bytes);
 }
 
 // Compares two states of a joined model likewise.
@@ -410,48 +395,38 @@ fn answer_files(asked: Asked, first: &[u8], second: &[u8], second_bytes: usize) 
     libc::close(ct);
 }
 
+// Writes what is asked for from them, prints it, and keeps it.
+fn write_files(output: Output, first: &[u8], second: &[u8], second_bytes: usize) {
+    let asked = Asked::Write {
+        output,
+        keeps: true,
+    };
+    answer_files(asked, first, second, second_bytes);
+}
+
 // The judging program.
 pub fn judge_files() {
-    answer_files(Asked::Judge, b"pa.bin", b"ct.bin", usize::MAX);
+    write_files(Output::Blocks, b"pa.bin", b"ct.bin", usize::MAX);
+}
+
+// The program that judges cost pairs.
+pub fn judge_costs_files() {
+    write_files(Output::CostBlocks, b"pa.bin", b"ct.bin", usize::MAX);
 }
 
 // The reducing program: writes merged.bin.
 pub fn reduce_files() {
-    answer_files(
-        Asked::Write {
-            output: Output::Merged,
-            keeps: true,
-        },
-        b"pa.bin",
-        b"ct.bin",
-        usize::MAX,
-    );
+    write_files(Output::Merged, b"pa.bin", b"ct.bin", usize::MAX);
 }
 
 // The program that writes the block sheet: blocks.txt.
 pub fn sheet_files() {
-    answer_files(
-        Asked::Write {
-            output: Output::Sheet,
-            keeps: true,
-        },
-        b"pa.bin",
-        b"ct.bin",
-        usize::MAX,
-    );
+    write_files(Output::Sheet, b"pa.bin", b"ct.bin", usize::MAX);
 }
 
 // The joining program: writes joined.bin from a.bin and b.bin.
 pub fn join_files() {
-    answer_files(
-        Asked::Write {
-            output: Output::Joined,
-            keeps: true,
-        },
-        b"a.bin",
-        b"b.bin",
-        MODEL,
-    );
+    write_files(Output::Joined, b"a.bin", b"b.bin", MODEL);
 }
 
 fn wide(x: u8) -> u32

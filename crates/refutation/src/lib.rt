@@ -1,7 +1,7 @@
 // A refutation judged: its fixed fields, its pair, and its prices.
 ghost use Prim.Native.Nat.{_+_, _≤_};
 ghost use lib.ListN.{length};
-ghost use Rattle.rules.specs.definitions.PlainRule.{plainRule};
+ghost use Rattle.rule_kind.specs.Kinds.{ruleOf, KindStands};
 ghost use Rattle.fault.specs.Faults.{faultOf, Placed};
 ghost use Rattle.transition.specs.Known.{Known};
 ghost use Rattle.refutation_prices.specs.PricesJudged.{Tables};
@@ -11,6 +11,7 @@ use field::Cursor;
 use model::Places;
 use pairs::Rows;
 use prices::Prices;
+use rule_kind::Kind;
 
 const MARK: usize = 0x5058;
 
@@ -85,6 +86,7 @@ fn refused(fault: Fault, place: Cursor) -> Refuted
 
 // The refutation at a place, judged against the pairs left when it is read.
 pub fn judge_refutation(
+    kind: Kind,
     s: &[u8],
     n: usize,
     count: usize,
@@ -96,8 +98,8 @@ pub fn judge_refutation(
     y: &mut Prices,
     g: &mut Prices,
 ) -> Refuted
-    requires { ⌜ Known (now s) n count (now places) × (place .at ≤ length (now cert)) × Tables (now x) (now y) (now g) ⌝ }
-    ensures { λ r. ⌜ RefutationJudged plainRule (now (s .entry)) (now (cert .entry)) n (now (rows .entry)) (place .at) (now (x .exit)) (now (y .exit)) (now (g .exit)) r ⌝ }
+    requires { ⌜ Known (now s) n count (now places) × (place .at ≤ length (now cert)) × Tables (now x) (now y) (now g) × KindStands kind (now s) ⌝ }
+    ensures { λ r. ⌜ RefutationJudged (ruleOf kind (now (s .entry))) (now (s .entry)) (now (cert .entry)) n (now (rows .entry)) (place .at) (now (x .exit)) (now (y .exit)) (now (g .exit)) r ⌝ }
 {
     let opened = record::open_certificate(cert, place.at, MARK, 5);
     if opened.number != 0 {
@@ -109,12 +111,13 @@ pub fn judge_refutation(
         return refused(pair, place);
     }
     let challenger = transition::fields_of(s, places, head.challenger);
-    let size = 4 * refutation_prices::price_count(n, challenger.action);
+    let size = 4 * refutation_prices::price_count(kind, n, challenger.action);
     let start = head.prices.at;
     if cert.len() - start < size {
         return refused(fault::refusal(11), place);
     }
     let prices = refutation_prices::prices_fault(
+        kind,
         s,
         n,
         count,

@@ -1,3 +1,4 @@
 -- The prices of a refutation judged.
 pub mod PricesJudged
-pub mod PlainPrices
+pub mod FreePrices
+pub mod RulePrices

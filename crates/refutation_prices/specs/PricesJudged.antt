@@ -1,14 +1,18 @@
 -- What the judge of a refutation's prices hands up.
-use Prim.Native.Nat.{ℕ, _+_, _*_, _<_}
+use Prim.Native.Nat.{ℕ, _+_, _*_, _^_, _<_}
 use mathlib.Core.Path.{_≡_}
 use mathlib.Core.List.{List}
 use lib.ListN.{length}
-use lib.IntN.{ℤ}
+use lib.IntN.{ℤ, pos}
+use lib.Signed.{mag}
 use Rattle.bisimulation.specs.definitions.Pairs.{Pairs}
 use Rattle.rules.specs.definitions.Limits.{limits}
 use Rattle.rules.specs.definitions.Bytes.{signedAt}
 use Rattle.rules.specs.definitions.Faults as rules
 use Rattle.rules.specs.definitions.Certificate.{FileRule}
+use Rattle.rule_kind.specs.declared.Kind.{Kind}
+use Rattle.rule_kind.specs.declared.Kind.the-variants.{Plain, Costs}
+use Rattle.rule_kind.specs.Kinds.{KindStands}
 use Rattle.fault.specs.Faults.{faultOf}
 use Rattle.fault.specs.declared.Fault.{Fault}
 use Rattle.pairs.specs.Rows.{HoldsPairs}
@@ -20,11 +24,22 @@ pub record Tables (x y g : List ℤ) : Type 0 where
   pub second : length y ≡ limits .states
   pub third : length g ≡ limits .states
 
--- the challenger q and the defender t of a sound model
-pub record Asked (s : List ℕ) (n count : ℕ) (places : List ℕ) (q t : ℕ) : Type 0 where
+-- the challenger q and the defender t of a sound model, which has what the rule asks of it
+pub record Asked (kind : Kind) (s : List ℕ) (n count : ℕ) (places : List ℕ) (q t : ℕ) : Type 0 where
   pub known : Known s n count places
   pub challenger : q < count
   pub defender : t < n
+  pub stands : KindStands kind s
+
+-- the price L at a place, 0 where the rule has none
+abbrev pub furtherAt : Kind → List ℕ → ℕ → ℤ
+furtherAt Plain C at = pos 0
+furtherAt Costs C at = signedAt C at
+
+-- it is read, a number of four bytes
+pub record IsFurther (kind : Kind) (C : List ℕ) (at : ℕ) (l : ℤ) : Type 0 where
+  pub is : l ≡ furtherAt kind C at
+  pub small : mag l < 2 ^ 31
 
 -- the fault is F of the pairs that the rows hold
 pub record FaultIs (n : ℕ) (rows : List ℕ) (F : Pairs → rules.Fault) (r : Fault) : Type 0 where

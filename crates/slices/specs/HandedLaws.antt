@@ -8,8 +8,7 @@ use native.Mathlib.Omega.{arith}
 use Rattle.rules.specs.definitions.Limits.{limits}
 use Rattle.rules.specs.definitions.JudgedBy.{plainPairs}
 use Rattle.rules.specs.definitions.Answers as rules
-use Rattle.rules.specs.definitions.Answers.{FetchNumber, fetchAnswer, fileOf, stretchIn, stretchOf, Follows}
-use Rattle.rules.specs.definitions.Demands.{Demands}
+use Rattle.rules.specs.definitions.Answers.{FetchNumber, fetchAnswer, fileOf, stretchIn, stretchOf, Outcome}
 use Rattle.rules.specs.argument.AnswerLaws.{fetch-number, fetch-file, fetch-inside}
 use Rattle.answer.specs.declared.Answer.{Answer}
 use Rattle.answer.specs.Answered.{answered, StretchInside}
@@ -21,11 +20,11 @@ use Rattle.rules.specs.definitions.Accepted.{FileOf}
 use Rattle.joined.specs.JoinAnswer.{joinFiles, JoinDemands}
 use Rattle.joined.specs.AlikeAnswer.{Named, SaysAlike}
 use Rattle.joined.specs.AlikeAnswerLaws.{alike-written}
-use Rattle.pair.specs.Pair.{PairAnswered}
+use Rattle.pair.specs.Pair.{JudgeAnswered}
 use Rattle.join.specs.Join.{JoinAnswered}
 use Rattle.alike.specs.declared.AlikeAnswer.{AlikeAnswer}
 use Rattle.alike.specs.Alike.{AlikeAnswered}
-use Rattle.slices.specs.Slices.{FetchHandedBack, AnswerHandedBack, PairHandedBack, JoinHandedBack, AlikeHandedBack}
+use Rattle.slices.specs.Slices.{FetchHandedBack, AnswerHandedBack, JudgeHandedBack, JoinHandedBack, AlikeHandedBack}
 
 -- the two files of a pair, with any third
 pub pair-inside : {M C : List ℕ} (third : List ℕ) {r : Answer} → StretchInside (M ∷ C ∷ []) r → StretchInside (M ∷ C ∷ third ∷ []) r
@@ -51,12 +50,12 @@ answer-handed {M} {C} {m} {c} {r} third slice i h w =
       wrote = w;
     }
 
--- a pair's answer handed back
-pub pair-handed : {follows : Follows} {numbers : ℕ → Type 0} {M C before after : List ℕ} {m c : ℕ × ℕ} {r : Answer} {number file place state : ℕ} {remainder : ℤ} {written : ℕ} {part : List ℕ} {lying : ℕ × ℕ} → PairAnswered follows numbers M C before after r → AnswerHandedBack M C m c r number file place state remainder written part lying → PairHandedBack follows numbers M C before after m c number file place state remainder written part lying
-pair-handed {follows} {numbers} {M} {C} {before} {after} j h =
+-- a judging call's answer handed back
+pub judge-handed : {o : Outcome} {kept : ℕ → Type 0} {M C after : List ℕ} {m c : ℕ × ℕ} {r : Answer} {number file place state : ℕ} {remainder : ℤ} {written : ℕ} {part : List ℕ} {lying : ℕ × ℕ} → JudgeAnswered o kept M C after r → AnswerHandedBack M C m c r number file place state remainder written part lying → JudgeHandedBack o kept M C after m c number file place state remainder written part lying
+judge-handed {kept = kept} j h =
     record {
       outcome = handed-back _ _ (j .outcome) (h .hands) (h .wrote) refl refl;
-      demands = subst (Demands plainPairs follows numbers M C before after) (sym (h .hands .numbered)) (j .demands);
+      demands = subst kept (sym (h .hands .numbered)) (j .demands);
     }
 
 -- two joined models' answer handed back
@@ -71,7 +70,7 @@ join-handed {A} {B} {before} {after} j h w =
 pub alike-handed : {M C : List ℕ} {x : Named} {m c : ℕ × ℕ} {r : AlikeAnswer} {number file place state : ℕ} {remainder : ℤ} {written said : ℕ} {part : List ℕ} {lying : ℕ × ℕ} → AlikeAnswered M C x r → AnswerHandedBack M C m c (r .answer) number file place state remainder written part lying → said ≡ r .alike → AlikeHandedBack M C x m c number file place state remainder said part lying
 alike-handed {M} {C} {x} {r = r} {said = said} j h s =
     let none = alike-written plainRules M C x ∙ ap (λ (a : rules.Answer). a .written) (sym (j .answers .outcome .answer)) in
-    let p = pair-handed (j .answers) (record { hands = h .hands; wrote = none }) in
+    let p = judge-handed (j .answers) (record { hands = h .hands; wrote = none }) in
     record {
       outcome = p .outcome;
       demands = p .demands;

@@ -6,12 +6,15 @@ use mathlib.Core.List.{List, [], _∷_}
 use lib.IntN.{ℤ}
 use Rattle.rules.specs.definitions.Limits.{limits}
 use Rattle.rules.specs.definitions.JudgedBy.{plainPairs}
-use Rattle.rules.specs.definitions.Answers.{fetchAnswer, stretchIn, FetchNumber, Follows}
+use Rattle.rules.specs.definitions.Answers.{fetchAnswer, stretchIn, FetchNumber, Follows, Outcome}
 use Rattle.rules.specs.definitions.Demands.{outcomeBy, Demands}
 use Rattle.rules.specs.definitions.Reading.{readWhole}
 use Rattle.rules.specs.definitions.Accepted.{FileOf}
 use Rattle.joined.specs.JoinAnswer.{joinOutcome, joinFiles, JoinDemands}
 use Rattle.joined.specs.AlikeAnswer.{Named, testsParts, AlikeNumber, SaysAlike}
+use Rattle.cost_files.specs.definitions.CostAnswer.{costOutcome, CostDemands}
+use Rattle.acceptance.specs.declared.Task.{Task}
+use Rattle.pair.specs.Pair.{outcomeOf, demandsOf}
 use Rattle.answer.specs.declared.Answer.{Answer}
 use Rattle.answer.specs.Handing.{partFrom, HandsBack, Handed}
 
@@ -31,10 +34,25 @@ pub record AnswerHandedBack (model certificate : List ℕ) (modelSlice certifica
   pub hands : HandsBack (model ∷ certificate ∷ []) (modelSlice ∷ certificateSlice ∷ []) r number file place state remainder part lying
   pub wrote : written ≡ r .written
 
--- a call that judges (`PairAnswered`)
-pub record PairHandedBack (follows : Follows) (numbers : ℕ → Type 0) (model certificate before after : List ℕ) (modelSlice certificateSlice : ℕ × ℕ) (number file place state : ℕ) (remainder : ℤ) (written : ℕ) (part : List ℕ) (lying : ℕ × ℕ) : Type 0 where
-  pub outcome : Handed (outcomeBy plainPairs follows model certificate before) (model ∷ certificate ∷ []) (modelSlice ∷ certificateSlice ∷ []) after number file place state remainder written part lying
-  pub demands : Demands plainPairs follows numbers model certificate before after number
+-- a call that judges (`JudgeAnswered`)
+pub record JudgeHandedBack (o : Outcome) (kept : ℕ → Type 0) (model certificate after : List ℕ) (modelSlice certificateSlice : ℕ × ℕ) (number file place state : ℕ) (remainder : ℤ) (written : ℕ) (part : List ℕ) (lying : ℕ × ℕ) : Type 0 where
+  pub outcome : Handed o (model ∷ certificate ∷ []) (modelSlice ∷ certificateSlice ∷ []) after number file place state remainder written part lying
+  pub demands : kept number
+
+-- by document 01's rules (`PairAnswered`)
+abbrev pub PairHandedBack : (follows : Follows) (numbers : ℕ → Type 0) (model certificate before after : List ℕ) (modelSlice certificateSlice : ℕ × ℕ) (number file place state : ℕ) (remainder : ℤ) (written : ℕ) (part : List ℕ) (lying : ℕ × ℕ) → Type 0
+PairHandedBack follows numbers model certificate before after =
+    JudgeHandedBack (outcomeBy plainPairs follows model certificate before) (Demands plainPairs follows numbers model certificate before after) model certificate after
+
+-- of cost pairs (`CostAnswered`)
+abbrev pub CostHandedBack : (model certificate before after : List ℕ) (modelSlice certificateSlice : ℕ × ℕ) (number file place state : ℕ) (remainder : ℤ) (written : ℕ) (part : List ℕ) (lying : ℕ × ℕ) → Type 0
+CostHandedBack model certificate before after =
+    JudgeHandedBack (costOutcome model certificate before) (CostDemands model certificate before after) model certificate after
+
+-- by the call's task (`TaskAnswered`)
+abbrev pub TaskHandedBack : Task → (model certificate before after : List ℕ) (modelSlice certificateSlice : ℕ × ℕ) (number file place state : ℕ) (remainder : ℤ) (written : ℕ) (part : List ℕ) (lying : ℕ × ℕ) → Type 0
+TaskHandedBack task model certificate before after =
+    JudgeHandedBack (outcomeOf task model certificate before) (demandsOf task model certificate before after) model certificate after
 
 -- the call that joins two models (`JoinAnswered`): the first is file 1, the second file 3, and an empty part of the first stands for file 2,
 -- which no answer names

@@ -5,10 +5,9 @@ ghost use denote.Ref.{ptr};
 ghost use Rattle.rules.specs.definitions.Answers.{writesBlocks, writesMerged, JudgeNumber, ReduceNumber};
 ghost use Rattle.rules.specs.definitions.PlainRule.{plainRule};
 ghost use Rattle.block_sheet.specs.SheetAnswer.{writesSheet, SheetNumber};
-ghost use Rattle.acceptance.specs.Tasks.{followsOf, numbersOf};
 ghost use Rattle.answer.specs.Answered.{StretchInside};
 ghost use Rattle.alike.specs.Alike.{named};
-ghost use Rattle.slices.specs.Slices.{FetchHandedBack, AnswerHandedBack, PairHandedBack, JoinHandedBack, AlikeHandedBack};
+ghost use Rattle.slices.specs.Slices.{FetchHandedBack, AnswerHandedBack, PairHandedBack, CostHandedBack, TaskHandedBack, JoinHandedBack, AlikeHandedBack};
 use acceptance::Task;
 use answer::Answer;
 
@@ -80,7 +79,7 @@ fn hand_back_pair<'a>(
     remainder: &mut i64,
     written: &mut usize,
 ) -> &'a [u8]
-    ensures { λ r. ⌜ PairHandedBack (followsOf task) (numbersOf task) (now (model .entry)) (now (certificate .entry)) (now (out .entry)) (now (out .exit)) (ptr (model .entry)) (ptr (certificate .entry)) (now (number .exit)) (now (file .exit)) (now (place .exit)) (now (state .exit)) (now (remainder .exit)) (now (written .exit)) (now r) (ptr r) ⌝ }
+    ensures { λ r. ⌜ TaskHandedBack task (now (model .entry)) (now (certificate .entry)) (now (out .entry)) (now (out .exit)) (ptr (model .entry)) (ptr (certificate .entry)) (now (number .exit)) (now (file .exit)) (now (place .exit)) (now (state .exit)) (now (remainder .exit)) (now (written .exit)) (now r) (ptr r) ⌝ }
 {
     let answer = pair::answer_pair(task, model, certificate, out);
     hand_back_answer(
@@ -112,6 +111,34 @@ pub fn judge<'a>(
 {
     hand_back_pair(
         Task::Blocks,
+        model,
+        certificate,
+        blocks,
+        number,
+        file,
+        place,
+        state,
+        remainder,
+        written,
+    )
+}
+
+// Judges a cost certificate for a cost model. Acceptance writes the blocks, one byte a state.
+pub fn judge_costs<'a>(
+    model: &'a [u8],
+    certificate: &'a [u8],
+    blocks: &mut [u8],
+    number: &mut u32,
+    file: &mut u32,
+    place: &mut usize,
+    state: &mut u32,
+    remainder: &mut i64,
+    written: &mut usize,
+) -> &'a [u8]
+    ensures { λ r. ⌜ CostHandedBack (now (model .entry)) (now (certificate .entry)) (now (blocks .entry)) (now (blocks .exit)) (ptr (model .entry)) (ptr (certificate .entry)) (now (number .exit)) (now (file .exit)) (now (place .exit)) (now (state .exit)) (now (remainder .exit)) (now (written .exit)) (now r) (ptr r) ⌝ }
+{
+    hand_back_pair(
+        Task::CostBlocks,
         model,
         certificate,
         blocks,

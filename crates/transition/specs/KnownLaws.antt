@@ -24,12 +24,11 @@ use Rattle.model.specs.Scanned.{PlacesHeld}
 use Rattle.transition_record.specs.declared.Fields.{Fields}
 use Rattle.transition.specs.Known.{automatonIn, Known, KnownTransition, FieldsOf, entriesOf, EntriesKnown}
 
--- what the reader's answer tells
-pub known : (s : List ℕ) (n m count end : ℕ) (table : List ℕ) → Bytes s → sound n m count end ≡ scanWhole limits s → PlacesHeld s (count + 1) table → length table ≡ sizes.places → Known s n count table
-unfolding readWhole readingOf
-known s n m count end table bytes e held size =
+-- what a scan tells of a sound model
+pub known-told : {s : List ℕ} {n m count end : ℕ} {table : List ℕ} → Sound limits s n m count end → SoundModel limits (modelAt s) → PlacesHeld s (count + 1) table → length table ≡ sizes.places → Known s n count table
+known-told told rules held size =
     record {
-      sound = read-whole-sound limits s (modelAt s) end bytes (ap (readingOf s) (sym e)) .0;
+      sound = rules;
       states = told .states;
       transitions = told .transitions;
       labels = told .labels;
@@ -37,9 +36,12 @@ known s n m count end table bytes e held size =
       places = held;
       size = size;
     }
-  where
-    told : Sound limits s n m count end
-    told = subst (Tells limits s) (sym e) (whole-tells limits s)
+
+-- what the reader's answer tells
+pub known : (s : List ℕ) (n m count end : ℕ) (table : List ℕ) → Bytes s → sound n m count end ≡ scanWhole limits s → PlacesHeld s (count + 1) table → length table ≡ sizes.places → Known s n count table
+unfolding readWhole readingOf
+known s n m count end table bytes e held size =
+    known-told (subst (Tells limits s) (sym e) (whole-tells limits s)) (read-whole-sound limits s (modelAt s) end bytes (ap (readingOf s) (sym e)) .0) held size
 
 module _ {s table : List ℕ} {n count : ℕ} (k : Known s n count table) where
   -- the automaton has the states and transitions of the head

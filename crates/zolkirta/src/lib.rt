@@ -3,7 +3,7 @@
 ghost use Rattle.rules.specs.definitions.Answers.{writesBlocks, writesMerged, JudgeNumber, ReduceNumber};
 ghost use Rattle.rules.specs.definitions.PlainRule.{plainRule};
 ghost use Rattle.block_sheet.specs.SheetAnswer.{writesSheet, SheetNumber};
-ghost use Rattle.pair.specs.Pair.{PairAnswered};
+ghost use Rattle.pair.specs.Pair.{PairAnswered, CostAnswered};
 ghost use Rattle.join.specs.Join.{JoinAnswered};
 ghost use Rattle.alike.specs.Alike.{named, AlikeAnswered};
 ghost use Rattle.zolkirta.specs.Calls.{FetchAnswered};
@@ -45,6 +45,18 @@ pub extern "C" fn zolkirta_reduce(model: &[u8], certificate: &[u8], out: &mut [u
         return answer::refusal_in(head, 1, model.len());
     }
     pair::answer_headed(Task::Merged, STATES, model, certificate, out)
+}
+
+// Judges a cost certificate for a cost model. Acceptance writes the blocks, one byte a state.
+#[no_mangle]
+pub extern "C" fn zolkirta_judge_costs(
+    model: &[u8],
+    certificate: &[u8],
+    blocks: &mut [u8],
+) -> Answer
+    ensures { λ r. ⌜ CostAnswered (now (model .entry)) (now (certificate .entry)) (now (blocks .entry)) (now (blocks .exit)) r ⌝ }
+{
+    pair::answer_pair(Task::CostBlocks, model, certificate, blocks)
 }
 
 // Judges a certificate for a model and writes the sheet of its blocks.

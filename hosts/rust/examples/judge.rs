@@ -1,5 +1,7 @@
 //! Judges a certificate file for a model file, and with a third name writes the merged model there:
 //! `cargo run --release --example judge -- MODEL CERTIFICATE [MERGED]`
+//!
+//! A certificate that begins with `CC` is one for a cost model, for which no merged model is written.
 use std::process::ExitCode;
 use zolkirta::{File, Refusal};
 
@@ -24,7 +26,8 @@ fn run(model: &str, certificate: &str, merged: Option<&String>) -> Result<(), St
     let read = |name: &str| std::fs::read(name).map_err(|error| format!("{name}: {error}"));
     let (model, certificate) = (read(model)?, read(certificate)?);
     let mut buffer = [0; zolkirta::STATES];
-    let blocks = zolkirta::judge(&model, &certificate, &mut buffer).map_err(|refusal| {
+    let judge = if certificate.starts_with(b"CC") { zolkirta::judge_costs } else { zolkirta::judge };
+    let blocks = judge(&model, &certificate, &mut buffer).map_err(|refusal| {
         print_result(&refusal);
         refusal.to_string()
     })?;

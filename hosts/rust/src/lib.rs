@@ -3,7 +3,8 @@
 //! A model file holds an automaton, a certificate file the reasons for which of its states are weakly bisimilar. [`judge`] accepts
 //! the certificate and names the block of each state, [`reduce`] writes the model with each block merged into one state, [`fetch`]
 //! finds the transitions that leave a state. [`sheet`] writes the blocks as text for paper. [`join`] writes two models as one, and
-//! [`alike`] says whether a state of the one behaves as a state of the other. What is not accepted gets one numbered [`Refusal`].
+//! [`alike`] says whether a state of the one behaves as a state of the other. [`judge_costs`] judges where each transition has a cost.
+//! What is not accepted gets one numbered [`Refusal`].
 //!
 //! The small pair S of document 01: state 0 moves to state 2 by action 1, state 1 moves to state 0 internally.
 //!
@@ -116,11 +117,12 @@ impl fmt::Display for Difference {
 #[derive(Clone, Copy, PartialEq, Eq)]
 #[non_exhaustive]
 pub struct Refusal<'a> {
-    /// 1 to 28: [`meaning`](Refusal::meaning) says it in words.
+    /// 1 to 30: [`meaning`](Refusal::meaning) says it in words.
     pub number: u32,
     /// The file at fault, if one is.
     pub file: Option<File>,
-    /// The byte of that file where the record at fault begins; for bytes left (9 and 22), the first of them. 0 without a file.
+    /// The byte of that file where the record at fault begins; for bytes left (9 and 22), the first of them; for 29, the cost. 0 without
+    /// a file.
     pub place: usize,
     /// The caller's own bytes of that file from the place to its end. Empty without a file, and for one that this crate does not know.
     pub stretch: &'a [u8],
@@ -128,7 +130,7 @@ pub struct Refusal<'a> {
     pub difference: Option<Difference>,
 }
 
-const MEANINGS: [&str; 29] = [
+const MEANINGS: [&str; 31] = [
     "accepted",
     "the file ends inside a record",
     "a record has a wrong mark",
@@ -138,7 +140,7 @@ const MEANINGS: [&str; 29] = [
     "an entry's state is absent or does not ascend, or its weight is 0",
     "a transition's weights do not add up to d",
     "the entries so far pass 1,024",
-    "bytes are left after the last transition",
+    "bytes are left after the last record",
     "the block buffer is shorter than the state count",
     "the file ends inside a record",
     "a record has a wrong mark",
@@ -158,6 +160,8 @@ const MEANINGS: [&str; 29] = [
     "the buffer is shorter than the joined model's file",
     "accepted, and the first's count is above the state count or a state is not in its part",
     "the certificate is accepted, and the buffer is shorter than the sheet",
+    "a cost is above 63",
+    "a flow's cost equation breaks",
 ];
 
 impl Refusal<'_> {
@@ -277,6 +281,46 @@ pub fn fetch(model: &[u8], state: u32) -> Result<&[u8], Refusal<'_>> {
 /// ```
 pub fn judge<'a, 'b>(model: &'a [u8], certificate: &'a [u8], buffer: &'b mut [u8]) -> Result<&'b [u8], Refusal<'a>> {
     lend(raw::zolkirta_judge, [(File::Model, model), (File::Certificate, certificate)], buffer)
+}
+
+/// Judges a certificate for a cost model, in which each transition has a cost from 0 to 63: a flow must pay what its challenger costs, that
+/// is k times d times cost, added up, equals the challenger's cost times D. On acceptance the first bytes of `buffer`, one for each state,
+/// are the states' blocks, and they are what is handed back; the buffer's later bytes stay. Each block lies inside one of the same model
+/// without its costs.
+///
+/// Refusals: 1 to 9 and 29 in the model, 10 where the buffer is shorter than the state count ([`STATES`] is always enough), 11 to 22 and 30
+/// in the certificate. No merged model is written for cost pairs: every other call refuses a cost model with 9, where its costs begin.
+///
+/// The small pair S with costs 5 and 0: behind the transitions stands the record of costs, the certificate begins with `CC`, and each
+/// refutation ends with one more price, here 0.
+///
+/// ```
+/// let model = b"PA\x03\x02\0\x02LB\0\0\0\
+///     TR\0\x01\0\x01\x01\x02\0\x01\
+///     TR\x01\0\0\x01\x01\0\0\x01\
+///     CO\x05\0";
+/// let certificate = b"CC\0\x02\
+///     PX\0\0\x02\0\0\0\x01\0\0\0\x01\0\0\0\0\0\0\0\x01\0\0\0\x01\0\0\0\x01\0\0\0\x01\0\0\0\x01\0\0\0\x01\0\0\0\0\
+///     PX\0\x01\x02\0\0\0\x01\0\0\0\x01\0\0\0\0\0\0\0\x01\0\0\0\0\0\0\0\0\0\0\0\0\
+///     BK\0\0\x01\
+///     FL\0\0\0\x01\0\x02\0\0\x01\0\0\0\x01\x01\0\0\0\0\0\x01\0\x01\x02\x02\0\0\0\x01\
+///     FL\0\0\0\x01\0\0\0\x01\0\0\0\0\0\x01";
+/// let mut buffer = [0; zolkirta::STATES];
+/// assert_eq!(zolkirta::judge_costs(model, certificate, &mut buffer).unwrap(), [0, 0, 1]);
+///
+/// // Where the internal step costs 1, the first flow pays 6 for a challenger that costs 5.
+/// let mut dearer = *model;
+/// dearer[34] = 1;
+/// let refusal = zolkirta::judge_costs(&dearer, certificate, &mut buffer).unwrap_err();
+/// assert_eq!((refusal.number, refusal.place, refusal.difference), (30, 87, None));
+///
+/// dearer[34] = 64;
+/// let refusal = zolkirta::judge_costs(&dearer, certificate, &mut buffer).unwrap_err();
+/// assert_eq!(refusal.to_string(), "refusal 29: a cost is above 63 (model, byte 34)");
+/// assert_eq!(zolkirta::fetch(model, 0).unwrap_err().place, 31); // 9: a model without costs would end here
+/// ```
+pub fn judge_costs<'a, 'b>(model: &'a [u8], certificate: &'a [u8], buffer: &'b mut [u8]) -> Result<&'b [u8], Refusal<'a>> {
+    lend(raw::zolkirta_judge_costs, [(File::Model, model), (File::Certificate, certificate)], buffer)
 }
 
 /// Judges a certificate for a model and writes the merged model: each block is one state. On acceptance the first bytes of `buffer`
@@ -412,10 +456,10 @@ mod tests {
 
     #[test]
     fn an_unknown_number_is_said() {
-        for number in [29, 30, u32::MAX] {
+        for number in [31, 32, u32::MAX] {
             assert_eq!(refusal(number, 0, 0).to_string(), format!("refusal {number}: unknown number"));
         }
-        assert_eq!(refusal(29, 2, 5).to_string(), "refusal 29: unknown number (certificate, byte 5)");
+        assert_eq!(refusal(31, 2, 5).to_string(), "refusal 31: unknown number (certificate, byte 5)");
     }
 
     #[test]
@@ -443,7 +487,7 @@ mod tests {
 
     #[test]
     fn only_16_20_and_21_have_a_difference() {
-        for number in (1..=30).chain([u32::MAX]) {
+        for number in (1..=32).chain([u32::MAX]) {
             let told = [16, 20, 21].contains(&number).then_some(Difference { state: 5, remainder: 9 });
             assert_eq!(off(number, 5, 9).difference, told, "{number}");
         }

@@ -15,7 +15,7 @@ pub struct Answer {
     pub number: u32,
     /// The file at fault: 1 model, 2 certificate, 3 the second model; 0 where none is.
     pub file: u32,
-    /// The byte of that file where the record at fault begins; for bytes left, the first of them.
+    /// The byte of that file where the record at fault begins; for bytes left, the first of them; for 29, the cost.
     pub place: usize,
     /// Where the stretch, or the run that was fetched, starts in its file; 0 where it is empty and has no file.
     pub stretch_start: usize,
@@ -55,6 +55,15 @@ extern "C" {
     pub fn zolkirta_fetch(model: *const u8, model_length: usize, state: u32) -> Answer;
     /// [`judge`](crate::judge)
     pub fn zolkirta_judge(
+        model: *const u8,
+        model_length: usize,
+        certificate: *const u8,
+        certificate_length: usize,
+        blocks: *mut u8,
+        blocks_length: usize,
+    ) -> Answer;
+    /// [`judge_costs`](crate::judge_costs)
+    pub fn zolkirta_judge_costs(
         model: *const u8,
         model_length: usize,
         certificate: *const u8,

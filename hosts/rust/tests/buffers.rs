@@ -3,11 +3,11 @@ mod compare;
 mod maker;
 mod plain;
 
-use compare::{accepted, alike, fetch, join, judge, reduce, requests, sheet, vectors, Counts};
+use compare::{accepted, accepted_costs, alike, fetch, join, judge, judge_costs, reduce, requests, sheet, vectors, Counts, Lent};
 use maker::families::{bytes, filled, flow_heavy, largest, refutation_heavy};
 use plain::Answer;
 use std::ptr::{null, null_mut};
-use zolkirta::raw::{zolkirta_alike, zolkirta_fetch, zolkirta_join, zolkirta_judge, zolkirta_reduce, zolkirta_sheet};
+use zolkirta::raw::{zolkirta_alike, zolkirta_fetch, zolkirta_join, zolkirta_judge, zolkirta_judge_costs, zolkirta_reduce, zolkirta_sheet, Lending};
 use zolkirta::{MODEL, SHEET};
 
 /// Makes a call with buffers from none to one byte longer than what it writes, and with these: a shorter one is refused with a number.
@@ -28,6 +28,10 @@ fn buffers_of_every_length() {
         every_length(|length| judge(model, certificate, length), 10, &[64, 65, 255, 256, 257]);
         every_length(|length| reduce(model, certificate, length), 23, &[model.len() + 1]);
         every_length(|length| sheet(model, certificate, length), 28, &[SHEET, SHEET + 1]);
+    }
+    for (model, certificate) in &accepted_costs() {
+        assert_eq!(judge_costs(model, certificate, 64).1.len(), usize::from(model[2]));
+        every_length(|length| judge_costs(model, certificate, length), 10, &[64, 65, 255, 256, 257]);
     }
     let half = filled(32).0.bytes();
     let small = || pairs.iter().map(|(model, _)| model).filter(|model| model[2] <= 32 && model.len() < 1000);
@@ -50,6 +54,17 @@ fn a_refusal_writes_nothing_whatever_the_length() {
     }
     assert!(refused > 10_000);
     let mut refused = 0;
+    for v in requests().into_iter().filter(|v| v.call == "judge_costs" && v.answer.file != 0) {
+        for length in 0..=66 {
+            let number = judge_costs(&v.files[0], &v.files[1], length).0.number;
+            // 10 comes between the model's faults and the certificate's.
+            let short = v.answer.file == 2 && length < usize::from(v.files[0][2]);
+            assert_eq!(number, if short { 10 } else { v.answer.number });
+            refused += 1;
+        }
+    }
+    assert!(refused > 10_000);
+    let mut refused = 0;
     for v in requests().into_iter().filter(|v| v.call == "join" && matches!(v.answer.number, 1..=25)) {
         for length in 0..=66 {
             assert_eq!(join(&v.files[0], &v.files[1], length).0, v.answer);
@@ -62,28 +77,30 @@ fn a_refusal_writes_nothing_whatever_the_length() {
 #[test]
 fn null_pointers_at_length_0() {
     let (model, certificate) = &accepted()[0];
+    let (costly, its_certificate) = &accepted_costs()[0];
     let (m, m_length, c, c_length) = (model.as_ptr(), model.len(), certificate.as_ptr(), certificate.len());
     let mut blocks = [7; 64];
     let b = blocks.as_mut_ptr();
     // The same call with an empty slice for every null pointer.
+    let lending: [(Lending, Lent, &[u8], &[u8]); 5] = [
+        (zolkirta_judge, judge, model, certificate),
+        (zolkirta_judge_costs, judge_costs, costly, its_certificate),
+        (zolkirta_reduce, reduce, model, certificate),
+        (zolkirta_sheet, sheet, model, certificate),
+        (zolkirta_join, join, model, model),
+    ];
+    for (call, same, one, other) in lending {
+        let (p, p_length, o, o_length) = (one.as_ptr(), one.len(), other.as_ptr(), other.len());
+        unsafe {
+            assert_eq!(call(null(), 0, null(), 0, null_mut(), 0), same(&[], &[], 0).0);
+            assert_eq!(call(null(), 0, o, o_length, b, 64), same(&[], other, 64).0);
+            assert_eq!(call(p, p_length, null(), 0, b, 64), same(one, &[], 64).0);
+            assert_eq!(call(p, p_length, o, o_length, null_mut(), 0), same(one, other, 0).0);
+            assert_eq!(call(p, p_length, null(), 0, null_mut(), 0), same(one, &[], 0).0);
+        }
+    }
     unsafe {
         assert_eq!(zolkirta_fetch(null(), 0, 0), fetch(&[], 0));
-        assert_eq!(zolkirta_judge(null(), 0, null(), 0, null_mut(), 0), judge(&[], &[], 0).0);
-        assert_eq!(zolkirta_judge(null(), 0, c, c_length, b, 64), judge(&[], certificate, 64).0);
-        assert_eq!(zolkirta_judge(m, m_length, null(), 0, b, 64), judge(model, &[], 64).0);
-        assert_eq!(zolkirta_judge(m, m_length, c, c_length, null_mut(), 0), judge(model, certificate, 0).0);
-        assert_eq!(zolkirta_judge(m, m_length, null(), 0, null_mut(), 0), judge(model, &[], 0).0);
-        assert_eq!(zolkirta_reduce(null(), 0, null(), 0, null_mut(), 0), reduce(&[], &[], 0).0);
-        assert_eq!(zolkirta_reduce(m, m_length, null(), 0, b, 64), reduce(model, &[], 64).0);
-        assert_eq!(zolkirta_reduce(m, m_length, c, c_length, null_mut(), 0), reduce(model, certificate, 0).0);
-        assert_eq!(zolkirta_sheet(null(), 0, null(), 0, null_mut(), 0), sheet(&[], &[], 0).0);
-        assert_eq!(zolkirta_sheet(m, m_length, null(), 0, b, 64), sheet(model, &[], 64).0);
-        assert_eq!(zolkirta_sheet(null(), 0, c, c_length, b, 64), sheet(&[], certificate, 64).0);
-        assert_eq!(zolkirta_sheet(m, m_length, c, c_length, null_mut(), 0), sheet(model, certificate, 0).0);
-        assert_eq!(zolkirta_join(null(), 0, null(), 0, null_mut(), 0), join(&[], &[], 0).0);
-        assert_eq!(zolkirta_join(null(), 0, m, m_length, b, 64), join(&[], model, 64).0);
-        assert_eq!(zolkirta_join(m, m_length, null(), 0, b, 64), join(model, &[], 64).0);
-        assert_eq!(zolkirta_join(m, m_length, m, m_length, null_mut(), 0), join(model, model, 0).0);
         assert_eq!(zolkirta_alike(null(), 0, 1, null(), 0, 0, 1), alike(&[], &[], [1, 0, 1]));
         assert_eq!(zolkirta_alike(m, m_length, 1, null(), 0, 0, 1), alike(model, &[], [1, 0, 1]));
         assert_eq!(zolkirta_alike(null(), 0, 1, c, c_length, 0, 1), alike(&[], certificate, [1, 0, 1]));
@@ -91,6 +108,8 @@ fn null_pointers_at_length_0() {
     assert_eq!(blocks, [7; 64]);
     let judged = [judge(model, certificate, 0).0, reduce(model, certificate, 0).0, sheet(model, certificate, 0).0];
     assert_eq!(judged.map(|answer| (answer.number, answer.file)), [(10, 0), (23, 0), (28, 0)]);
+    let with_costs = [judge_costs(costly, its_certificate, 0).0, judge_costs(costly, &[], 64).0, judge_costs(model, certificate, 64).0];
+    assert_eq!(with_costs.map(|answer| (answer.number, answer.file)), [(10, 0), (11, 2), (1, 1)]);
     let joined = [join(model, model, 0).0, join(model, &[], 64).0];
     assert_eq!(joined.map(|answer| (answer.number, answer.file)), [(26, 0), (1, 3)]);
 }

@@ -170,7 +170,7 @@ fn a_joined_model_keeps_the_limits() {
     let (mut transition, mut entry) = (half.clone(), half.clone());
     let weights = transition.transitions[0].weights.split_off(2);
     transition.transitions[0].d = 2;
-    transition.transitions.insert(0, Transition { source: 0, action: 31, d: 2, weights });
+    transition.transitions.insert(0, Transition { source: 0, action: 31, d: 2, weights, cost: 0 });
     entry.transitions[127].weights.insert(0, (0, 9));
     entry.transitions[127].d += 9;
     for larger in [state, transition, entry].map(|model| model.bytes()) {

@@ -6,9 +6,10 @@ mod plain;
 mod records;
 
 use compare::{every_kind, judge, reduce, rounds, Counts, Numbers};
-use maker::families::{bytes, copies, flow_heavy, internal_chain, largest, one_source, refutation_heavy};
+use maker::families::{bytes, copies, flow_heavy, internal_chain, largest, most_copies, one_source, refutation_heavy};
 use maker::files::{Certificate, Model};
 use maker::random::random_model;
+use maker::Missed;
 use records::{damaged, respelled};
 use std::collections::BTreeSet;
 
@@ -24,31 +25,6 @@ fn accepted(model: &Model, certificate: &Certificate) -> Vec<u8> {
     assert_eq!(reduce(&pa, &ct, merged.len()).1, merged);
     assert_eq!(reduce(&pa, &ct, merged.len() - 1).0.number, 23);
     merged
-}
-
-/// Models for which the maker found no certificate: it may miss one in twenty.
-#[derive(Default)]
-struct Missed {
-    missed: u64,
-    asked: u64,
-}
-
-impl Missed {
-    fn certificate(&mut self, model: &Model, choices: &mut Numbers) -> Option<Certificate> {
-        let certificate = maker::certificate(model, choices);
-        self.asked += 1;
-        self.missed += u64::from(certificate.is_none());
-        certificate
-    }
-}
-
-impl Drop for Missed {
-    fn drop(&mut self) {
-        if !std::thread::panicking() {
-            println!("{} certificates asked for, {} missed", self.asked, self.missed);
-            assert!(self.missed * 20 <= self.asked);
-        }
-    }
 }
 
 /// How many transitions the merged model leaves out that differ from an earlier one of their block in their terms alone.
@@ -146,8 +122,7 @@ fn families_up_to_64_states() {
     for i in 0..rounds(60) as usize {
         let model = random_model(&mut numbers, 6);
         let Some(certificate) = maker::certificate(&model, &mut numbers) else { continue };
-        let entries = model.transitions.iter().map(|r| r.weights.len()).sum::<usize>().max(1);
-        let room = (64 / model.n()).min(256 / model.transitions.len().max(1)).min(1024 / entries);
+        let room = most_copies(&model);
         let k = if i % 2 == 0 { room } else { 1 + numbers.below(room) };
         if certificate.refutations.len() * k * k > 2016 {
             continue;

@@ -81,8 +81,8 @@ fn changed_flow(model: &Model, blocks: &[u8], (q, t): (usize, usize), met: &Flow
 fn lowered(model: &Model, refutation: &Refutation, numbers: &mut Numbers) -> Option<(Refutation, Told)> {
     let (challenger, t) = (&model.transitions[refutation.challenger], refutation.defender);
     let mut lowered = refutation.clone();
-    let left = challenger.d * i64::from(refutation.prices[0][t]);
-    let g = lowered.prices.last_mut()?;
+    let left = challenger.d * i64::from(refutation.prices.sides[0][t]);
+    let g = lowered.prices.sides.last_mut()?;
     let below = challenger.weights.iter().map(|&(u, p)| p * i64::from(g[u])).sum::<i64>() - left;
     let least = (below + challenger.d - 1) / challenger.d;
     let by = least + *numbers.of(&[0, 0, 1, 1000]);
@@ -139,7 +139,7 @@ fn wide(source: usize, action: usize, target: usize) -> Transition {
 
 /// A transition to all states in the longest terms.
 fn spread(source: usize, action: usize) -> Transition {
-    Transition { source, action, d: 65_535, weights: (0..STATES).map(|v| (v, if v == 0 { 1023 } else { 1024 })).collect() }
+    Transition { source, action, d: 65_535, weights: (0..STATES).map(|v| (v, if v == 0 { 1023 } else { 1024 })).collect(), cost: 0 }
 }
 
 /// Sums as large as they can be, or some terms below: in 21 all w together are D, since the equations at v hold.
@@ -147,8 +147,8 @@ fn spread(source: usize, action: usize) -> Transition {
 fn the_largest_sums() {
     let mut kinds = BTreeSet::new();
     let mut tell = |transitions: Vec<Transition>, refutations: Vec<Refutation>, flows: Vec<Flow>, told: Told| {
-        let model = Model { labels: vec![0; STATES], m: 2, transitions };
-        let certificate = Certificate { refutations, blocks: vec![0; STATES], flows };
+        let model = Model::new(vec![0; STATES], 2, transitions);
+        let certificate = Certificate::new(refutations, vec![0; STATES], flows);
         kinds.extend(refused(&model.bytes(), &certificate.bytes(), told));
     };
     let most = |layer: u8, of: std::ops::Range<usize>| of.map(|r| ((layer, r), u32::MAX)).collect::<Vec<_>>();
@@ -180,7 +180,7 @@ fn the_largest_sums() {
     for (high, low, remainder) in edges {
         for action in [0, 1] {
             let prices = [vec![vec![high; STATES]; 1 + action], vec![vec![low; STATES]]].concat();
-            let refutation = Refutation { challenger: 0, defender: 63, prices };
+            let refutation = Refutation::new(0, 63, prices);
             tell(vec![spread(0, action)], vec![refutation], vec![], (16, 63, remainder));
         }
     }

@@ -2,8 +2,9 @@
 mod compare;
 mod plain;
 
-use compare::{accepted, alike, fetch, join, judge, reduce, requests, sheet, vectors, Calls, Counts, Numbers};
+use compare::{accepted, accepted_costs, alike, fetch, join, judge, judge_costs, reduce, requests, sheet, vectors, Calls, Counts, Numbers};
 use plain::{AlikeAnswer, Answer};
+use std::collections::BTreeSet;
 use zolkirta::{Difference, File, Refusal};
 
 /// The slice lies in this file from this place on: the same bytes at the same address.
@@ -53,6 +54,10 @@ fn same_judge(model: &[u8], certificate: &[u8], length: usize) -> (Answer, Vec<u
     same_lent(zolkirta::judge, judge(model, certificate, length), model, certificate, length)
 }
 
+fn same_judge_costs(model: &[u8], certificate: &[u8], length: usize) -> (Answer, Vec<u8>) {
+    same_lent(zolkirta::judge_costs, judge_costs(model, certificate, length), model, certificate, length)
+}
+
 fn same_reduce(model: &[u8], certificate: &[u8], length: usize) -> (Answer, Vec<u8>) {
     same_lent(zolkirta::reduce, reduce(model, certificate, length), model, certificate, length)
 }
@@ -92,6 +97,15 @@ fn same(counts: &mut Counts, model: &[u8], certificate: &[u8], state: u32, block
     same_sheet(model, certificate, out);
 }
 
+/// One of these pairs with a bit of one of its files changed.
+fn one_bit_changed(pairs: &[(Vec<u8>, Vec<u8>)], numbers: &mut Numbers) -> (Vec<u8>, Vec<u8>) {
+    let (mut model, mut certificate) = numbers.of(pairs).clone();
+    let file = if numbers.below(5) == 0 { &mut model } else { &mut certificate };
+    let at = numbers.below(file.len());
+    file[at] ^= 1 << numbers.below(8);
+    (model, certificate)
+}
+
 #[test]
 fn safe_calls_say_what_the_raw_ones_say() {
     let mut counts = Counts::default();
@@ -101,10 +115,7 @@ fn safe_calls_say_what_the_raw_ones_say() {
     let mut numbers = Numbers::new(13);
     let pairs = accepted();
     for _ in 0..20_000 {
-        let (mut model, mut certificate) = numbers.of(&pairs).clone();
-        let file = if numbers.below(5) == 0 { &mut model } else { &mut certificate };
-        let at = numbers.below(file.len());
-        file[at] ^= 1 << numbers.below(8);
+        let (model, certificate) = one_bit_changed(&pairs, &mut numbers);
         same(&mut counts, &model, &certificate, numbers.below(9) as u32, 64, model.len());
     }
     for (number, count) in counts.answers.iter().enumerate() {
@@ -113,8 +124,28 @@ fn safe_calls_say_what_the_raw_ones_say() {
 }
 
 #[test]
+fn the_safe_call_for_cost_pairs_says_what_the_raw_one_says() {
+    let mut numbers = Numbers::new(14);
+    let pairs = accepted_costs();
+    let mut told = BTreeSet::new();
+    for _ in 0..20_000 {
+        let (model, certificate) = one_bit_changed(&pairs, &mut numbers);
+        let length = if numbers.below(8) == 0 { numbers.below(12) } else { 64 };
+        told.insert(same_judge_costs(&model, &certificate, length).0.number);
+    }
+    assert!([0, 1, 2, 10, 16, 20, 21, 29, 30].iter().all(|number| told.contains(number)), "{told:?}");
+}
+
+#[test]
 fn safe_calls_give_the_answers_of_requests() {
-    let calls = Calls { judge: same_judge, reduce: same_reduce, sheet: same_sheet, join: same_join, alike: same_alike };
+    let calls = Calls {
+        judge: same_judge,
+        judge_costs: same_judge_costs,
+        reduce: same_reduce,
+        sheet: same_sheet,
+        join: same_join,
+        alike: same_alike,
+    };
     let all = requests();
     all.iter().for_each(|v| v.holds_for(&calls));
     assert!((1..=3).all(|file| all.iter().any(|v| v.answer.file == file)));
@@ -126,5 +157,5 @@ fn a_refusal_is_an_error_of_few_words() {
     let refusal = zolkirta::fetch(&model, 0).unwrap_err();
     assert_eq!(format!("{refusal:?}"), "Refusal { number: 9, file: Some(Model), place: 9, stretch: 10000 bytes, difference: None }");
     let error: &dyn std::error::Error = &refusal;
-    assert_eq!(error.to_string(), "refusal 9: bytes are left after the last transition (model, byte 9)");
+    assert_eq!(error.to_string(), "refusal 9: bytes are left after the last record (model, byte 9)");
 }

@@ -3,10 +3,14 @@ mod compare;
 mod maker;
 mod plain;
 
-use compare::{accepted, Counts};
-use maker::families::{bytes, filled, flow_heavy, internal_chain, largest, one_source, refutation_heavy};
+use compare::{accepted, accepted_costs, judge_costs, Counts};
+use maker::families::{
+    bytes, filled, flow_heavy, flow_heavy_with_costs, internal_chain, largest, one_source, refutation_heavy, tolls, with_costs,
+};
 use std::arch::asm;
-use zolkirta::raw::{zolkirta_alike, zolkirta_fetch, zolkirta_join, zolkirta_judge, zolkirta_reduce, zolkirta_sheet, AlikeAnswer};
+use zolkirta::raw::{
+    zolkirta_alike, zolkirta_fetch, zolkirta_join, zolkirta_judge, zolkirta_judge_costs, zolkirta_reduce, zolkirta_sheet, AlikeAnswer,
+};
 
 /// Several times what a call uses.
 #[repr(align(16))]
@@ -49,8 +53,11 @@ fn touched(call: *const (), words: Words, paint: u8) -> usize {
 /// The figure that stands behind a call's name in the header's paragraph on the stack.
 fn stated(name: &str) -> usize {
     let header = include_str!("../../../include/zolkirta.h");
-    let behind = header.split_once("* Stack.").and_then(|(_, paragraph)| paragraph.split_once(name));
-    let (_, behind) = behind.unwrap_or_else(|| panic!("the header states no stack for {name}"));
+    let (_, paragraph) = header.split_once("* Stack.").expect("a paragraph on the stack");
+    // A name that goes on is that of another call.
+    let mut behind = paragraph.match_indices(name).map(|(at, _)| &paragraph[at + name.len()..]);
+    let behind = behind.find(|behind| !behind.starts_with('_'));
+    let behind = behind.unwrap_or_else(|| panic!("the header states no stack for {name}"));
     let figure = behind.trim_start_matches(|c: char| !c.is_ascii_digit());
     let digits = figure.chars().take_while(|&c| c.is_ascii_digit() || c == ',').filter(|&c| c != ',');
     digits.collect::<String>().parse().unwrap()
@@ -63,6 +70,12 @@ fn calls_use_the_stack_that_the_header_states() {
     // On the test's own stack first: a loader that binds memcpy and memset at their first call does it here.
     for (model, certificate) in &pairs {
         assert_eq!(Counts::default().pair(model, certificate).number, 0);
+    }
+    let mut cost_pairs = accepted_costs();
+    let moves_cost = with_costs(internal_chain(64), |_, r| r.action as i64);
+    cost_pairs.extend([with_costs(largest(), |_, _| 63), tolls(64), flow_heavy_with_costs(64), moves_cost].map(bytes));
+    for (model, certificate) in &cost_pairs {
+        assert_eq!(judge_costs(model, certificate, 64).0.number, 0);
     }
     let half = filled(32).0.bytes();
     let joins = [(half.clone(), half)];
@@ -80,9 +93,10 @@ fn calls_use_the_stack_that_the_header_states() {
         [words(model).0, words(model).1, last, words(certificate).0, words(certificate).1, 0, last]
     };
     let several_states = pairs.iter().filter(|(model, _)| model[2] > 1);
-    let calls: [(&str, *const (), Vec<Words>); 6] = [
+    let calls: [(&str, *const (), Vec<Words>); 7] = [
         ("zolkirta_fetch", zolkirta_fetch as *const (), pairs.iter().map(fetching).collect()),
         ("zolkirta_judge", zolkirta_judge as *const (), pairs.iter().map(lending).collect()),
+        ("zolkirta_judge_costs", zolkirta_judge_costs as *const (), cost_pairs.iter().map(lending).collect()),
         ("zolkirta_reduce", zolkirta_reduce as *const (), pairs.iter().map(lending).collect()),
         ("zolkirta_sheet", zolkirta_sheet as *const (), pairs.iter().map(lending).collect()),
         ("zolkirta_join", zolkirta_join as *const (), joins.iter().map(lending).collect()),

@@ -16,6 +16,7 @@ fn lent(call: PlainLending, one: &[u8], other: &[u8], length: usize) -> (Answer,
 fn the_plain_judge_gives_the_answers() {
     let plain = Calls {
         judge: |model, certificate, length| lent(plain::judge, model, certificate, length),
+        judge_costs: |model, certificate, length| lent(plain::judge_costs, model, certificate, length),
         reduce: |model, certificate, length| lent(plain::reduce, model, certificate, length),
         sheet: |model, certificate, length| lent(plain::sheet, model, certificate, length),
         join: |first, second, length| lent(plain::join, first, second, length),

@@ -33,7 +33,7 @@ fn vectors_get_their_answers() {
 fn requests_get_their_answers() {
     let all = requests();
     all.iter().for_each(|v| v.holds_for(&BOTH));
-    let counts = ["judge", "reduce", "join", "alike", "sheet"].map(|call| all.iter().filter(|v| v.call == call).count());
-    assert!(counts.iter().zip([150, 150, 150, 150, 75]).all(|(count, least)| *count > least), "{counts:?}");
+    let counts = ["judge", "reduce", "join", "alike", "sheet", "judge_costs"].map(|call| all.iter().filter(|v| v.call == call).count());
+    assert!(counts.iter().zip([150, 150, 150, 150, 75, 550]).all(|(count, least)| *count > least), "{counts:?}");
     assert!([16, 20, 21].iter().all(|&number| all.iter().any(|v| v.answer.number == number && v.answer.remainder != 0)));
 }

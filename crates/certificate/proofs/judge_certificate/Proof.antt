@@ -2,10 +2,11 @@
 use native.Mathlib.Omega.{arith}
 use Prim.Native.Nat.{_+_, _-_}
 use mathlib.Core.Path.{_≡_, refl, _∙_}
+use mathlib.Core.List.{[]}
 use lib.ListN.{drop, length-drop}
 use lib.Seq.{length-take-le}
 use Rattle.rules.specs.definitions.Certificate.{refutationCount}
-use Rattle.rules.specs.definitions.PlainRule.{plainRule}
+use Rattle.rule_kind.specs.Kinds.{ruleOf}
 use Rattle.field.specs.Taken.{taken-at}
 use Rattle.transition.specs.KnownLaws.{few-states}
 use Rattle.refutation_prices.specs.PricesJudged.{Tables}
@@ -16,11 +17,11 @@ use Rattle.certificate.proofs.judge_certificate.Statement.{statement}
 use Rattle.certificate.proofs.judge_certificate.Tie as tie
 
 abbrev Inv-loop : tie.InvT-loop
-Inv-loop s n count places cert rows₀ x₀ y₀ g₀ left₀ place₀ rows x y g left place =
-    Refuting plainRule s cert n rows left (place .at) × Tables x y g
+Inv-loop kind s n count places cert rows₀ x₀ y₀ g₀ left₀ place₀ rows x y g left place =
+    Refuting (ruleOf kind s) s cert n rows left (place .at) × Tables x y g
 
 abbrev μ-loop : tie.MeasureT-loop
-μ-loop s n count places cert rows₀ x₀ y₀ g₀ left₀ place₀ rows x y g left place = left
+μ-loop kind s n count places cert rows₀ x₀ y₀ g₀ left₀ place₀ rows x y g left place = left
 
 head-fault-requires : tie.Need-head-fault-requires Inv-loop μ-loop
 head-fault-requires c κs = tt
@@ -28,13 +29,13 @@ head-fault-requires c κs = tt
 returns : tie.Need-returns Inv-loop μ-loop
 returns c =
     let head = c .before .before .head-fault in
-    head-stops plainRule _ _ _ (head .result) (head .ensures) (c .if1 .taken)
+    head-stops _ _ _ _ (head .result) (head .ensures .is _) (c .if1 .taken)
 
 no-rows-requires : tie.Need-no-rows-requires Inv-loop μ-loop
 no-rows-requires c κs = tt
 
 add-start : tie.Need-add-start Inv-loop μ-loop
-add-start c = omega (arith, few-states (c .before .before .before .before .before .before .pre))
+add-start c = omega (arith, few-states (c .before .before .before .before .before .before .pre .0))
 
 sub-start : tie.Need-sub-start Inv-loop μ-loop
 sub-start c = omega arith
@@ -43,12 +44,12 @@ part-start-start : tie.Need-part-start-start Inv-loop μ-loop
 part-start-start c = omega arith
 
 part-start-end : tie.Need-part-start-end Inv-loop μ-loop
-part-start-end c = omega (arith, c .before .before .before .before .before .before .pre .labels)
+part-start-end c = omega (arith, c .before .before .before .before .before .before .pre .0 .labels)
 
 start-requires : tie.Need-start-requires Inv-loop μ-loop
 start-requires c κs =
     let start = c .before .before .before .before .before .before .before .before in
-    let k = start .pre in
+    let k = start .pre .0 in
     let a = start .args in
     let part : 8 + a .n - 8 ≡ a .n = omega arith in (
       few-states k,
@@ -64,7 +65,7 @@ pair-requires : tie.Need-pair-requires Inv-loop μ-loop
 pair-requires c κs =
     let past = c .before .before .before .before .before in
     let head = past .before .before .head-fault in
-    omega (arith, c .new .ensures, head-whole plainRule _ (head .result) (head .ensures .is) (past .if1 .left))
+    omega (arith, c .new .ensures, head-whole _ _ (head .result) (head .ensures .is [] .is) (past .if1 .left))
 
 new-requires-2 : tie.Need-new-requires-2 Inv-loop μ-loop
 new-requires-2 c κs = tt
@@ -77,8 +78,8 @@ loop-holds c =
     let start = past .before .before .before .before .before in
     let a = start .args in
     let part : 8 + a .n - 8 ≡ a .n = omega arith in (
-      refuting-start plainRule _ _ _ (head .result) (head .ensures) (past .if1 .left) (taken-at (c .before .pair .ensures) _ (c .before .before .new .ensures)) (c .new2 .ensures)
-          (labels-hold (start .pre) _ part (c .before .before .before .start .ensures)),
+      refuting-start _ _ _ _ (head .result) (head .ensures .is _) (past .if1 .left) (taken-at (c .before .pair .ensures) _ (c .before .before .new .ensures)) (c .new2 .ensures)
+          (labels-hold (start .pre .0) _ part (c .before .before .before .start .ensures)),
       record { first = refl; second = refl; third = refl },
     )
 
@@ -86,18 +87,18 @@ judge-refutation-requires : tie.Need-judge-refutation-requires Inv-loop μ-loop
 judge-refutation-requires c κs =
     let l = c .before .before .before .before .before in
     let start = l .before .before .before .before .before .before .before .before .before .before .before .before .before in
-    (start .pre, l .loop .inv .0 .inside, l .loop .inv .1)
+    (start .pre .0, l .loop .inv .0 .inside, l .loop .inv .1, start .pre .1)
 
 returns-2 : tie.Need-returns-2 Inv-loop μ-loop
 returns-2 c =
-    refuting-stops plainRule _ _ _ (c .before .before .before .before .before .before .before .before .before .loop .inv .0) (c .before .before .before .judge-refutation .ensures) (c .before .before .before .before .before .before .before .before .loop-test .taken) (λ z. omega (arith, z, c .if2 .taken))
+    refuting-stops _ _ _ _ (c .before .before .before .before .before .before .before .before .before .loop .inv .0) (c .before .before .before .judge-refutation .ensures) (c .before .before .before .before .before .before .before .before .loop-test .taken) (λ z. omega (arith, z, c .if2 .taken))
 
 remove-requires : tie.Need-remove-requires Inv-loop μ-loop
 remove-requires c κs =
     let l = c .before .before .before .before .before .before .before .before .before .before in
     let start = l .before .before .before .before .before .before .before .before .before .before .before .before .before in
     let pair = c .before .before .before .before .judge-refutation .ensures .refutes (c .before .if2 .left) in
-    let few = few-states (start .pre) in
+    let few = few-states (start .pre .0) in
     (omega (arith, pair .first, few), omega (arith, pair .second, few))
 
 sub-left : tie.Need-sub-left Inv-loop μ-loop
@@ -116,16 +117,16 @@ loop-again c =
     let l = past .before .before .before .before .before .before .before .before .before in
     let start = l .before .before .before .before .before .before .before .before .before .before .before .before .before in
     let judged = past .before .before .before .judge-refutation .ensures in
-    (refuting-passes plainRule _ _ _ (l .loop .inv .0) judged (past .before .before .before .before .before .before .before .before .loop-test .taken) (past .if2 .left) (few-states (start .pre)) (c .before .remove .ensures), judged .tables)
+    (refuting-passes _ _ _ _ (l .loop .inv .0) judged (past .before .before .before .before .before .before .before .before .loop-test .taken) (past .if2 .left) (few-states (start .pre .0)) (c .before .remove .ensures), judged .tables)
 
 judge-blocks-requires : tie.Need-judge-blocks-requires Inv-loop μ-loop
 judge-blocks-requires c κs =
     let l = c .before .before in
     let start = l .before .before .before .before .before .before .before .before .before .before .before .before .before in
-    (start .pre, l .loop .inv .0 .inside)
+    (start .pre .0, l .loop .inv .0 .inside, start .pre .1)
 
 returns-3 : tie.Need-returns-3 Inv-loop μ-loop
-returns-3 c = refuting-ends plainRule _ _ _ (c .before .before .before .loop .inv .0) (omega arith) (c .judge-blocks .ensures)
+returns-3 c = refuting-ends _ _ _ _ (c .before .before .before .loop .inv .0) (omega arith) (c .judge-blocks .ensures)
 
 pub judge-certificate-spec : {M : Type 1} → statement M
 judge-certificate-spec =

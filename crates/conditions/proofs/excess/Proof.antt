@@ -3,6 +3,7 @@ use mathlib.Core.Path.{refl}
 use native.Mathlib.Omega.{arith}
 use denote.Ref.{now}
 use mir.Facts.{toZ-ofZ}
+use Rattle.cost_files.specs.definitions.CostModel.{highestCost}
 use Rattle.prices.specs.Prices.{priceIn}
 use Rattle.prices.specs.PricesLaws.{product-is, product-fits}
 use Rattle.conditions.specs.ConditionsLaws.{off-small}
@@ -30,7 +31,7 @@ sub-result c =
     let a = c .before .args in
     let p = c .before .pre .0 in
     rw (toZ-ofZ (mul-result c), toZ-ofZ (c .before .fits .sum), product-is (a .d) (priceIn (now (a .x)) (a .v)) (p .0) (p .2))
-    (record { sfits = omega (arith, off-small (a .d) (priceIn (now (a .x)) (a .v)) (a .sum) (p .0) (p .2) (c .before .pre .1)) })
+    (record { sfits = omega (arith, off-small highestCost (a .d) (priceIn (now (a .x)) (a .v)) (a .sum) (p .0) (p .2) (c .before .pre .1)) })
 
 returns : tie.Need-returns
 returns c =

@@ -89,7 +89,7 @@ module _ (cost : ℕ → ℕ) (A : Automaton) where
     λ h. go h (ℕ-discrete (A .action q) 0),
   )
     where
-      go : CostRefutes cost A R q t p → Dec (A .action q ≡ 0) → Passes (byKind A q (internalCostPricesFault cost A R q t p (λ v. p (A .states + v)) (priceAfter cost A 2 p)) (externalCostPricesFault cost A R q t p (λ v. p (A .states + v)) (λ v. p (2 * A .states + v)) (priceAfter cost A 3 p)))
+      go : CostRefutes cost A R q t p → Dec (A .action q ≡ 0) → Passes (byKind A q (internalCostPricesFault cost A R q t p (λ v. p (A .states + v)) (priceAfter A 2 p)) (externalCostPricesFault cost A R q t p (λ v. p (A .states + v)) (λ v. p (2 * A .states + v)) (priceAfter A 3 p)))
       go h (yes i) = pass-on (kind-internal A q _ _ i) (internal-refutes R q t _ _ _ .1 (h .internal i))
       go h (no n) = pass-on (kind-external A q _ _ n) (external-refutes R q t _ _ _ _ .1 (h .external n))
 
@@ -107,7 +107,7 @@ module _ (cost : ℕ → ℕ) (A : Automaton) where
   )
 
   -- the conditions look at prices of states, and at L
-  with-cost-same : (L : ℤ) (X Y : ℕ → ℤ) → AlikeOnStates A X Y → (r : ℕ) → priceWithCost cost A L X r ≡ priceWithCost cost A L Y r
+  pub with-cost-same : (L : ℤ) (X Y : ℕ → ℤ) → AlikeOnStates A X Y → (r : ℕ) → priceWithCost cost A L X r ≡ priceWithCost cost A L Y r
   unfolding priceWithCost
   with-cost-same L X Y h r = ap (λ (z : ℤ). z +ℤ pos (cost r * A .denominator r) *ℤ L) (targets-same A X Y h r)
 

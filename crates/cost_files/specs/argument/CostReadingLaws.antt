@@ -12,12 +12,13 @@ use Rattle.rules.specs.definitions.Bytes.{byteAt, twoAt, twoBytes}
 use Rattle.rules.specs.argument.BytesLaws.{past, past-all, first-byte, first-two, byte-then, two-then}
 use Rattle.rules.specs.definitions.Model.{Model, modelBytes}
 use Rattle.rules.specs.definitions.SoundModel.{Each, Bytes, FitsWidths}
+use Rattle.rules.specs.argument.SoundModelLaws.{each-at}
 use Rattle.rules.specs.definitions.Faults.{Fault, fault, noFault, modelRecord, openFault}
 use Rattle.rules.specs.argument.FaultLaws.{Told, told-fault, model-refuses, opened, opens, either-open, pass-ifLess}
-use Rattle.rules.specs.definitions.Reading.{countOf, Scan, sound, refused, scanModel, refuseBytesLeft, scanWhole, transitionsAt, modelAt, model, noModel, readingOf, readModel, readWhole, afterTransition, placeOf}
-use Rattle.rules.specs.argument.ReadingLaws.{refuse-passes, refuse-cases, Sound, Tells, scan-tells}
+use Rattle.rules.specs.definitions.Reading.{countOf, headFault, Scan, sound, refused, scanModel, refuseBytesLeft, scanWhole, transitionsAt, modelAt, model, noModel, readingOf, readModel, readWhole, afterTransition, placeOf}
+use Rattle.rules.specs.argument.ReadingLaws.{refuse-stops, refuse-passes, refuse-cases, Sound, Tells, scan-tells}
 use Rattle.rules.specs.argument.ReadBack.{ModelBack, model-back}
-use Rattle.rules.specs.argument.ReadSound.{refuse-past, none-left, read-scan, read-sound}
+use Rattle.rules.specs.argument.ReadSound.{refuse-past, none-left, read-scan, SoundRead, read-sound}
 use Rattle.rules.specs.argument.AnyRule.{NoneOr, ModelFiles}
 use Rattle.rules.specs.argument.PlainRules.{ModelNumber}
 use Rattle.cost_files.specs.definitions.CostModel.{highestCost, costOf, costsBytes, costModelBytes, CostFileOf, transitionsEnd, costsIn, withoutCosts}
@@ -55,49 +56,93 @@ pub cost-at : (s : List ℕ) (r : ℕ) → r < countOf s → costOf (costsIn s) 
 unfolding costOf costsIn byteAt
 cost-at s r l = getD-take (countOf s) _ r 0 l ∙ getD-drop (transitionsEnd s + 2) s r 0
 
--- what is read is the file of a sound model with costs, those that stand in it, and nothing is left
-module _ (L : Limits) (s : List ℕ) (bytes : Bytes s) where
-  record CostRead (end : ℕ) : Type 0 where
-    file : CostFileOf L s (modelAt s)
-    whole : end ≡ length s
+-- what a cost scan that passes tells: the scan of the model in front of it, the record's mark, and the costs behind it
+pub record CostScan (L : Limits) (s : List ℕ) (n m count last : ℕ) : Type 0 where
+  pub end : ℕ
+  pub scanned : scanModel L s ≡ sound n m count end
+  pub marked : twoAt s end ≡ 0x434F
+  pub low : Low (take count (drop (end + 2) s))
+  pub after : last ≡ end + 2 + count
+  pub whole : last ≡ length s
 
-  scan-read : (n m count end : ℕ) (scan : Scan) → scanModel L s ≡ scan → length s ≤ end → sound n m count end ≡ scanCostRecord s scan → CostRead end
-  unfolding scanCostRecord readModel readingOf modelAt costModelBytes costsBytes twoBytes
-  scan-read n m count end (sound n₁ m₁ count₁ end₁) q left e =
-      let a = refuse-past n m count end _ end₁ _ e in
-      let o = opened modelRecord 0x434F (2 + count₁) s end₁ model-refuses (a .0) in
-      let c = costs-passed s count₁ (end₁ + 2) n m count end _ (omega (arith, o .whole)) (a .1) in
-      let last : end ≡ end₁ + 2 + count₁ = let z = c .1 in cc in
-      let t = subst (Tells L s) q (scan-tells L s) in
-      let ok = read-sound L s (modelAt s) end₁ bytes (ap (readingOf s) q) in
-      let rest : take count₁ (drop (end₁ + 2) s) ≡ drop (end₁ + 2) s = take-all count₁ _ (omega (arith, length-drop (end₁ + 2) s)) in
-      let mark : drop end₁ s ≡ twoBytes (twoAt s end₁) ++ take count₁ (drop (end₁ + 2) s) = two-then s bytes end₁ (end₁ + 2) refl (omega (arith, o .whole)) (sym rest) in
+module _ (L : Limits) (s : List ℕ) where
+  record-scan : (n m count last : ℕ) (scan : Scan) → scanModel L s ≡ scan → length s ≤ last → sound n m count last ≡ scanCostRecord s scan → CostScan L s n m count last
+  unfolding scanCostRecord
+  record-scan n m count last (sound n₁ m₁ count₁ end) q left e =
+      let a = refuse-past n m count last _ end _ e in
+      let o = opened modelRecord 0x434F (2 + count₁) s end model-refuses (a .0) in
+      let c = costs-passed s count₁ (end + 2) n m count last _ (omega (arith, o .whole)) (a .1) in
+      let states : n₁ ≡ n = let z = c .1 in cc in
+      let actions : m₁ ≡ m = let z = c .1 in cc in
+      let transitions : count₁ ≡ count = let z = c .1 in cc in
+      let after : last ≡ end + 2 + count₁ = let z = c .1 in cc in
       record {
-        file =
-            record {
-              costs = take count₁ (drop (end₁ + 2) s);
-              sound = ok .rules;
-              right =
-                  record {
-                    count = length-take-le count₁ (drop (end₁ + 2) s) (omega (arith, length-drop (end₁ + 2) s, o .whole)) ∙ t .transitions ∙ sym (transitionsAt-length s (countOf s) _);
-                    most = c .0;
-                  };
-              encoded =
-                  sym (take-append-drop end₁ s)
-                  ∙ (λ i. ok .bytes i ++ mark i)
-                  ∙ ap (λ (k : ℕ). modelBytes (modelAt s) ++ (twoBytes k ++ take count₁ (drop (end₁ + 2) s))) (o .marked);
-            };
+        end = end;
+        scanned = q ∙ ap (λ (k : ℕ). sound k m₁ count₁ end) states ∙ ap (λ (k : ℕ). sound n k count₁ end) actions ∙ ap (λ (k : ℕ). sound n m k end) transitions;
+        marked = o .marked;
+        low = subst (λ (k : ℕ). Low (take k (drop (end + 2) s))) transitions (c .0);
+        after = omega arith;
         whole = omega (arith, o .whole);
       }
-  scan-read n m count end (refused f place) q left e = let z : _≡_ {A = ℕ} 0 1 = cc in absurd (omega arith)
+  record-scan n m count last (refused f place) q left e = let z : _≡_ {A = ℕ} 0 1 = cc in absurd (omega arith)
+
+  pub cost-scan : (n m count last : ℕ) → sound n m count last ≡ scanCostModel L s → CostScan L s n m count last
+  unfolding scanCostModel
+  cost-scan n m count last e =
+      let a = none-left s (scanCostRecord s (scanModel L s)) n m count last e in
+      record-scan n m count last (scanModel L s) refl (a .1) (a .0)
+
+  -- the model in front of the costs is sound
+  module _ {n m count last : ℕ} (c : CostScan L s n m count last) where
+    pub scan-told : Sound L s n m count (c .end)
+    scan-told = subst (Tells L s) (c .scanned) (scan-tells L s)
+
+    pub scan-sound : Bytes s → SoundRead L s (modelAt s) (c .end)
+    unfolding readModel readingOf
+    scan-sound bytes = read-sound L s (modelAt s) (c .end) bytes (ap (readingOf s) (c .scanned))
+
+    -- each cost is at most the highest
+    pub scan-low : (r : ℕ) → r < count → byteAt s (c .end + 2 + r) ≤ highestCost
+    unfolding byteAt
+    scan-low r l =
+        subst (λ (x : ℕ). x ≤ highestCost) (getD-take count _ r 0 l ∙ getD-drop (c .end + 2) s r 0)
+        (each-at _ _ r 0 (c .low) (omega (arith, length-take-le count (drop (c .end + 2) s) (omega (arith, length-drop (c .end + 2) s, c .after, c .whole)))))
+
+-- a fault of the head is the file's
+pub cost-head-stops : (L : Limits) (s : List ℕ) {x : Fault} → x ≡ headFault L s → (x .number ≡ 0 → ⊥) → refused x 0 ≡ scanCostModel L s
+unfolding scanModel scanCostModel scanCostRecord refuseBytesLeft
+cost-head-stops L s {x} e h = subst (λ (scan : Scan). refused x 0 ≡ refuseBytesLeft s (scanCostRecord s scan)) (refuse-stops _ 0 _ e h) refl
+
+-- what is read is the file of a sound model with costs, those that stand in it, and nothing is left
+module _ (L : Limits) (s : List ℕ) (bytes : Bytes s) where
+  file-read : (n m count last : ℕ) → CostScan L s n m count last → CostFileOf L s (modelAt s)
+  unfolding modelAt costModelBytes costsBytes twoBytes
+  file-read n m count last c =
+      let end = c .end in
+      let ok = scan-sound L s c bytes in
+      let size = length-drop (end + 2) s in
+      let rest : take count (drop (end + 2) s) ≡ drop (end + 2) s = take-all count _ (omega (arith, size, c .after, c .whole)) in
+      let mark : drop end s ≡ twoBytes (twoAt s end) ++ take count (drop (end + 2) s) = two-then s bytes end (end + 2) refl (omega (arith, c .after, c .whole)) (sym rest) in
+      record {
+        costs = take count (drop (end + 2) s);
+        sound = ok .rules;
+        right =
+            record {
+              count = length-take-le count (drop (end + 2) s) (omega (arith, size, c .after, c .whole)) ∙ scan-told L s c .transitions ∙ sym (transitionsAt-length s (countOf s) _);
+              most = c .low;
+            };
+        encoded =
+            sym (take-append-drop end s)
+            ∙ (λ i. ok .bytes i ++ mark i)
+            ∙ ap (λ (k : ℕ). modelBytes (modelAt s) ++ (twoBytes k ++ take count (drop (end + 2) s))) (c .marked);
+      }
 
   pub cost-read-sound : (M : Model) (end : ℕ) → readCosts L s ≡ model M end → CostFileOf L s M × (end ≡ length s)
-  unfolding readCosts scanCostModel
+  unfolding readCosts
   cost-read-sound M end e =
       let r = read-scan s (scanCostModel L s) M end e in
-      let a = none-left s (scanCostRecord s (scanModel L s)) (r .n) (r .m) (r .count) end (r .scanned) in
-      let c = scan-read (r .n) (r .m) (r .count) end (scanModel L s) refl (a .1) (a .0) in
-      (subst (CostFileOf L s) (r .value) (c .file), c .whole)
+      let c = cost-scan L s (r .n) (r .m) (r .count) end (r .scanned) in
+      (subst (CostFileOf L s) (r .value) (file-read (r .n) (r .m) (r .count) end c), c .whole)
 
 -- the file of a model with costs: where its transitions end, and what stands behind them
 module _ (L : Limits) (fits : FitsWidths L) (s : List ℕ) (M : Model) (f : CostFileOf L s M) where
@@ -153,6 +198,11 @@ module _ (L : Limits) (fits : FitsWidths L) (s : List ℕ) (M : Model) (f : Cost
     where
       record-two : drop (length (modelBytes M)) s ≡ twoBytes 0x434F ++ f .costs
       record-two = unfold twoBytes in record-there
+
+  -- where the transitions end
+  pub transitions-end : length (modelBytes M) ≡ transitionsEnd s
+  unfolding transitionsEnd
+  transitions-end = tells .last ∙ ap (placeOf s) (tells .transitions)
 
   -- a call that reads models without costs finds bytes left, at the cost record
   pub read-without-costs : readWhole L s ≡ noModel (fault 9) (length (modelBytes M))

@@ -52,8 +52,8 @@ module _ (cost : ℕ → ℕ) (A : Automaton) where
   unfoldable pub costPricesFault : Pairs → (q t : ℕ) → (ℕ → ℤ) → Fault
   costPricesFault R q t p =
       byKind A q
-      (internalCostPricesFault R q t p (λ v. p (A .states + v)) (priceAfter cost A 2 p))
-      (externalCostPricesFault R q t p (λ v. p (A .states + v)) (λ v. p (2 * A .states + v)) (priceAfter cost A 3 p))
+      (internalCostPricesFault R q t p (λ v. p (A .states + v)) (priceAfter A 2 p))
+      (externalCostPricesFault R q t p (λ v. p (A .states + v)) (λ v. p (2 * A .states + v)) (priceAfter A 3 p))
 
   -- '30, the cost equation breaks'
   unfoldable pub costEquationFault : ℕ → Flow → Fault

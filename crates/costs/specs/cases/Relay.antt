@@ -87,9 +87,13 @@ relayMet =
 unfoldable pub priceList : List ℤ → ℕ → ℤ
 priceList l i = getD l i (pos 0)
 
--- A 7 5 8, B 2 0 0, G 0 0 0, then L
+-- A 7 x 8, B y 0 0, G 0 0 0, then L
+abbrev pub dearerWith : (x y L : ℤ) → ℕ → ℤ
+dearerWith x y L = priceList (pos 7 ∷ x ∷ pos 8 ∷ y ∷ pos 0 ∷ pos 0 ∷ pos 0 ∷ pos 0 ∷ pos 0 ∷ L ∷ [])
+
+-- x 5 and y 2
 abbrev pub dearerPrices : ℤ → ℕ → ℤ
-dearerPrices L = priceList (pos 7 ∷ pos 5 ∷ pos 8 ∷ pos 2 ∷ pos 0 ∷ pos 0 ∷ pos 0 ∷ pos 0 ∷ pos 0 ∷ L ∷ [])
+dearerPrices L = dearerWith (pos 5) (pos 2) L
 
 -- with cost 8, above the relay's 7, transition 2 refutes state 0 with L 1
 pub dearerRefutes : CostRefutes (relayCosts 8) (relay 1) (equalLabels (relay 1)) 2 0 (dearerPrices (pos 1))
@@ -113,6 +117,22 @@ dearerTurned r = below (r .external (λ e. omega arith) .last .holds)
   where
     below : pos 7 <ℤ negℤ (pos 8) → ⊥
     below h = h .lt
+
+-- L's term alone decides in layer 2: with B 1 of state 0 the condition of transition 0 breaks, 0 + 2·2 is not at most 2·1
+pub dearerAfter : CostRefutes (relayCosts 8) (relay 1) (equalLabels (relay 1)) 2 0 (dearerWith (pos 5) (pos 1) (pos 1)) → ⊥
+unfolding relay relayCosts ifSame sumℤ priceAt priceOfTargets priceWithCost priceAfter priceList
+dearerAfter r = atMost (r .external (λ e. omega arith) .after .holds 0 (omega arith) refl)
+  where
+    atMost : pos 4 ≤ℤ pos 2 → ⊥
+    atMost h = h .le
+
+-- and in the move: with A 4 of state 1 that of transition 1 does, 2 + 3 is not at most 4
+pub dearerMove : CostRefutes (relayCosts 8) (relay 1) (equalLabels (relay 1)) 2 0 (dearerWith (pos 4) (pos 2) (pos 1)) → ⊥
+unfolding relay relayCosts ifSame sumℤ priceAt priceOfTargets priceWithCost priceAfter priceList
+dearerMove r = atMost (r .external (λ e. omega arith) .move .holds 1 (omega arith) refl)
+  where
+    atMost : pos 5 ≤ℤ pos 4 → ⊥
+    atMost h = h .le
 
 -- A -2 0 -1, G -2 0 -2, then L
 abbrev pub cheaperPrices : ℤ → ℕ → ℤ

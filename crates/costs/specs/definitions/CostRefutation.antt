@@ -10,6 +10,10 @@ use Rattle.bisimulation.specs.definitions.Pairs.{Pairs}
 use Rattle.bisimulation.specs.definitions.Refutation.{RelatedCondition}
 use Rattle.costs.specs.definitions.CostPrices.{priceWithCost}
 
+-- 'A refutation ends with one more price L': it stands behind the prices of 2n or 3n states
+unfoldable pub priceAfter : Automaton → ℕ → (ℕ → ℤ) → ℤ
+priceAfter A times p = p (times * A .states)
+
 module _ (cost : ℕ → ℕ) (A : Automaton) where
   -- 'For every transition in the conditions, L times cost times d is added to the side of the targets': for each transition with the action
   -- a, from the prices X of its source to the prices Y of its targets
@@ -34,11 +38,7 @@ module _ (cost : ℕ → ℕ) (A : Automaton) where
     pub related : RelatedCondition A R Y G
     pub last : LastCostCondition L q t X G
 
-  -- 'A refutation ends with one more price L': it stands behind the prices of 2n or 3n states
-  unfoldable pub priceAfter : ℕ → (ℕ → ℤ) → ℤ
-  priceAfter times p = p (times * A .states)
-
   -- the prices of a record as without costs, then L, by the challenger's kind
   pub record CostRefutes (R : Pairs) (q t : ℕ) (p : ℕ → ℤ) : Type 0 where
-    pub internal : A .action q ≡ 0 → CostRefutesInternal R q t p (λ v. p (A .states + v)) (priceAfter 2 p)
-    pub external : A .action q ≢ 0 → CostRefutesExternal R q t p (λ v. p (A .states + v)) (λ v. p (2 * A .states + v)) (priceAfter 3 p)
+    pub internal : A .action q ≡ 0 → CostRefutesInternal R q t p (λ v. p (A .states + v)) (priceAfter A 2 p)
+    pub external : A .action q ≢ 0 → CostRefutesExternal R q t p (λ v. p (A .states + v)) (λ v. p (2 * A .states + v)) (priceAfter A 3 p)

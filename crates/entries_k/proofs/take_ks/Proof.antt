@@ -1,21 +1,23 @@
 -- `take_ks` meets its contract. The invariant is `TakingKs`.
 use mathlib.Core.Path.{refl}
 use native.Mathlib.Omega.{arith}
+use denote.Ref.{now}
 use borrow.Author.Tests.{not-true, not-false}
 use Rattle.transition.specs.KnownLaws.{known-transitions}
 use borrow.Author.Needs.{needs}
-use Rattle.rules.specs.definitions.PlainRule.{plainRule}
-use Rattle.entries_k.specs.PlainAsked.{plain-tests}
-use Rattle.entries_k.specs.KEntriesLaws.{TakingKs, ks-start, ks-refused, ks-asks, ks-turn, ks-end, k-read}
+use Rattle.rules.specs.definitions.PlainRule.{plainInQuestion}
+use Rattle.rule_kind.specs.Kinds.{ruleOf, costIn}
+use Rattle.entries_k.specs.PlainAsked.{tests-of}
+use Rattle.entries_k.specs.KEntriesLaws.{TakingKs, ks-start, ks-refused, ks-asks, ks-prices, ks-fits, ks-turn, ks-end, KRead, k-read, StandingK}
 use Rattle.entries_k.proofs.take_ks.Statement.{statement}
 use Rattle.entries_k.proofs.take_ks.Tie as tie
 
 abbrev Inv-loop : tie.InvT-loop
-Inv-loop s count places action cert entries remainders₀ initial left₀ place₀ lowest₀ nonzero₀ remainders left place lowest nonzero =
-    TakingKs plainRule s cert action (place₀ .at) entries remainders₀ remainders left (place .at) lowest nonzero
+Inv-loop kind s count places action cert entries remainders₀ initial left₀ place₀ lowest₀ nonzero₀ paid₀ remainders left place lowest nonzero paid =
+    TakingKs (ruleOf kind s) (costIn kind s) s cert action (place₀ .at) entries remainders₀ remainders left (place .at) lowest nonzero paid
 
 abbrev μ-loop : tie.MeasureT-loop
-μ-loop s count places action cert entries remainders₀ initial left₀ place₀ lowest₀ nonzero₀ remainders left place lowest nonzero =
+μ-loop kind s count places action cert entries remainders₀ initial left₀ place₀ lowest₀ nonzero₀ paid₀ remainders left place lowest nonzero paid =
     left
 
 loop-holds : tie.Need-loop-holds Inv-loop μ-loop
@@ -30,30 +32,58 @@ pair-requires c κs = omega arith
 quad-requires : tie.Need-quad-requires Inv-loop μ-loop
 quad-requires c κs = omega arith
 
+-- where the call began, and where its turn of the loop did, from an entry that was read
+abbrev start-of : tie.After-quad Inv-loop μ-loop → tie.Start Inv-loop μ-loop
+start-of c = c .before .before .before .before .before .before .before
+
+abbrev turn-of : tie.After-quad Inv-loop μ-loop → tie.At-loop Inv-loop μ-loop
+turn-of c = c .before .before .before .before
+
+-- the entry
+read : (c : tie.After-quad Inv-loop μ-loop) → KRead (now (start-of c .args .cert)) (turn-of c .loop .place .at) (c .before .before .byte .result .value) (c .before .pair .result .value) (c .quad .result .value)
+read c = k-read (c .before .before .byte .ensures) (c .before .pair .ensures) (c .quad .ensures)
+
 stands-requires : tie.Need-stands-requires Inv-loop μ-loop
 stands-requires c κs =
-    let start = c .before .before .before .before .before .before .before in
-    record { states = start .pre .states; known = start .pre .known; small = omega arith; other = omega arith }
+    let known = start-of c .pre .known in
+    record { states = start-of c .pre .states; known = known; small = omega arith; other = omega arith }
 
 returns : tie.Need-returns Inv-loop μ-loop
 returns c =
     let at-quad = c .before .before in
-    let at-pair = at-quad .before in
-    let at-byte = at-pair .before in
-    let turn = at-byte .before .before in
-    let start = turn .before .before .before in
-    let read = k-read (at-byte .byte .ensures) (at-pair .pair .ensures) (at-quad .quad .ensures) in
-    ks-refused plain-tests (known-transitions (start .pre .known)) _ (turn .loop .inv) (omega arith) read (c .before .stands .ensures .wrong (not-true _ (c .if1 .taken))) refl
+    let start = start-of at-quad in
+    ks-refused (tests-of (start .args .kind) (now (start .args .s))) (known-transitions (start .pre .known)) _ (turn-of at-quad .loop .inv) (omega arith) (read at-quad) (c .before .stands .ensures .wrong (not-true _ (c .if1 .taken))) refl
+
+-- the entry stands
+abbrev Standing : tie.Else1 Inv-loop μ-loop → Type 0
+Standing c =
+    let at-quad = c .before .before in
+    let a = start-of at-quad .args in
+    let l = turn-of at-quad .loop in
+    StandingK plainInQuestion (ruleOf (a .kind) (now (a .s))) (costIn (a .kind) (now (a .s))) (now (a .s)) (now (a .cert)) (a .count) (now (a .places)) (a .action) (a .first .at) (a .entries) (now (a .remainders)) (l .remainders) (l .left) (l .place .at) (l .lowest) (l .nonzero) (l .paid) (at-quad .before .before .byte .result .value) (at-quad .before .pair .result .value) (at-quad .quad .result .value)
+
+standing : (c : tie.Else1 Inv-loop μ-loop) → Standing c
+standing c =
+    let at-quad = c .before .before in
+    let a = start-of at-quad .args in
+    record {
+      tests = tests-of (a .kind) (now (a .s));
+      turn = turn-of at-quad .loop .inv;
+      some = omega arith;
+      read = read at-quad;
+      states = start-of at-quad .pre .states;
+      known = start-of at-quad .pre .known;
+      right = c .before .stands .ensures .right (not-false _ (c .if1 .left));
+    }
 
 take-k-requires : tie.Need-take-k-requires Inv-loop μ-loop
-take-k-requires c κs =
-    let at-quad = c .before .before .before in
-    let at-pair = at-quad .before in
-    let at-byte = at-pair .before in
-    let turn = at-byte .before .before in
-    let start = turn .before .before .before in
-    let read = k-read (at-byte .byte .ensures) (at-pair .pair .ensures) (at-quad .quad .ensures) in
-    ks-asks plain-tests (known-transitions (start .pre .known)) (turn .loop .inv) read (start .pre .known) (c .before .before .stands .ensures .right (not-false _ (c .before .if1 .left)))
+take-k-requires c κs = ks-asks (standing (c .before))
+
+price-of-requires : tie.Need-price-of-requires Inv-loop μ-loop
+price-of-requires c κs = ks-prices (standing (c .before .before)) _ (start-of (c .before .before .before .before) .pre .stands)
+
+add-paid : tie.Need-add-paid Inv-loop μ-loop
+add-paid c = record { fits = ks-fits (standing (c .before .before .before)) (c .price-of .ensures) }
 
 mul-lowest : tie.Need-mul-lowest Inv-loop μ-loop
 mul-lowest c = search needs
@@ -72,16 +102,14 @@ loop-less c = omega arith
 
 loop-again : tie.Need-loop-again Inv-loop μ-loop
 loop-again c =
-    let at-quad = c .before .before .before .before .before in
+    let at-price = c .before in
+    let stood = at-price .before .before .before in
+    let at-quad = stood .before .before in
     let at-pair = at-quad .before in
-    let at-byte = at-pair .before in
-    let turn = at-byte .before .before in
-    let start = turn .before .before .before in
-    let read = k-read (at-byte .byte .ensures) (at-pair .pair .ensures) (at-quad .quad .ensures) in
-    ks-turn plain-tests (known-transitions (start .pre .known)) _ (turn .loop .inv) (omega arith) read (start .pre .known) (c .before .before .before .before .stands .ensures .right (not-false _ (c .before .before .before .if1 .left))) (c .before .take-k .ensures) (omega arith) (omega arith)
+    ks-turn (standing stood) (at-price .before .take-k .ensures) (at-price .price-of .ensures) (omega (arith, at-quad .quad .ensures .next, at-pair .pair .ensures .next, at-pair .before .byte .ensures .next)) (omega arith)
 
 returns-2 : tie.Need-returns-2 Inv-loop μ-loop
-returns-2 c = ks-end _ (c .before .loop .inv) (omega arith) refl refl refl
+returns-2 c = ks-end _ (c .before .loop .inv) (omega arith) refl refl refl refl
 
 pub take-ks-spec : {M : Type 1} → statement M
 take-ks-spec =
@@ -96,6 +124,8 @@ take-ks-spec =
     stands-requires
     returns
     take-k-requires
+    price-of-requires
+    add-paid
     mul-lowest
     add-lowest
     add-lowest-2

@@ -4,7 +4,7 @@ use mathlib.Core.Path.{_∙_, ap}
 use Rattle.bisimulation.specs.argument.ChoiceLaws.{same, notSame}
 use Rattle.rules.specs.definitions.Faults.{Fault, fault, firstOf}
 use Rattle.rules.specs.argument.FaultLaws.{first-stops, first-passes}
-use Rattle.equations.specs.Differences.{verdictOf}
+use Rattle.equations.specs.Differences.{costBreak, verdictOf}
 use borrow.Author.Needs.{needs}
 use Rattle.equations.proofs.verdict.Statement.{statement}
 use Rattle.equations.proofs.verdict.Tie as tie
@@ -43,12 +43,23 @@ returns-3 c =
     let aimed = c .before in
     same _ (aimed .before .before .if1 .left) (notSame _ (aimed .before .if3 .taken) (c .or-number2 .ensures ∙ ap (λ (f : Fault). firstOf f (fault 21)) (aimed .first-break3 .ensures)))
 
+refusal-requires : tie.Need-refusal-requires
+refusal-requires c κs = search needs
+
+returns-4 : tie.Need-returns-4
+unfolding verdictOf costBreak
+returns-4 c =
+    let unpaid = c .before in
+    same _ (unpaid .before .before .if1 .left) (same _ (unpaid .before .if3 .left) (notSame _ (unpaid .if4 .taken) (c .refusal .ensures)))
+
 none-requires : tie.Need-none-requires
 none-requires c κs = search needs
 
-returns-4 : tie.Need-returns-4
-unfolding verdictOf
-returns-4 c = same _ (c .before .before .if1 .left) (same _ (c .before .if3 .left) (c .none .ensures))
+returns-5 : tie.Need-returns-5
+unfolding verdictOf costBreak
+returns-5 c =
+    let paid = c .before in
+    same _ (paid .before .before .if1 .left) (same _ (paid .before .if3 .left) (same _ (paid .if4 .left) (c .none .ensures)))
 
 pub verdict-spec : {M : Type 1} → statement M
 verdict-spec =
@@ -62,5 +73,7 @@ verdict-spec =
     first-break-requires-3
     or-number-requires-2
     returns-3
+    refusal-requires
+    returns-4
     none-requires
-    returns-4)
+    returns-5)

@@ -5,7 +5,7 @@ use Prim.Native.Nat.{_-_, _≤_}
 use mathlib.Core.Path.{_≡_, sym, _∙_, ap}
 use mathlib.Core.Logic.{⊎-elim}
 use Rattle.rules.specs.definitions.Faults as rules
-use Rattle.rules.specs.definitions.PlainRule.{plainRule}
+use Rattle.rule_kind.specs.Kinds.{ruleOf}
 use Rattle.fault.specs.declared.Fault.{Fault}
 use Rattle.field.specs.declared.Cursor.{Cursor}
 use Rattle.transition.specs.Known.{automatonIn}
@@ -18,27 +18,27 @@ use Rattle.flows.proofs.judge_flows.Statement.{statement}
 use Rattle.flows.proofs.judge_flows.Tie as tie
 
 abbrev Inv-loop2 : tie.InvT-loop2
-Inv-loop2 s n count places rows cert blocks remainders₀ target₀ place₀ wrong₀ state first past t end r₀ remainders target place wrong r =
-    (first ≤ r) × (r ≤ end) × Going plainRule s cert n rows blocks (leftRun plainRule s cert n rows blocks state t r end) remainders target (place .at) (wrong .number)
+Inv-loop2 kind s n count places rows cert blocks remainders₀ target₀ place₀ wrong₀ state first past t end r₀ remainders target place wrong r =
+    (first ≤ r) × (r ≤ end) × Going (ruleOf kind s) s cert n rows blocks (leftRun (ruleOf kind s) s cert n rows blocks state t r end) remainders target (place .at) (wrong .number)
 
 abbrev μ-loop2 : tie.MeasureT-loop2
-μ-loop2 s n count places rows cert blocks remainders₀ target₀ place₀ wrong₀ state first past t end r₀ remainders target place wrong r =
+μ-loop2 kind s n count places rows cert blocks remainders₀ target₀ place₀ wrong₀ state first past t end r₀ remainders target place wrong r =
     end - r
 
 abbrev Inv-loop : tie.InvT-loop
-Inv-loop s n count places rows cert blocks remainders₀ target₀ place₀ wrong₀ state first past t₀ remainders target place wrong t =
-    (t ≤ n) × Going plainRule s cert n rows blocks (leftDefenders plainRule s cert n rows blocks state t) remainders target (place .at) (wrong .number)
+Inv-loop kind s n count places rows cert blocks remainders₀ target₀ place₀ wrong₀ state first past t₀ remainders target place wrong t =
+    (t ≤ n) × Going (ruleOf kind s) s cert n rows blocks (leftDefenders (ruleOf kind s) s cert n rows blocks state t) remainders target (place .at) (wrong .number)
 
 abbrev μ-loop : tie.MeasureT-loop
-μ-loop s n count places rows cert blocks remainders₀ target₀ place₀ wrong₀ state first past t₀ remainders target place wrong t =
+μ-loop kind s n count places rows cert blocks remainders₀ target₀ place₀ wrong₀ state first past t₀ remainders target place wrong t =
     n - t
 
 abbrev Inv-flows : tie.InvT-flows
-Inv-flows s n count places rows cert blocks remainders₀ target₀ place₀ wrong₀ state₀ first₀ remainders target place wrong state first =
-    (state ≤ n) × Splits (automatonIn s) count state first × Going plainRule s cert n rows blocks (leftStates plainRule s cert n rows blocks state) remainders target (place .at) (wrong .number)
+Inv-flows kind s n count places rows cert blocks remainders₀ target₀ place₀ wrong₀ state₀ first₀ remainders target place wrong state first =
+    (state ≤ n) × Splits (automatonIn s) count state first × Going (ruleOf kind s) s cert n rows blocks (leftStates (ruleOf kind s) s cert n rows blocks state) remainders target (place .at) (wrong .number)
 
 abbrev μ-flows : tie.MeasureT-flows
-μ-flows s n count places rows cert blocks remainders₀ target₀ place₀ wrong₀ state₀ first₀ remainders target place wrong state first =
+μ-flows kind s n count places rows cert blocks remainders₀ target₀ place₀ wrong₀ state₀ first₀ remainders target place wrong state first =
     n - state
 
 no-remainders-requires : tie.Need-no-remainders-requires Inv-loop2 μ-loop2 Inv-loop μ-loop Inv-flows μ-flows
@@ -118,6 +118,7 @@ judge-flow-requires c κs =
       going .inside,
       going .moves,
       going .targets,
+      start .pre .2,
     )
 
 add-r : tie.Need-add-r Inv-loop2 μ-loop2 Inv-loop μ-loop Inv-flows μ-flows

@@ -1,5 +1,6 @@
 -- `judge_sound` meets its contract: each case of the judge's answer is a verdict.
 use native.Mathlib.Omega.{arith}
+use denote.Ref.{now}
 use Rattle.answer.specs.AnsweredLaws.{without-as, refusal-as}
 use Rattle.judgement.specs.VerdictLaws.{short-as, rejected-inside, rejected-as, accepted-as}
 use borrow.Author.Needs.{needs}
@@ -10,10 +11,10 @@ without-place-requires : tie.Need-without-place-requires
 without-place-requires c κs = search needs
 
 returns : tie.Need-returns
-returns c = short-as _ _ _ (c .before .before .before .before .pre .0) (c .before .before .before .before .pre .1) (omega arith) (without-as 10 0 (c .without-place .ensures) (omega arith) (omega arith))
+returns c = short-as _ _ _ _ (c .before .before .before .before .pre .0) (c .before .before .before .before .pre .1) (omega arith) (without-as 10 0 (c .without-place .ensures) (omega arith) (omega arith))
 
 judge-certificate-requires : tie.Need-judge-certificate-requires
-judge-certificate-requires c κs = search needs
+judge-certificate-requires c κs = let start = c .before .before .before in (start .pre .0, start .pre .1 .stands)
 
 enum-known-judged : tie.Need-enum-known-judged
 enum-known-judged c = search needs
@@ -22,13 +23,15 @@ enum-known-judged-2 : tie.Need-enum-known-judged-2
 enum-known-judged-2 c = search needs
 
 refusal-in-requires : tie.Need-refusal-in-requires
-refusal-in-requires c κs = omega (arith, rejected-inside _ _ _ (c .before .judged2 .given .1) (c .before .before .before .judge-certificate .ensures))
+refusal-in-requires c κs =
+    let a = c .before .before .before .before .before .before .before .args in
+    omega (arith, rejected-inside (a .kind) (now (a .model)) _ _ (c .before .judged2 .given .1) (c .before .before .before .judge-certificate .ensures))
 
 returns-2 : tie.Need-returns-2
-returns-2 c = accepted-as _ _ _ (c .before .before .before .before .before .before .before .pre .0) (c .before .before .before .before .before .before .before .pre .1) (c .before .judged .given .1) (c .before .before .before .judge-certificate .ensures) (omega arith)
+returns-2 c = accepted-as _ _ _ _ (c .before .before .before .before .before .before .before .pre .0) (c .before .before .before .before .before .before .before .pre .1) (c .before .judged .given .1) (c .before .before .before .judge-certificate .ensures) (omega arith)
 
 returns-3 : tie.Need-returns-3
-returns-3 c = rejected-as _ _ _ _ (c .before .before .before .before .before .before .before .before .pre .0) (c .before .before .before .before .before .before .before .before .pre .1) (c .before .before .judged2 .given .1) (c .before .before .before .before .judge-certificate .ensures) (omega arith) (refusal-as _ 2 _ _ (c .refusal-in .ensures) (omega arith) (omega arith))
+returns-3 c = rejected-as _ _ _ _ _ (c .before .before .before .before .before .before .before .before .pre .0) (c .before .before .before .before .before .before .before .before .pre .1) (c .before .before .judged2 .given .1) (c .before .before .before .before .judge-certificate .ensures) (omega arith) (refusal-as _ 2 _ _ (c .refusal-in .ensures) (omega arith) (omega arith))
 
 pub judge-sound-spec : {M : Type 1} → statement M
 judge-sound-spec =

@@ -4,7 +4,7 @@ use denote.Ref.{now}
 use Rattle.rules.specs.definitions.Bytes.{byteAt}
 use Rattle.rules.specs.definitions.SoundModel.{Bytes}
 use Rattle.answer.specs.AnsweredLaws.{refusal-as}
-use Rattle.acceptance.specs.declared.Task.the-variants.{Blocks, Merged}
+use Rattle.acceptance.specs.declared.Task.the-variants.{Blocks, Merged, CostBlocks}
 use Rattle.pair.specs.PairLaws.{room-is, head-answered, head-passed}
 use borrow.Author.Needs.{needs}
 use Rattle.pair.proofs.answer_pair.Statement.{statement}
@@ -41,6 +41,14 @@ answer-headed-requires-2 c κs =
     let head = c .before .before .before .before .before .head-fault in
     (head-passed _ _ (head .ensures) (c .before .before .before .if1 .left), room-is _ Merged _ _ (c .before .enum-told2 .given .1) (omega arith))
 
+enum-told-3 : tie.Need-enum-told-3
+enum-told-3 c = search needs
+
+answer-headed-requires-3 : tie.Need-answer-headed-requires-3
+answer-headed-requires-3 c κs =
+    let head = c .before .before .before .before .before .head-fault in
+    (head-passed _ _ (head .ensures) (c .before .before .before .if1 .left), room-is _ CostBlocks _ _ (c .before .enum-told3 .given .1) (omega arith))
+
 same-length : tie.Need-same-length
 same-length c = search needs
 
@@ -53,6 +61,12 @@ same-length-2 c = search needs
 returns-3 : tie.Need-returns-3
 returns-3 c = search needs
 
+same-length-3 : tie.Need-same-length-3
+same-length-3 c = search needs
+
+returns-4 : tie.Need-returns-4
+returns-4 c = search needs
+
 pub answer-pair-spec : {M : Type 1} → statement M
 answer-pair-spec =
     tie.close
@@ -64,7 +78,11 @@ answer-pair-spec =
     answer-headed-requires
     enum-told-2
     answer-headed-requires-2
+    enum-told-3
+    answer-headed-requires-3
     same-length
     returns-2
     same-length-2
-    returns-3)
+    returns-3
+    same-length-3
+    returns-4)

@@ -166,7 +166,7 @@ wFault A C R (suc left) at lowest =
     (unlessLess 0 (fourAt C (at + 2)) (fault 19)
     (wFault A C R left (at + 6) (twoAt C at + 1))))))
 
--- 'flow': 11, 12, 19, 20, 21. 'In a flow the order is D and k count, k entries, w count, w entries, equations; each part must be whole (11), then is judged,
+-- 'flow': 11, 12, 19, 20, 21, and what a further rule adds. 'In a flow the order is D and k count, k entries, w count, w entries, equations; each part must be whole (11), then is judged,
 -- before the next is looked for'
 unfoldable pub flowFault : FileRule → Automaton → List ℕ → Pairs → (q t : ℕ) → ℕ → Fault
 flowFault rule A C R q t at =

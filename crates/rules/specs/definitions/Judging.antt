@@ -68,7 +68,7 @@ module _ (L : Limits) (rule : FileRule) (A : Automaton) (C : List ℕ) where
       rejectAt (refutationFault rule A C R at) at
       (judgeRefutations left (pairsAfter A C R at) (afterRefutation rule A C at))
 
-  -- 'head', refutations, 'blocks', flows: refusals 11 to 22
+  -- 'head', refutations, 'blocks', flows: refusals 11 to 22, and what a further rule adds
   unfoldable pub judgeCertificate : Judgement
   judgeCertificate =
       rejectAt (certificateHeadFault L rule C) 0

@@ -1,5 +1,5 @@
 -- `hand_back_pair` meets its contract: the answer of the pair is handed back.
-use Rattle.slices.specs.HandedLaws.{pair-handed}
+use Rattle.slices.specs.HandedLaws.{judge-handed}
 use borrow.Author.Needs.{needs}
 use Rattle.slices.proofs.hand_back_pair.Statement.{statement}
 use Rattle.slices.proofs.hand_back_pair.Tie as tie
@@ -14,7 +14,7 @@ same-length : tie.Need-same-length
 same-length c = search needs
 
 returns : tie.Need-returns
-returns c = pair-handed (c .before .before .before .before .before .before .before .before .before .answer-pair .ensures) (c .hand-back-answer .ensures)
+returns c = judge-handed (c .before .before .before .before .before .before .before .before .before .answer-pair .ensures) (c .hand-back-answer .ensures)
 
 pub hand-back-pair-spec : {M : Type 1} → statement M
 hand-back-pair-spec =

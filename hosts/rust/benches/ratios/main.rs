@@ -10,7 +10,7 @@ mod plain;
 mod report;
 
 use compare::Numbers;
-use maker::families::{bytes, filled, flow_heavy, largest, one_source, refutation_heavy};
+use maker::families::{bytes, filled, flow_heavy, flow_heavy_with_costs, largest, one_source, refutation_heavy};
 use maker::files::{Certificate, Model};
 use maker::random::random_model;
 use std::hint::black_box;
@@ -77,6 +77,10 @@ fn judging(length: Duration, pairs: &[Files]) -> Times {
     lending(length, raw::zolkirta_judge, plain::judge, pairs)
 }
 
+fn judging_costs(length: Duration, pairs: &[Files]) -> Times {
+    lending(length, raw::zolkirta_judge_costs, plain::judge_costs, pairs)
+}
+
 fn reducing(length: Duration, pairs: &[Files]) -> Times {
     lending(length, raw::zolkirta_reduce, plain::reduce, pairs)
 }
@@ -136,7 +140,7 @@ fn cases(random: &[Files]) -> Vec<Case> {
     let (length, no_slower, by_a_third) = (Duration::from_millis(400), 1.0, 2.0 / 3.0);
     let (largest, one_source) = (bytes(largest()), bytes(one_source()));
     let (refutations, flows) = ([bytes(refutation_heavy(64))], [bytes(flow_heavy(64, 0))]);
-    let half = filled(32).0.bytes();
+    let (half, paying) = (filled(32).0.bytes(), [bytes(flow_heavy_with_costs(64))]);
     let cut = (largest.0[..1].to_vec(), largest.1.clone());
     let case = |name, times, goal, reason| Case { name, times, goal, reason };
     vec![
@@ -145,6 +149,7 @@ fn cases(random: &[Files]) -> Vec<Case> {
         case("refutation-heavy: judge, 64 states, 2,016 refutations of 192 prices", judging(length, &refutations), by_a_third, ""),
         case("flow-heavy: judge, 64 states, 16,128 flows of one w entry", judging(length, &flows), by_a_third, ""),
         case("random accepted pairs: judge, 300 pairs of 1 to 10 states, sum", judging(length, random), no_slower, ""),
+        case("judge_costs, flow-heavy: 64 states, 16,128 flows of one k and one w entry", judging_costs(length, &paying), by_a_third, ""),
         case("sheet, the largest model, every state a block", on_paper(length, &[largest.clone()]), no_slower, ""),
         case("reduce, the largest model, every state a block", reducing(length, &[largest]), no_slower, ""),
         case("reduce, 256 different transitions of one state", reducing(length, &[one_source]), no_slower, COMPARED),

@@ -1,7 +1,7 @@
 //! The library beside the plain judge: the same answer and the same bytes in every lent buffer and around it, or the pair in hex.
 #![allow(dead_code)] // each test file uses its own part
 
-use crate::plain::{self, AlikeAnswer, Answer, Broken};
+use crate::plain::{self, AlikeAnswer, Answer, Broken, Rule};
 use std::cmp::Ordering;
 use std::collections::{BTreeSet, HashMap};
 use std::fmt;
@@ -59,6 +59,11 @@ pub fn judge(model: &[u8], certificate: &[u8], length: usize) -> (Answer, Vec<u8
     lent("judge", raw::zolkirta_judge, plain::judge, model, certificate, length)
 }
 
+/// Judges a cost pair by both and compares.
+pub fn judge_costs(model: &[u8], certificate: &[u8], length: usize) -> (Answer, Vec<u8>) {
+    lent("judge_costs", raw::zolkirta_judge_costs, plain::judge_costs, model, certificate, length)
+}
+
 /// Reduces by both and compares.
 pub fn reduce(model: &[u8], certificate: &[u8], length: usize) -> (Answer, Vec<u8>) {
     lent("reduce", raw::zolkirta_reduce, plain::reduce, model, certificate, length)
@@ -87,10 +92,15 @@ pub fn alike(model: &[u8], certificate: &[u8], [count, s, t]: [u32; 3]) -> Alike
 /// What breaks where a certificate is refused with 16, 20 or 21, and how its left side is to its right.
 pub type Kind = (Broken, Ordering);
 
-/// The kind of an answer for a pair; none for other numbers.
-pub fn kind(answer: Answer, model: &[u8], certificate: &[u8]) -> Option<Kind> {
-    let broken = || plain::broken(model, certificate).expect("a state and a remainder").0;
+/// The kind of an answer for a pair that was judged by a rule; none for other numbers.
+pub fn kind_by(rule: Rule, answer: Answer, model: &[u8], certificate: &[u8]) -> Option<Kind> {
+    let broken = || plain::broken(rule, model, certificate).expect("a state and a remainder").0;
     matches!(answer.number, 16 | 20 | 21).then(|| (broken(), answer.remainder.cmp(&0)))
+}
+
+/// The same for a pair without costs.
+pub fn kind(answer: Answer, model: &[u8], certificate: &[u8]) -> Option<Kind> {
+    kind_by(Rule::Plain, answer, model, certificate)
 }
 
 /// Every kind: in 16 the left side is not below, and an equation is off to either side.
@@ -215,7 +225,7 @@ struct Reduced<'a> {
 
 /// A merged model from before K3 without the transitions that are the same as an earlier one of their block as fractions.
 fn as_fractions(merged: &[u8]) -> Vec<u8> {
-    let model = plain::read(merged).ok().expect("a merged model");
+    let model = plain::read(Rule::Plain, merged).ok().expect("a merged model");
     let ends = model.transitions.iter().skip(1).map(|r| r.place).chain([merged.len()]);
     let mut out = merged[..8 + model.n()].to_vec();
     let mut kept: Vec<&plain::Transition> = Vec::new();
@@ -288,7 +298,7 @@ pub struct Request {
 }
 
 pub fn requests() -> Vec<Request> {
-    let named = ["k1", "k2", "k3", "k4"].into_iter().flat_map(|name| lines(name).into_iter().map(move |line| (name, line)));
+    let named = ["k1", "k2", "k3", "k4", "k6"].into_iter().flat_map(|name| lines(name).into_iter().map(move |line| (name, line)));
     let mut all: Vec<Request> = named
         .map(|(name, (line, field))| {
             let outs: Vec<Vec<u8>> = field[11].split(',').map(bytes).collect();
@@ -316,6 +326,7 @@ pub type Lent = fn(&[u8], &[u8], usize) -> (Answer, Vec<u8>);
 /// The calls of document 02's vectors.
 pub struct Calls {
     pub judge: Lent,
+    pub judge_costs: Lent,
     pub reduce: Lent,
     pub sheet: Lent,
     pub join: Lent,
@@ -323,7 +334,7 @@ pub struct Calls {
 }
 
 /// By both, which are compared.
-pub const BOTH: Calls = Calls { judge, reduce, sheet, join, alike };
+pub const BOTH: Calls = Calls { judge, judge_costs, reduce, sheet, join, alike };
 
 impl Request {
     fn reduced(&mut self) -> Reduced<'_> {
@@ -339,6 +350,7 @@ impl Request {
         };
         let (answer, yes, out) = match (self.call.as_str(), &self.numbers[..], &self.files[..]) {
             ("judge", &[length], [model, certificate]) => lent(calls.judge, model, certificate, length),
+            ("judge_costs", &[length], [model, certificate]) => lent(calls.judge_costs, model, certificate, length),
             ("reduce", &[length], [model, certificate]) => lent(calls.reduce, model, certificate, length),
             ("sheet", &[length], [model, certificate]) => lent(calls.sheet, model, certificate, length),
             ("join", &[length], [first, second]) => lent(calls.join, first, second, length),
@@ -353,10 +365,20 @@ impl Request {
     }
 }
 
-/// The accepted pairs of the vectors, shorter ones first, each once and at most three for one model.
+/// The accepted pairs of the vectors.
 pub fn accepted() -> Vec<(Vec<u8>, Vec<u8>)> {
     let accepted = vectors().into_iter().filter(|v| v.call != "fetch" && matches!(v.answer.number, 0 | 23));
-    let mut pairs: Vec<_> = accepted.map(|v| (v.model, v.certificate)).collect();
+    once_each(accepted.map(|v| (v.model, v.certificate)).collect())
+}
+
+/// The accepted cost pairs of the vectors.
+pub fn accepted_costs() -> Vec<(Vec<u8>, Vec<u8>)> {
+    let accepted = requests().into_iter().filter(|v| v.call == "judge_costs" && v.answer.number == 0);
+    once_each(accepted.map(|mut v| (v.files.remove(0), v.files.remove(0))).collect())
+}
+
+/// Pairs with the shorter ones first, each once and at most three for one model.
+fn once_each(mut pairs: Vec<(Vec<u8>, Vec<u8>)>) -> Vec<(Vec<u8>, Vec<u8>)> {
     pairs.sort_by_key(|(model, certificate)| (model.len() + certificate.len(), model.clone(), certificate.clone()));
     pairs.dedup();
     let mut of_model = HashMap::new();

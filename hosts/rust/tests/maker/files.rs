@@ -1,5 +1,7 @@
 //! Model and certificate as values, and their bytes.
 
+use crate::plain::Rule;
+
 #[derive(Clone, Debug, PartialEq, Eq)]
 pub struct Transition {
     pub source: usize,
@@ -7,22 +9,31 @@ pub struct Transition {
     pub d: i64,
     /// State and weight, states ascending.
     pub weights: Vec<(usize, i64)>,
+    /// 0 in a model without costs.
+    pub cost: i64,
 }
 
-/// States are counted by their labels; transitions are in file order.
+/// States are counted by their labels; transitions are in file order. A model with costs is one for the rule with costs.
 #[derive(Clone, Debug, PartialEq, Eq)]
 pub struct Model {
+    pub rule: Rule,
     pub labels: Vec<u8>,
     pub m: usize,
     pub transitions: Vec<Transition>,
 }
 
-/// Prices A, B (external challengers only) and G.
+/// Prices A, B (external challengers only) and G of the states, and with costs L.
+#[derive(Clone, Debug, PartialEq, Eq)]
+pub struct Prices<P> {
+    pub sides: Vec<Vec<P>>,
+    pub l: Option<P>,
+}
+
 #[derive(Clone, Debug, PartialEq, Eq)]
 pub struct Refutation {
     pub challenger: usize,
     pub defender: usize,
-    pub prices: Vec<Vec<i32>>,
+    pub prices: Prices<i32>,
 }
 
 /// D, the k by (layer, transition) and the w by (v, u).
@@ -35,6 +46,7 @@ pub struct Flow {
 
 #[derive(Clone, Debug, PartialEq, Eq)]
 pub struct Certificate {
+    pub rule: Rule,
     pub refutations: Vec<Refutation>,
     pub blocks: Vec<u8>,
     pub flows: Vec<Flow>,
@@ -51,7 +63,7 @@ fn two(number: usize) -> [u8; 2] {
 impl Transition {
     /// A transition to one state.
     pub fn step(source: usize, action: usize, target: usize) -> Transition {
-        Transition { source, action, d: 1, weights: vec![(target, 1)] }
+        Transition { source, action, d: 1, weights: vec![(target, 1)], cost: 0 }
     }
 
     /// The number by which all terms can be divided.
@@ -67,6 +79,11 @@ impl Transition {
 }
 
 impl Model {
+    /// A model without costs.
+    pub fn new(labels: Vec<u8>, m: usize, transitions: Vec<Transition>) -> Model {
+        Model { rule: Rule::Plain, labels, m, transitions }
+    }
+
     pub fn n(&self) -> usize {
         self.labels.len()
     }
@@ -80,10 +97,24 @@ impl Model {
                 out.extend(two(p as usize));
             }
         }
+        if self.rule == Rule::Costs {
+            out.extend(b"CO");
+            out.extend(self.transitions.iter().map(|r| r.cost as u8));
+        }
         out
     }
 
-    /// The model of a sound file.
+    /// The same model with these costs.
+    pub fn with_costs(&self, cost: impl Fn(usize, &Transition) -> i64) -> Model {
+        let costly = |(i, r): (usize, &Transition)| Transition { cost: cost(i, r), ..r.clone() };
+        Model { rule: Rule::Costs, transitions: self.transitions.iter().enumerate().map(costly).collect(), ..self.clone() }
+    }
+
+    pub fn without_costs(&self) -> Model {
+        Model { rule: Rule::Plain, ..self.with_costs(|_, _| 0) }
+    }
+
+    /// The model of a sound file without costs.
     pub fn read(file: &[u8]) -> Model {
         let pair = |at: usize| i64::from(file[at]) * 256 + i64::from(file[at + 1]);
         let n = usize::from(file[2]);
@@ -92,10 +123,10 @@ impl Model {
         for _ in 0..pair(4) {
             let entries = usize::from(file[at + 6]);
             let weights = (0..entries).map(|e| at + 7 + 3 * e).map(|e| (file[e].into(), pair(e + 1))).collect();
-            transitions.push(Transition { source: file[at + 2].into(), action: file[at + 3].into(), d: pair(at + 4), weights });
+            transitions.push(Transition { source: file[at + 2].into(), action: file[at + 3].into(), d: pair(at + 4), weights, cost: 0 });
             at += 7 + 3 * entries;
         }
-        Model { labels: file[8..8 + n].to_vec(), m: file[3].into(), transitions }
+        Model::new(file[8..8 + n].to_vec(), file[3].into(), transitions)
     }
 
     fn spelled(&self, factor: impl Fn(usize, &Transition) -> i64) -> Model {
@@ -123,12 +154,35 @@ impl Model {
     }
 }
 
+impl Refutation {
+    /// One without costs, by its prices A, B (external challengers only) and G.
+    pub fn new(challenger: usize, defender: usize, sides: Vec<Vec<i32>>) -> Refutation {
+        Refutation { challenger, defender, prices: Prices { sides, l: None } }
+    }
+
+    /// The same with this L.
+    pub fn with_l(&self, l: i32) -> Refutation {
+        Refutation { prices: Prices { l: Some(l), ..self.prices.clone() }, ..*self }
+    }
+}
+
 impl Certificate {
+    /// One for a model without costs.
+    pub fn new(refutations: Vec<Refutation>, blocks: Vec<u8>, flows: Vec<Flow>) -> Certificate {
+        Certificate { rule: Rule::Plain, refutations, blocks, flows }
+    }
+
+    /// One for a cost model, every L by the number of its refutation.
+    pub fn with_l(&self, l: impl Fn(usize) -> i32) -> Certificate {
+        let refutations = self.refutations.iter().enumerate().map(|(i, r)| r.with_l(l(i))).collect();
+        Certificate { rule: Rule::Costs, refutations, ..self.clone() }
+    }
+
     pub fn bytes(&self) -> Vec<u8> {
-        let mut out = [&b"CT"[..], &two(self.refutations.len())].concat();
+        let mut out = [&self.rule.mark()[..], &two(self.refutations.len())].concat();
         for r in &self.refutations {
             out.extend([&b"PX"[..], &two(r.challenger), &[r.defender as u8]].concat());
-            out.extend(r.prices.iter().flatten().flat_map(|price| price.to_be_bytes()));
+            out.extend(r.prices.sides.iter().flatten().chain(&r.prices.l).flat_map(|price| price.to_be_bytes()));
         }
         out.extend([&b"BK"[..], &self.blocks].concat());
         for f in &self.flows {

@@ -1,13 +1,14 @@
 //! A question of the step rule as a linear program: a defender, a challenger transition and the related pairs.
 
-use super::files::{gcd, Flow, Model, Transition};
+use super::files::{gcd, Flow, Model, Prices, Transition};
 use super::simplex::{solve, Solved};
 use super::{shuffle, Numbers};
+use crate::plain::Rule;
 
-/// The answer to a question: a flow, or prices A, B (external challengers only) and G by which there is none.
+/// The answer to a question: a flow, or prices by which there is none.
 pub enum Met {
     By(Flow),
-    Not(Vec<Vec<i64>>),
+    Not(Prices<i64>),
 }
 
 /// A layer's transitions: whether they make the move, and the side of it (0 before, 1 after) that they leave and lead to.
@@ -27,8 +28,8 @@ enum Unknown {
     W(usize, usize),
 }
 
-/// Only the states that t reaches and the u that the challenger leads to have an equation. Transitions are in lowest terms, so that
-/// spelling does not matter.
+/// Only the states that t reaches and the u that the challenger leads to have an equation; with costs every state has one, since a cycle
+/// that t does not reach may pay. Transitions are in lowest terms, so that spelling does not matter.
 pub struct Question<'a> {
     model: &'a Model,
     related: &'a [Vec<bool>],
@@ -39,6 +40,8 @@ pub struct Question<'a> {
     at: Vec<Vec<Option<usize>>>,
     /// The equation at each u.
     onto: Vec<Option<usize>>,
+    /// The cost equation: its price is L.
+    paid: Option<usize>,
     equations: usize,
 }
 
@@ -68,9 +71,10 @@ impl<'a> Question<'a> {
         let n = model.n();
         let q = &model.transitions[challenger];
         let layers: &[Layer] = if q.action == 0 { &INTERNAL } else { &EXTERNAL };
-        let mut reached = vec![closed(model, (0..n).map(|v| v == t).collect())];
+        let costs = model.rule == Rule::Costs;
+        let mut reached = vec![closed(model, (0..n).map(|v| costs || v == t).collect())];
         if q.action != 0 {
-            let mut moved = vec![false; n];
+            let mut moved = vec![costs; n];
             for r in model.transitions.iter().filter(|r| r.action == q.action && reached[0][r.source]) {
                 r.weights.iter().for_each(|&(v, _)| moved[v] = true);
             }
@@ -80,7 +84,8 @@ impl<'a> Question<'a> {
         let mut numbered = |counts: bool| if counts { equations.next() } else { None };
         let at: Vec<Vec<Option<usize>>> = reached.into_iter().map(|side| side.into_iter().map(&mut numbered).collect()).collect();
         let onto = (0..n).map(|u| numbered(q.weights.iter().any(|e| e.0 == u))).collect();
-        Question { model, related, challenger: q, t, layers, at, onto, equations: equations.start }
+        let paid = numbered(costs);
+        Question { model, related, challenger: q, t, layers, at, onto, paid, equations: equations.start }
     }
 
     /// The equations at the states that a w leaves.
@@ -104,15 +109,17 @@ impl<'a> Question<'a> {
 
     /// The equations that an unknown stands in, and its factors there.
     fn column(&self, unknown: Unknown) -> Vec<(usize, i64)> {
-        let terms: Vec<(Option<usize>, i64)> = match unknown {
-            Unknown::W(v, u) => vec![(self.leaving()[v], 1), (self.onto[u], 1)],
+        let (terms, pays): (Vec<(Option<usize>, i64)>, i64) = match unknown {
+            Unknown::W(v, u) => (vec![(self.leaving()[v], 1), (self.onto[u], 1)], 0),
             Unknown::K(layer, r) => {
                 let (layer, r) = (&self.layers[usize::from(layer)], &self.model.transitions[r]);
                 let arrives = r.weights.iter().map(|&(v, p)| (self.at[layer.to][v], -p / r.common()));
-                arrives.chain([(self.at[layer.from][r.source], r.d / r.common())]).collect()
+                let leaves = r.d / r.common();
+                (arrives.chain([(self.at[layer.from][r.source], leaves)]).collect(), leaves * r.cost)
             }
         };
-        terms.into_iter().map(|(equation, factor)| (equation.expect("what an unknown touches is reached"), factor)).collect()
+        let reached = terms.into_iter().map(|(equation, factor)| (equation.expect("what an unknown touches is reached"), factor));
+        reached.chain(self.paid.map(|equation| (equation, pays))).collect()
     }
 
     /// None where a number does not fit. The choices lead to other flows and other prices.
@@ -126,6 +133,9 @@ impl<'a> Question<'a> {
         for &(u, p) in &q.weights {
             right[self.onto[u].expect("u has weight")] = p / q.common();
         }
+        if let Some(equation) = self.paid {
+            right[equation] = q.cost * q.d / q.common();
+        }
         let weights: Vec<i64> = (0..self.equations).map(|_| 1 + choices.below(3) as i64).collect();
         match solve(&columns, &right, &weights)? {
             Solved::Prices(found) => Some(Met::Not(self.prices(&lowest(found)))),
@@ -137,16 +147,16 @@ impl<'a> Question<'a> {
     }
 
     /// A state that t does not reach has the highest price, and a u that the challenger does not lead to the highest G it may have.
-    fn prices(&self, found: &[i64]) -> Vec<Vec<i64>> {
+    fn prices(&self, found: &[i64]) -> Prices<i64> {
         let at = self.at.iter().flatten().flatten().map(|&i| -found[i]);
         let highest = at.chain(self.onto.iter().flatten().map(|&i| found[i])).max().expect("t has an equation");
         let side = |rows: &Vec<Option<usize>>| rows.iter().map(|row| row.map_or(highest, |i| -found[i])).collect();
-        let mut prices: Vec<Vec<i64>> = self.at.iter().map(side).collect();
-        let leaving = &prices[prices.len() - 1];
+        let mut sides: Vec<Vec<i64>> = self.at.iter().map(side).collect();
+        let leaving = &sides[sides.len() - 1];
         let most = |u: usize| leaving.iter().zip(&self.related[u]).filter(|e| *e.1).map(|e| *e.0).min().expect("u is related to itself");
         let g = (0..self.model.n()).map(|u| self.onto[u].map_or_else(|| most(u), |i| found[i])).collect();
-        prices.push(g);
-        prices
+        sides.push(g);
+        Prices { sides, l: self.paid.map(|equation| found[equation]) }
     }
 
     /// D with k and w of transitions in lowest terms, as whole numbers for the transitions as they are spelled.

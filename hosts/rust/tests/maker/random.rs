@@ -12,7 +12,7 @@ fn any_transition(numbers: &mut Numbers, n: usize, source: usize, m: usize) -> T
     targets.sort();
     let most = *numbers.of(&[2, 2, 3, 3, 3, 3, 6, 20, 100]);
     let weights: Vec<(usize, i64)> = targets.into_iter().map(|v| (v, 1 + numbers.below(most) as i64)).collect();
-    Transition { source, action, d: weights.iter().map(|e| e.1).sum(), weights }
+    Transition { source, action, d: weights.iter().map(|e| e.1).sum(), weights, cost: 0 }
 }
 
 /// Up to five states, and no more than `most`, that move at random.
@@ -20,7 +20,7 @@ fn kernel(numbers: &mut Numbers, most: usize) -> Model {
     let n = 1 + numbers.below(most.min(5));
     let m = *numbers.of(&[1, 2, 2, 3, 4, 32]);
     let labels = *numbers.of(&[1, 1, 1, 2, 3, 64]);
-    let mut model = Model { labels: (0..n).map(|_| numbers.below(labels) as u8).collect(), m, transitions: Vec::new() };
+    let mut model = Model::new((0..n).map(|_| numbers.below(labels) as u8).collect(), m, Vec::new());
     for source in 0..n {
         match numbers.below(6) {
             0 => {}
@@ -61,12 +61,63 @@ fn prefix_state(model: &mut Model, numbers: &mut Numbers, v: usize) {
     model.labels.push(model.labels[v]);
     let again = numbers.below(3) as i64;
     let back = if again > 0 { vec![(v, 1), (first, again)] } else { vec![(v, 1)] };
-    model.transitions.push(Transition { source: first, action: 0, d: 1 + again, weights: back });
+    model.transitions.push(Transition { source: first, action: 0, d: 1 + again, weights: back, cost: 0 });
+}
+
+/// The kernel with costs: none, by action, or of each transition by itself, and perhaps only of external ones. Copies of a state have its
+/// costs, and internal steps to it have none.
+fn costly(kernel: &Model, numbers: &mut Numbers) -> Model {
+    let most = *numbers.of(&[1, 2, 2, 3, 4, 64, 64]);
+    let mut costs = |count: usize| -> Vec<i64> { (0..count).map(|_| numbers.below(most) as i64).collect() };
+    let (by_action, by_itself) = (costs(kernel.m), costs(kernel.transitions.len()));
+    let (alone, external) = (numbers.below(2) == 0, numbers.below(3) == 0);
+    kernel.with_costs(|i, r| match r.action {
+        0 if external => 0,
+        _ if alone => by_itself[i],
+        action => by_action[action],
+    })
 }
 
 /// A random automaton of 1 to `most` states: a kernel, with states copied, reached by internal steps only, looping and almost alike.
 pub fn random_model(numbers: &mut Numbers, most: usize) -> Model {
-    let mut model = kernel(numbers, most);
+    let kernel = kernel(numbers, most);
+    grown(kernel, numbers, most)
+}
+
+/// A transition more that does in one step, at the cost of both, what two do that follow each other, one of them internal; where there are
+/// such, a move and then a step that costs something.
+fn shortcut(model: &mut Model, numbers: &mut Numbers) {
+    let mut found: Vec<(bool, Transition)> = Vec::new();
+    for r in &model.transitions {
+        for i in model.transitions.iter().filter(|i| r.weights.iter().all(|e| e.0 == i.source) && r.action * i.action == 0) {
+            let both = Transition { source: r.source, action: r.action + i.action, cost: r.cost + i.cost, ..i.clone() };
+            found.push((r.action > 0 && i.cost > 0, both));
+        }
+    }
+    found.retain(|(_, both)| both.cost < 64);
+    let late = found.iter().any(|e| e.0);
+    found.retain(|e| e.0 == late);
+    if !found.is_empty() {
+        model.transitions.push(numbers.of(&found).1.clone());
+        model.transitions.sort_by_key(|r| r.source);
+    }
+}
+
+/// The same with costs, with steps that do what two do, and of the costs one or two may be others.
+pub fn random_cost_model(numbers: &mut Numbers, most: usize) -> Model {
+    let kernel = kernel(numbers, most);
+    let mut model = grown(costly(&kernel, numbers), numbers, most);
+    for _ in 0..numbers.below(4) {
+        shortcut(&mut model, numbers);
+    }
+    for _ in 0..numbers.below(3).min(model.transitions.len()) {
+        let i = numbers.below(model.transitions.len());
+        model.transitions[i].cost = *numbers.of(&[0, 1, 2, 5, 62, 63]);
+    }
+    model
+}
+
+fn grown(mut model: Model, numbers: &mut Numbers, most: usize) -> Model {
     let n = model.n().max(1 + numbers.below(most));
     while model.n() < n {
         let v = numbers.below(model.n());

@@ -1,15 +1,20 @@
 //! Other prices and other flows that show the same.
 
-use super::files::{gcd, Flow, Model};
+use super::files::{gcd, Flow, Model, Prices};
 use super::Numbers;
 
-/// The prices times a factor and moved by a constant; as they are where that does not fit, and None where they do not.
-pub fn varied_prices(prices: &[Vec<i64>], choices: &mut Numbers) -> Option<Vec<Vec<i32>>> {
+/// The prices times a factor, and all but L moved by a constant; as they are where that does not fit, and None where they do not.
+pub fn varied_prices(prices: &Prices<i64>, choices: &mut Numbers) -> Option<Prices<i32>> {
     let factor = if choices.below(2) == 0 { 1 } else { 1 + choices.below(1000) as i64 };
     let constant = [0, -1, choices.below(1 << 20) as i64, -(choices.below(1 << 30) as i64)][choices.below(4)];
-    let fitted = |factor: i64, constant: i64| -> Option<Vec<Vec<i32>>> {
-        let price = |x: &i64| i32::try_from(x.checked_mul(factor)?.checked_add(constant)?).ok();
-        prices.iter().map(|side| side.iter().map(price).collect()).collect()
+    let fitted = |factor: i64, constant: i64| -> Option<Prices<i32>> {
+        let price = |x: i64, constant: i64| i32::try_from(x.checked_mul(factor)?.checked_add(constant)?).ok();
+        let sides = prices.sides.iter().map(|side| side.iter().map(|&x| price(x, constant)).collect());
+        let l = match prices.l {
+            Some(l) => Some(price(l, 0)?),
+            None => None,
+        };
+        Some(Prices { sides: sides.collect::<Option<_>>()?, l })
     };
     fitted(factor, constant).or_else(|| fitted(1, 0))
 }
@@ -40,11 +45,12 @@ fn scaled(flow: &Flow, factor: u32) -> Option<Flow> {
     Some(Flow { d: flow.d.checked_mul(factor)?, ks: times(&flow.ks, factor)?, ws: times(&flow.ws, factor)? })
 }
 
-/// A cycle of internal transitions to one state each, with a k for each so that as much leaves a state as arrives; empty where a walk
-/// meets none.
+/// A cycle of internal transitions to one state each that cost nothing, with a k for each so that as much leaves a state as arrives; empty
+/// where a walk meets none.
 fn internal_cycle(model: &Model, choices: &mut Numbers) -> Vec<(usize, i64)> {
     let step = |r: &usize| &model.transitions[*r];
-    let steps: Vec<usize> = (0..model.transitions.len()).filter(|r| step(r).action == 0 && step(r).weights.len() == 1).collect();
+    let taken = |r: &usize| step(r).action == 0 && step(r).weights.len() == 1 && step(r).cost == 0;
+    let steps: Vec<usize> = (0..model.transitions.len()).filter(taken).collect();
     let mut walk: Vec<usize> = Vec::new();
     let mut next = steps.clone();
     while !next.is_empty() {
@@ -66,7 +72,16 @@ fn with_cycle(model: &Model, flow: &Flow, layer: u8, choices: &mut Numbers) -> O
     Some(Flow { ks: joined(&flow.ks, &cycle)?, ..flow.clone() })
 }
 
-/// The flow with all terms times a factor, up to the highest that fits, or with a needless cycle; as it is where that does not fit.
+/// The flow with its self loops after the move and not before it: they change no equation at a state, and cost the same.
+fn with_loops_moved(model: &Model, flow: &Flow) -> Option<Flow> {
+    let is_loop = |r: usize| model.transitions[r].weights.iter().all(|e| e.0 == model.transitions[r].source);
+    let after = |&((layer, r), k): &((u8, usize), u32)| if layer == 0 && is_loop(r) { ((2, r), k) } else { ((layer, r), k) };
+    let ks: Vec<_> = flow.ks.iter().map(after).collect();
+    Some(Flow { ks: joined(&ks, &[])?, ..flow.clone() })
+}
+
+/// The flow with all terms times a factor, up to the highest that fits, with a needless cycle, or with self loops elsewhere; as it is where that
+/// does not fit.
 pub fn varied_flow(model: &Model, flow: Flow, action: usize, choices: &mut Numbers) -> Flow {
     let most = flow.ks.iter().map(|e| e.1).chain(flow.ws.iter().map(|e| e.1)).fold(flow.d, u32::max);
     let other = match choices.below(6) {
@@ -74,6 +89,7 @@ pub fn varied_flow(model: &Model, flow: Flow, action: usize, choices: &mut Numbe
         1 => scaled(&flow, u32::MAX / most),
         2 => with_cycle(model, &flow, 0, choices),
         3 => with_cycle(model, &flow, if action == 0 { 0 } else { 2 }, choices),
+        4 if action > 0 => with_loops_moved(model, &flow),
         _ => None,
     };
     other.unwrap_or(flow)

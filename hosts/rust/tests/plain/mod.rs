@@ -1,12 +1,30 @@
 //! Document 01's judge, reduce and fetch, document 02's join and alike (K1), the state and the remainder of 16, 20 and 21 (K2), its merged
-//! transitions that are the same as fractions (K3) and its block sheet (K4) in plain Rust, written from the documents alone: what the
-//! library is compared with.
+//! transitions that are the same as fractions (K3), its block sheet (K4) and its cost pairs (K6) in plain Rust, written from the documents
+//! alone: what the library is compared with.
 //!
 //! Every sum fits an i64. Weights of a transition add up to at most 65,535, so weights times prices stay below 2^47 and a difference
-//! of two such sums below 2^48. k times d is below 2^48, and a state's equation has at most 768 of them (each layer and transition
-//! once), 64 w and one D: below 2^58. d0 times the at most 64 w onto a state is below 2^54.
+//! of two such sums below 2^48; L times cost times d is below 2^53. k times d is below 2^48, and a state's equation has at most 768 of
+//! them (each layer and transition once), 64 w and one D: below 2^58. d0 times the at most 64 w onto a state is below 2^54. k times d times
+//! cost is below 2^54, and at most 511 of them are paid: 256 transitions, of which all but the moves stand in two layers. That is below 2^63.
 
 pub use zolkirta::raw::{AlikeAnswer, Answer};
+
+/// The step rule that a pair is judged by: document 01's, or K6's with costs.
+#[derive(Clone, Copy, Debug, PartialEq, Eq)]
+pub enum Rule {
+    Plain,
+    Costs,
+}
+
+impl Rule {
+    /// The mark of a certificate's head.
+    pub fn mark(self) -> &'static [u8; 2] {
+        match self {
+            Rule::Plain => b"CT",
+            Rule::Costs => b"CC",
+        }
+    }
+}
 
 /// What breaks where a refusal has a state and a remainder.
 #[derive(Clone, Copy, Debug, PartialEq, Eq, PartialOrd, Ord)]
@@ -44,6 +62,8 @@ pub struct Transition<'a> {
     pub source: usize,
     pub action: u8,
     pub d: i64,
+    /// 0 without costs.
+    cost: i64,
     entries: &'a [u8],
 }
 
@@ -60,6 +80,7 @@ impl Transition<'_> {
 }
 
 pub struct Model<'a> {
+    rule: Rule,
     pub m: u8,
     pub labels: &'a [u8],
     pub transitions: Vec<Transition<'a>>,
@@ -130,8 +151,8 @@ fn record<'a>(file: &'a [u8], at: usize, mark: &[u8; 2], fixed: usize, ends: u32
     Ok(bytes)
 }
 
-/// Reads a model: refusals 1 to 9.
-pub fn read(file: &[u8]) -> Result<Model<'_>, Fault> {
+/// Reads a model, refusals 1 to 9, or a cost model: 29 as well.
+pub fn read(rule: Rule, file: &[u8]) -> Result<Model<'_>, Fault> {
     let head = record(file, 0, b"PA", 6, 1)?;
     let (n, m, count) = (usize::from(head[2]), head[3], usize::from(two(head, 4)));
     if !(1..=64).contains(&n) || !(1..=32).contains(&m) || count > 256 {
@@ -157,7 +178,7 @@ pub fn read(file: &[u8]) -> Result<Model<'_>, Fault> {
         if bytes.len() < size {
             return fault(1, at);
         }
-        let transition = Transition { place: at, source, action, d, entries: &bytes[7..size] };
+        let transition = Transition { place: at, source, action, d, cost: 0, entries: &bytes[7..size] };
         let (mut lowest, mut sum) = (0, 0);
         for (state, weight) in transition.weights() {
             if state < lowest || state >= n || weight == 0 {
@@ -173,10 +194,20 @@ pub fn read(file: &[u8]) -> Result<Model<'_>, Fault> {
         last_source = source;
         at += size;
     }
+    if rule == Rule::Costs {
+        let costs = &record(file, at, b"CO", 2 + count, 1)?[2..2 + count];
+        for (i, &cost) in costs.iter().enumerate() {
+            if cost > 63 {
+                return fault(29, at + 2 + i);
+            }
+            transitions[i].cost = i64::from(cost);
+        }
+        at += 2 + count;
+    }
     if at < file.len() {
         return fault(9, at);
     }
-    Ok(Model { m, labels, transitions })
+    Ok(Model { rule, m, labels, transitions })
 }
 
 /// Judges the refutation at a place, refusals 11, 12 and 14 to 16: the pair that it removes, and the place after it.
@@ -194,21 +225,24 @@ fn refutation(model: &Model, related: &Related, file: &[u8], at: usize) -> Resul
     }
     let external = challenger.action != 0;
     let count = if external { 3 * n } else { 2 * n };
-    let size = 5 + 4 * count;
+    let size = 5 + 4 * (count + usize::from(model.rule == Rule::Costs));
     if bytes.len() < size {
         return fault(11, at);
     }
-    let mut prices = [0; 3 * 64];
+    let mut prices = [0; 3 * 64 + 1];
     for (price, field) in prices.iter_mut().zip(bytes[5..size].chunks_exact(4)) {
         *price = i64::from(four(field, 0) as i32);
     }
     // For an internal challenger A stands where B would.
     let (a, b, g) = (&prices[..n], &prices[count - 2 * n..count - n], &prices[count - n..count]);
+    // Behind them stands L, and without costs 0.
+    let paid = |r: &Transition| prices[count] * r.cost * r.d;
     for r in &model.transitions {
-        if r.action == 0 && (r.d * a[r.source] < r.price(a) || external && r.d * b[r.source] < r.price(b)) {
+        let breaks = |from: &[i64], to: &[i64]| r.d * from[r.source] < r.price(to) + paid(r);
+        if r.action == 0 && (breaks(a, a) || external && breaks(b, b)) {
             return fault(15, at);
         }
-        if external && r.action == challenger.action && r.d * a[r.source] < r.price(b) {
+        if external && r.action == challenger.action && breaks(a, b) {
             return fault(15, at);
         }
     }
@@ -219,7 +253,7 @@ fn refutation(model: &Model, related: &Related, file: &[u8], at: usize) -> Resul
             }
         }
     }
-    let remainder = challenger.d * a[t] - challenger.price(g);
+    let remainder = challenger.d * a[t] - (challenger.price(g) + paid(challenger));
     if remainder >= 0 {
         return off(16, at, Broken::LastPrices, t, remainder);
     }
@@ -232,7 +266,7 @@ fn first_broken(remainders: &[i64]) -> (usize, i64) {
     remainders.iter().copied().enumerate().find(|&(_, x)| x != 0).expect("an equation that breaks")
 }
 
-/// Judges the flow at a place for a challenger and its defender, refusals 11, 12 and 19 to 21: the place after it.
+/// Judges the flow at a place for a challenger and its defender, refusals 11, 12, 19 to 21 and 30: the place after it.
 fn flow(model: &Model, related: &Related, file: &[u8], challenger: &Transition, t: usize, at: usize) -> Result<usize, Fault> {
     let n = model.n();
     let bytes = record(file, at, b"FL", 8, 11)?;
@@ -248,6 +282,7 @@ fn flow(model: &Model, related: &Related, file: &[u8], challenger: &Transition, 
     // What arrives at each state less what leaves it: [0] before the move, [1] after it.
     let mut left = [[0; 64]; 2];
     left[0][t] = big;
+    let mut paid = 0;
     let mut last = None;
     for e in bytes[8..middle].chunks_exact(7) {
         let (layer, r, k) = (e[0], usize::from(two(e, 1)), i64::from(four(e, 3)));
@@ -266,6 +301,7 @@ fn flow(model: &Model, related: &Related, file: &[u8], challenger: &Transition, 
         for (v, p) in r.weights() {
             left[to][v] += k * p;
         }
+        paid += k * r.d * r.cost;
     }
     if bytes.len() < middle + 2 {
         return fault(11, at);
@@ -299,13 +335,16 @@ fn flow(model: &Model, related: &Related, file: &[u8], challenger: &Transition, 
         let (u, remainder) = first_broken(&std::array::from_fn::<i64, 64, _>(|u| challenger.d * onto[u] - wanted[u]));
         return off(21, at, Broken::AtTarget, u, remainder);
     }
+    if paid != challenger.cost * big {
+        return fault(30, at);
+    }
     Ok(at + size)
 }
 
-/// Judges a certificate for a sound model, refusals 11 to 22: the bytes of its blocks, and the pairs left.
+/// Judges a certificate for a sound model, refusals 11 to 22 and 30: the bytes of its blocks, and the pairs left.
 fn certificate<'a>(model: &Model, file: &'a [u8]) -> Result<(&'a [u8], Related), Fault> {
     let n = model.n();
-    let count = two(record(file, 0, b"CT", 4, 11)?, 2);
+    let count = two(record(file, 0, model.rule.mark(), 4, 11)?, 2);
     if count > 2016 {
         return fault(13, 0);
     }
@@ -422,7 +461,7 @@ fn numbered(number: u32) -> Answer {
 
 /// The transitions that leave a state, as a run of the model's bytes.
 pub fn fetch(model: &[u8], state: u32) -> Answer {
-    let sound = match read(model) {
+    let sound = match read(Rule::Plain, model) {
         Ok(sound) => sound,
         Err(fault) => return refused(1, model, fault),
     };
@@ -451,9 +490,12 @@ fn sheet_of(blocks: &[u8], related: &Related) -> String {
     out
 }
 
-/// The model, the blocks of an accepted certificate and the pairs left, judged with room for so many blocks.
-fn judged<'a>(model: &'a [u8], certificate_file: &'a [u8], room: usize) -> Result<(Model<'a>, &'a [u8], Related), Answer> {
-    let sound = read(model).map_err(|fault| refused(1, model, fault))?;
+/// What a pair is judged to be: the model, the blocks of an accepted certificate and the pairs left, or a refusal.
+type Judged<'a> = Result<(Model<'a>, &'a [u8], Related), Answer>;
+
+/// Judges a pair with room for so many blocks.
+fn judged<'a>(rule: Rule, model: &'a [u8], certificate_file: &'a [u8], room: usize) -> Judged<'a> {
+    let sound = read(rule, model).map_err(|fault| refused(1, model, fault))?;
     if room < sound.n() {
         return Err(numbered(10));
     }
@@ -462,19 +504,29 @@ fn judged<'a>(model: &'a [u8], certificate_file: &'a [u8], room: usize) -> Resul
 }
 
 /// What breaks in a certificate that is refused with 16, 20 or 21.
-pub fn broken(model: &[u8], certificate_file: &[u8]) -> Option<Off> {
-    certificate(&read(model).ok()?, certificate_file).err()?.off
+pub fn broken(rule: Rule, model: &[u8], certificate_file: &[u8]) -> Option<Off> {
+    certificate(&read(rule, model).ok()?, certificate_file).err()?.off
 }
 
-/// Judges a certificate for a model; on acceptance the blocks stand first in the buffer.
-pub fn judge(model: &[u8], certificate: &[u8], buffer: &mut [u8]) -> Answer {
-    match judged(model, certificate, buffer.len()) {
+/// Judges a certificate for a model by a rule; on acceptance the blocks stand first in the buffer.
+fn judge_by(rule: Rule, model: &[u8], certificate: &[u8], buffer: &mut [u8]) -> Answer {
+    match judged(rule, model, certificate, buffer.len()) {
         Ok((_, blocks, _)) => {
             buffer[..blocks.len()].copy_from_slice(blocks);
             Answer { written: blocks.len(), ..Answer::default() }
         }
         Err(answer) => answer,
     }
+}
+
+/// Judges a certificate for a model; on acceptance the blocks stand first in the buffer.
+pub fn judge(model: &[u8], certificate: &[u8], buffer: &mut [u8]) -> Answer {
+    judge_by(Rule::Plain, model, certificate, buffer)
+}
+
+/// The same of a cost model.
+pub fn judge_costs(model: &[u8], certificate: &[u8], buffer: &mut [u8]) -> Answer {
+    judge_by(Rule::Costs, model, certificate, buffer)
 }
 
 /// Writes a file first into the buffer, or refuses with this number where the buffer is shorter.
@@ -488,7 +540,7 @@ fn write(file: &[u8], buffer: &mut [u8], shorter: u32) -> Answer {
 
 /// Judges a certificate for a model; on acceptance the merged model's file stands first in the buffer.
 pub fn reduce(model: &[u8], certificate: &[u8], buffer: &mut [u8]) -> Answer {
-    match judged(model, certificate, usize::MAX) {
+    match judged(Rule::Plain, model, certificate, usize::MAX) {
         Ok((model, blocks, _)) => write(&merged(&model, blocks), buffer, 23),
         Err(answer) => answer,
     }
@@ -496,7 +548,7 @@ pub fn reduce(model: &[u8], certificate: &[u8], buffer: &mut [u8]) -> Answer {
 
 /// Judges a certificate for a model; on acceptance the sheet of its blocks stands first in the buffer.
 pub fn sheet(model: &[u8], certificate: &[u8], buffer: &mut [u8]) -> Answer {
-    match judged(model, certificate, usize::MAX) {
+    match judged(Rule::Plain, model, certificate, usize::MAX) {
         Ok((_, blocks, related)) => write(sheet_of(blocks, &related).as_bytes(), buffer, 28),
         Err(answer) => answer,
     }
@@ -504,11 +556,11 @@ pub fn sheet(model: &[u8], certificate: &[u8], buffer: &mut [u8]) -> Answer {
 
 /// Reads two models and writes them as one.
 pub fn join(first: &[u8], second: &[u8], buffer: &mut [u8]) -> Answer {
-    let one = match read(first) {
+    let one = match read(Rule::Plain, first) {
         Ok(model) => model,
         Err(fault) => return refused(1, first, fault),
     };
-    match read(second) {
+    match read(Rule::Plain, second) {
         Ok(other) => joined(&one, &other).map_or(numbered(25), |file| write(&file, buffer, 26)),
         Err(fault) => refused(3, second, fault),
     }
@@ -516,7 +568,7 @@ pub fn join(first: &[u8], second: &[u8], buffer: &mut [u8]) -> Answer {
 
 /// Judges a certificate for a joined model; on acceptance says whether a state of each part share a block.
 pub fn alike(model: &[u8], first_count: u32, certificate: &[u8], first_state: u32, second_state: u32) -> AlikeAnswer {
-    let blocks = match judged(model, certificate, usize::MAX) {
+    let blocks = match judged(Rule::Plain, model, certificate, usize::MAX) {
         Ok((_, blocks, _)) => blocks,
         Err(answer) => return AlikeAnswer { answer, alike: 0 },
     };

@@ -2,6 +2,7 @@
 #![allow(dead_code)] // each test file uses its own part
 
 use crate::compare::{Counts, Numbers};
+use crate::plain::Rule;
 use std::iter::once;
 use std::ops::Range;
 
@@ -33,6 +34,7 @@ fn cut_model(model: &[u8]) -> Vec<Vec<u8>> {
     cut(model, |r| match &r[..2] {
         b"PA" => 6,
         b"LB" => 2 + usize::from(model[2]),
+        b"CO" => 2 + value(model, 4..6) as usize,
         _ => 7 + 3 * usize::from(r[6]),
     })
 }
@@ -46,11 +48,12 @@ pub fn split_models(first: &[u8], second: &[u8]) -> Records {
 pub fn split((model, certificate): &(Vec<u8>, Vec<u8>)) -> Records {
     let n = usize::from(model[2]);
     let model = cut_model(model);
+    let price_of_costs = if certificate.starts_with(b"CC") { 4 } else { 0 };
     let certificate = cut(certificate, |r| match &r[..2] {
-        b"CT" => 4,
+        b"CT" | b"CC" => 4,
         b"BK" => 2 + n,
-        b"PX" if model[2 + value(r, 2..4) as usize][3] == 0 => 5 + 8 * n,
-        b"PX" => 5 + 12 * n,
+        b"PX" if model[2 + value(r, 2..4) as usize][3] == 0 => 5 + 8 * n + price_of_costs,
+        b"PX" => 5 + 12 * n + price_of_costs,
         _ => w_count(r) + 2 + 6 * value(r, w_count(r)..w_count(r) + 2) as usize,
     });
     [model, certificate]
@@ -65,7 +68,7 @@ fn w_count(flow: &[u8]) -> usize {
 fn fields(record: &[u8]) -> Vec<Range<usize>> {
     let widths: Box<dyn Iterator<Item = &usize>> = match record {
         [b'P', b'A', ..] => Box::new([1, 1, 2].iter()),
-        [b'C', b'T', ..] => Box::new([2].iter()),
+        [b'C', b'T' | b'C', ..] => Box::new([2].iter()),
         [b'T', b'R', ..] => Box::new([1, 1, 2, 1].iter().chain([1, 2].iter().cycle())),
         [b'P', b'X', ..] => Box::new([2, 1].iter().chain([4].iter().cycle())),
         [b'F', b'L', _, _, _, _, high, low, ..] => {
@@ -135,8 +138,8 @@ fn edge(old: u64, width: usize, n: u64, numbers: &mut Numbers) -> u64 {
 }
 
 /// Spells a record otherwise, so that what is accepted stays so: D, k and w of a flow or the prices of a refutation times a factor, and
-/// the prices moved by one amount; d and the weights of a transition times a factor, which only flows that use it notice.
-fn respell(record: &mut [u8], numbers: &mut Numbers) {
+/// the prices but L moved by one amount; d and the weights of a transition times a factor, which only flows that use it notice.
+fn respell(record: &mut [u8], rule: Rule, numbers: &mut Numbers) {
     let (width, most) = match &record[..2] {
         b"TR" => (2, i64::from(u16::MAX)),
         b"FL" => (4, i64::from(u32::MAX)),
@@ -155,9 +158,16 @@ fn respell(record: &mut [u8], numbers: &mut Numbers) {
     let factor = [1, room, room.min(2), 1 + numbers.below(room as usize) as i64][numbers.below(4)];
     let space = (most - largest * factor).max(0);
     let moved = if prices { [0, space, -space][numbers.below(3)] } else { 0 };
-    for (field, x) in amounts.into_iter().zip(old) {
-        put(record, field, x.wrapping_mul(factor).wrapping_add(moved) as u64);
+    let count = old.len();
+    for (i, (field, x)) in amounts.into_iter().zip(old).enumerate() {
+        let is_l = rule == Rule::Costs && i + 1 == count;
+        put(record, field, x.wrapping_mul(factor).wrapping_add(if is_l { 0 } else { moved }) as u64);
     }
+}
+
+/// The rule that the certificate of a sound pair, or of none, is for.
+fn rule_of(pair: &Records) -> Rule {
+    if pair[1][0].starts_with(Rule::Costs.mark()) { Rule::Costs } else { Rule::Plain }
 }
 
 /// One damage to one file; `other` is another sound pair, which lends a record or a whole file.
@@ -179,7 +189,7 @@ fn damage(pair: &mut Records, other: &Records, n: u64, numbers: &mut Numbers) {
         3 => *record = numbers.of(&other[which]).clone(),
         4 => *file = other[which].clone(),
         5 => {
-            let mark = numbers.of(&[b"PA", b"LB", b"TR", b"CT", b"PX", b"BK", b"FL", b"pa", b"AP"]);
+            let mark = numbers.of(&[b"PA", b"LB", b"TR", b"CO", b"CT", b"CC", b"PX", b"BK", b"FL", b"pa", b"AP"]);
             record[..2].copy_from_slice(*mark);
         }
         6 => damage_entries(record, numbers),
@@ -206,7 +216,7 @@ fn damage(pair: &mut Records, other: &Records, n: u64, numbers: &mut Numbers) {
             let size = 1 + numbers.below(9);
             record.extend(numbers.bytes(size));
         }
-        10 => respell(record, numbers),
+        10 => respell(record, rule_of(other), numbers),
         _ => {
             let field = numbers.of(&fields(record)).clone();
             let new = edge(value(record, field.clone()), field.len(), n, numbers);
@@ -223,20 +233,21 @@ fn damage(pair: &mut Records, other: &Records, n: u64, numbers: &mut Numbers) {
     }
 }
 
-/// Some of a certificate's records spelled otherwise.
-fn respell_some(certificate: &mut [Vec<u8>], numbers: &mut Numbers) {
-    for record in certificate {
+/// A sound pair with some of its certificate's records spelled otherwise.
+fn respell_some(pair: &mut Records, numbers: &mut Numbers) {
+    let rule = rule_of(pair);
+    for record in &mut pair[1] {
         if numbers.below(4) == 0 {
-            respell(record, numbers);
+            respell(record, rule, numbers);
         }
     }
 }
 
 /// An accepted pair's certificate, with some records spelled otherwise.
 pub fn respelled(pair: &(Vec<u8>, Vec<u8>), numbers: &mut Numbers) -> Vec<u8> {
-    let [_, mut certificate] = split(pair);
-    respell_some(&mut certificate, numbers);
-    certificate.concat()
+    let mut pair = split(pair);
+    respell_some(&mut pair, numbers);
+    pair[1].concat()
 }
 
 /// Hands out so many damaged pairs of files: each is one of these pairs, respelled and then damaged. With it come the state count of
@@ -246,7 +257,7 @@ pub fn each_damaged(pairs: &[Records], times: u64, seed: u64, mut each: impl FnM
     for _ in 0..times {
         let mut pair = numbers.of(pairs).clone();
         let n = pair[0][1].len() - 2;
-        respell_some(&mut pair[1], &mut numbers);
+        respell_some(&mut pair, &mut numbers);
         for _ in 0..1 + numbers.below(4) / 2 + numbers.below(8) / 7 {
             damage(&mut pair, numbers.of(pairs), n as u64, &mut numbers);
         }

@@ -4,9 +4,9 @@ use native.Mathlib.Omega.{arith}
 use mir.Syntax.{w64}
 use mir.Val.{toZ}
 use Rattle.rules.specs.definitions.Limits.{limits}
-use Rattle.conditions.specs.HighestLaws.{Seeking, seek-start, seek-turn, seek-end}
-use Rattle.conditions.proofs.highest.Statement.{statement}
-use Rattle.conditions.proofs.highest.Tie as tie
+use Rattle.related_prices.specs.HighestLaws.{Seeking, seek-start, seek-turn, seek-end}
+use Rattle.related_prices.proofs.highest.Statement.{statement}
+use Rattle.related_prices.proofs.highest.Tie as tie
 
 abbrev Inv-loop : tie.InvT-loop
 Inv-loop rows v g most₀ u₀ most u = Seeking rows v u g (toZ w64 most)

@@ -24,7 +24,7 @@ use Rattle.prices.specs.Prices.{priceIn, SmallPrices}
 use Rattle.prices.specs.PricesLaws.{price-back}
 use Rattle.signed.specs.Larger.{IsLarger}
 use Rattle.signed.specs.LargerLaws.{≤ℤ-trans}
-use Rattle.conditions.specs.Highest.{Inside, Bounds, HighestBelow, IsHighest, AreRelated}
+use Rattle.related_prices.specs.Highest.{Inside, Bounds, HighestBelow, IsHighest, AreRelated}
 
 -- what is known before each related state: u is one, and the highest price below it
 pub record Seeking (rows : List ℕ) (v u : ℕ) (table : List ℤ) (most : ℤ) : Type 0 where

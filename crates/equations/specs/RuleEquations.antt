@@ -1,4 +1,4 @@
--- The sums over a flow's entries decide document 01's equations.
+-- The sums over a flow's entries decide the equations of each step rule.
 use Prim.Native.Nat.{ℕ, zero, suc, _+_, _*_, _<_}
 use mathlib.Core.Path.{_≡_, refl, sym, _∙_, ap, ap₂}
 use mathlib.Core.Logic.{_≢_}
@@ -7,23 +7,32 @@ use lib.Dec.{eqb}
 use lib.IntN.{subℕ}
 use native.Mathlib.Decide.{ℕ-discrete}
 use native.Mathlib.Omega.{arith}
-use Rattle.bisimulation.specs.definitions.Choice.{ifSame, ifTrue, both}
+use Rattle.bisimulation.specs.definitions.Choice.{ifSame, ifTrue, unlessSame, both}
 use Rattle.bisimulation.specs.argument.ChoiceLaws.{same, notSame, isTrue, notTrue, eitherSame}
 use Rattle.bisimulation.specs.definitions.Automaton.{Automaton}
 use Rattle.bisimulation.specs.argument.SumLaws.{sumTimes}
 use Rattle.bisimulation.specs.definitions.Pairs.{Pairs, isPair}
 use Rattle.bisimulation.specs.argument.PairsLaws.{isPairTrue, isPairOf}
-use Rattle.bisimulation.specs.definitions.StepRule.{Sides, arriving, leaving, overTargets, overSources, beforeMove, afterMove, internalMove, atTarget}
+use Rattle.bisimulation.specs.definitions.StepRule.{Flow, Sides, arriving, leaving, overTargets, overSources, beforeMove, afterMove, internalMove, atTarget}
 use Rattle.rules.specs.definitions.Bytes.{byteAt, twoAt, threeAt, fourAt}
-use Rattle.rules.specs.definitions.Certificate.{kCountAt, afterK, wCountAt, kOf, wOf, flowAt, kFault, wFault}
-use Rattle.rules.specs.definitions.Faults.{Fault, faultBy, firstOf, Passes}
-use Rattle.rules.specs.definitions.PlainRule.{breakFrom, firstBreak, internalEquationsFault, externalEquationsFault, plainEquationsFault, plainRule}
+use Rattle.rules.specs.definitions.Certificate.{FileRule, kCountAt, afterK, wCountAt, kOf, wOf, flowAt, kFault, wFault}
+use Rattle.rules.specs.definitions.Faults.{Fault, faultBy, fault, noFault, firstOf, Passes}
+use Rattle.rules.specs.definitions.PlainRule.{breakFrom, firstBreak, internalEquationsFault, externalEquationsFault, plainInQuestion, plainEquationsFault}
 use Rattle.rules.specs.definitions.PlainSays.{InPlainQuestion}
 use Rattle.rules.specs.argument.PlainDecides.{kind-internal, kind-external, six-cases}
-use Rattle.rules.specs.argument.FaultLaws.{first-passes}
+use Rattle.rules.specs.argument.FaultLaws.{first-stops, first-none, first-passes}
 use Rattle.rules.specs.argument.BreakLaws.{break-none}
 use Rattle.rules.specs.argument.EntryFaults.{passed-k, passed-w}
-use Rattle.equations.specs.Differences.{kSum, wSum, kTotal, wTotal, beforeLeft, beforeRight, afterLeft, afterRight, takenAt, givenAt, firstLeft, firstRight, secondLeft, secondRight, targetLeft, targetRight, sidesOf, Decided, DecidesEquations}
+use Rattle.costs.specs.definitions.CostStepRule.{costOfLayer, costEquation}
+use Rattle.costs.specs.argument.CostLaws.{internalCost, externalCost}
+use Rattle.costs.specs.argument.Free.{free, freeEquation}
+use Rattle.cost_files.specs.definitions.CostFile.{costEquationFault, costEquationsFault}
+use Rattle.rule_kind.specs.declared.Kind.{Kind}
+use Rattle.rule_kind.specs.declared.Kind.the-variants.{Plain, Costs}
+use Rattle.rule_kind.specs.Kinds.{ruleOf, costIn}
+use Rattle.entries_k.specs.Taking.{Tests, kSum, costOfK}
+use Rattle.entries_k.specs.PlainAsked.{tests-of}
+use Rattle.equations.specs.Differences.{wSum, kTotal, wTotal, beforeLeft, beforeRight, afterLeft, afterRight, takenAt, givenAt, firstLeft, firstRight, secondLeft, secondRight, targetLeft, targetRight, costLeft, costRight, sidesOf, beforeBreak, afterBreak, targetBreak, costBreak, DecidesEquations}
 use Rattle.equations.specs.EntrySums.{Entries, turned, added, nothing, overSecond}
 
 -- what stands for two numbers where they are the entry's, and where they are not
@@ -51,9 +60,9 @@ known-k A C q at l (InPlainQuestion.move n a b) = record { transition = l; layer
 known-k A C q at l (InPlainQuestion.after n a b) = record { transition = l; layer = omega arith; internal = λ i. absurd (n i) }
 
 -- the k entries and the w entries of a certificate
-unfoldable kEntries : Automaton → List ℕ → (q t : ℕ) → Entries
+unfoldable kEntries : {rule : FileRule} → Tests plainInQuestion rule → Automaton → List ℕ → (q t : ℕ) → Entries
 unfolding kOf kSum threeAt
-kEntries A C q t =
+kEntries {rule} tests A C q t =
     record {
       first = byteAt C;
       second = λ at. twoAt C (at + 1);
@@ -61,12 +70,12 @@ kEntries A C q t =
       size = 7;
       number = λ layer r. layer * 65536 + r;
       Good = GoodK A C q;
-      judged = kFault plainRule A C q t;
+      judged = kFault rule A C q t;
       look = kOf C;
       total = kSum C;
       turn = λ left at lowest e.
-          let p = passed-k plainRule A C q t left at lowest e in
-          (p .order, known-k A C q at (p .transition) (six-cases _ _ _ .0 (p .allowed)), p .rest);
+          let p = passed-k rule A C q t left at lowest e in
+          (p .order, known-k A C q at (p .transition) (six-cases _ _ _ .0 (tests .is A q t _ _ ∙ p .allowed)), p .rest);
       absent = λ at layer r. refl;
       found = λ left at layer r. pair-found (byteAt C at) (twoAt C (at + 1)) layer r (fourAt C (at + 3)) (kOf C left (at + 7) layer r);
       passed = λ left at layer r. pair-passed (byteAt C at) (twoAt C (at + 1)) layer r (fourAt C (at + 3)) (kOf C left (at + 7) layer r);
@@ -129,9 +138,32 @@ same-first : (A : Automaton) (number : ℕ) {L R : ℕ → ℕ} {equation : ℕ 
 unfolding firstBreak
 same-first A number s = same-break number s (A .states) 0
 
-module _ (A : Automaton) (C : List ℕ) (R : Pairs) (q t at : ℕ) (noK : Passes (kFault plainRule A C q t (kCountAt C at) (at + 8) 0)) (noW : Passes (wFault A C R (wCountAt C at) (afterK C at + 2) 0)) where
+-- a break and nothing after it
+breaks-alone : (number : ℕ) (equation : ℕ → Sides) → 0 < number → (left v : ℕ) → firstOf (breakFrom number equation left v) noFault ≡ breakFrom number equation left v
+unfolding breakFrom
+breaks-alone number equation some zero v = sym (first-none _ _ refl refl)
+breaks-alone number equation some (suc left) v =
+    eitherSame (λ (f : Fault). firstOf f noFault ≡ f) _ _ (breaks-alone number equation some left (v + 1)) (sym (first-stops _ _ refl (λ z. omega arith)))
+
+break-alone : (A : Automaton) (number : ℕ) (equation : ℕ → Sides) → 0 < number → firstOf (firstBreak A number equation) noFault ≡ firstBreak A number equation
+unfolding firstBreak
+break-alone A number equation some = breaks-alone number equation some (A .states) 0
+
+-- the first of three faults
+first-again : (x y z : Fault) → firstOf x (firstOf y z) ≡ firstOf (firstOf x y) z
+first-again x y z = go (ℕ-discrete (x .number) 0)
+  where
+    go : Dec (x .number ≡ 0) → firstOf x (firstOf y z) ≡ firstOf (firstOf x y) z
+    go (yes p) = sym (first-none x _ p refl) ∙ ap (λ (f : Fault). firstOf f z) (first-none x y p refl)
+    go (no n) = sym (first-stops x _ refl n) ∙ first-stops x z refl n ∙ ap (λ (f : Fault). firstOf f z) (first-stops x y refl n)
+
+module _ {rule : FileRule} (tests : Tests plainInQuestion rule) (A : Automaton) (C : List ℕ) (R : Pairs) (q t at : ℕ) (noK : Passes (kFault rule A C q t (kCountAt C at) (at + 8) 0)) (noW : Passes (wFault A C R (wCountAt C at) (afterK C at + 2) 0)) where
+  -- the sums' breaks without the cost equation
+  abbrev sumsBreak : Fault
+  sumsBreak = firstOf (beforeBreak A C q t at) (firstOf (afterBreak A C q t at) (targetBreak A C q t at))
+
   abbrev ks : Entries
-  ks = kEntries A C q t
+  ks = kEntries tests A C q t
 
   abbrev k : (layer r : ℕ) → ℕ
   k = kOf C (kCountAt C at) (at + 8)
@@ -164,7 +196,19 @@ module _ (A : Automaton) (C : List ℕ) (R : Pairs) (q t at : ℕ) (noK : Passes
       overSecond ks (A .transitions) (λ at g. g .transition) (takes v) (λ r. eitherSame (λ x. x ≡ 0) (A .source r) v (omega arith) refl)
       layer (kCountAt C at) (at + 8) 0 noK
 
-  -- those of two layers together
+  cost-k : (cost : ℕ → ℕ) (layer : ℕ) → costOfLayer cost A (k layer) ≡ overK (λ l r x. ifSame l layer (costOfK cost A layer r x) 0)
+  unfolding costOfLayer kEntries
+  cost-k cost layer =
+      overSecond ks (A .transitions) (λ at g. g .transition) (costOfK cost A layer) (λ r. omega arith) layer (kCountAt C at) (at + 8) 0 noK
+
+  -- those of all layers, and of two, together
+  all-layers : (cost : ℕ → ℕ) → costOfLayer cost A (k 0) + costOfLayer cost A (k 1) + costOfLayer cost A (k 2) ≡ overK (costOfK cost A)
+  unfolding kEntries
+  all-layers cost =
+      let first = added ks _ _ (λ l r x. ifSame l 0 (costOfK cost A 0 r x) 0 + ifSame l 1 (costOfK cost A 1 r x) 0) (λ at g. refl) (kCountAt C at) (at + 8) 0 noK in
+      let all = added ks _ _ (costOfK cost A) (λ at g. one-layer (byteAt C at) (costOfK cost A 0 (twoAt C (at + 1)) (fourAt C (at + 3))) (g .layer)) (kCountAt C at) (at + 8) 0 noK in
+      ap₂ _+_ (ap₂ _+_ (cost-k cost 0) (cost-k cost 1) ∙ first) (cost-k cost 2) ∙ all
+
   leaving-first : (v : ℕ) → leaving A (k 0) v + leaving A (k 1) v ≡ overK (beforeRight A v)
   unfolding beforeRight kEntries
   leaving-first v =
@@ -230,15 +274,19 @@ module _ (A : Automaton) (C : List ℕ) (R : Pairs) (q t at : ℕ) (noK : Passes
         let two = arriving-k 2 v ∙ other-layer 2 (λ o. omega arith) (brings v) in
         omega (arith, one, two, arriving-last v, other-layer 2 (λ o. omega arith) (takes v), same {z = 0} (overW (takenAt v)) i refl)
 
-    internal : Decided plainRule A C q t at
+    internal : sumsBreak ≡ plainEquationsFault A q t (flowAt C at)
     unfolding plainEquationsFault internalEquationsFault firstBreak
     internal =
-        record {
-          is =
-              ap₂ firstOf (same-first A 20 move)
-              (sym (first-passes _ _ (break-none 20 (sidesOf (secondLeft A C q t at) (secondRight A C q t at)) (A .states) 0 (λ u l m. record { equal = no-second u })) refl refl) ∙ same-first A 21 target)
-              ∙ kind-internal A q _ _ i;
-        }
+        ap₂ firstOf (same-first A 20 move)
+        (sym (first-passes _ _ (break-none 20 (sidesOf (secondLeft A C q t at) (secondRight A C q t at)) (A .states) 0 (λ u l m. record { equal = no-second u })) refl refl) ∙ same-first A 21 target)
+        ∙ kind-internal A q _ _ i
+
+    internal-cost : (cost : ℕ → ℕ) → costLeft A C q t at cost ≡ costEquation cost A (flowAt C at) q .left
+    unfolding costLeft flowAt
+    internal-cost cost =
+        let one = cost-k cost 1 ∙ other-layer 1 (λ o. omega arith) (costOfK cost A 1) in
+        let two = cost-k cost 2 ∙ other-layer 2 (λ o. omega arith) (costOfK cost A 2) in
+        sym (omega (arith, one, two, all-layers cost, internalCost cost A (flowAt C at) q i))
 
   -- those of an external challenger
   module _ (n : A .action q ≢ 0) where
@@ -258,14 +306,51 @@ module _ (A : Automaton) (C : List ℕ) (R : Pairs) (q t at : ℕ) (noK : Passes
           right = λ v. ap₂ _+_ (leaving-k 2 v) (over-targets v ∙ notSame 0 n refl);
         }
 
-    external : Decided plainRule A C q t at
+    external : sumsBreak ≡ plainEquationsFault A q t (flowAt C at)
     unfolding plainEquationsFault externalEquationsFault
-    external = record { is = ap₂ firstOf (same-first A 20 before) (ap₂ firstOf (same-first A 20 after) (same-first A 21 target)) ∙ kind-external A q _ _ n }
+    external = ap₂ firstOf (same-first A 20 before) (ap₂ firstOf (same-first A 20 after) (same-first A 21 target)) ∙ kind-external A q _ _ n
 
--- for either kind of challenger
-pub decided : DecidesEquations plainRule
-decided A C R q t at noK noW = go (ℕ-discrete (A .action q) 0)
-  where
-    go : Dec (A .action q ≡ 0) → Decided plainRule A C q t at
-    go (yes i) = internal A C R q t at noK noW i
-    go (no n) = external A C R q t at noK noW n
+    external-cost : (cost : ℕ → ℕ) → costLeft A C q t at cost ≡ costEquation cost A (flowAt C at) q .left
+    unfolding costLeft flowAt
+    external-cost cost = sym (externalCost cost A (flowAt C at) q n ∙ all-layers cost)
+
+  -- for either kind of challenger
+  plain-decided : sumsBreak ≡ plainEquationsFault A q t (flowAt C at)
+  plain-decided = go (ℕ-discrete (A .action q) 0)
+    where
+      go : Dec (A .action q ≡ 0) → sumsBreak ≡ plainEquationsFault A q t (flowAt C at)
+      go (yes i) = internal i
+      go (no n) = external n
+
+  cost-left : (cost : ℕ → ℕ) → costLeft A C q t at cost ≡ costEquation cost A (flowAt C at) q .left
+  cost-left cost = go (ℕ-discrete (A .action q) 0)
+    where
+      go : Dec (A .action q ≡ 0) → costLeft A C q t at cost ≡ costEquation cost A (flowAt C at) q .left
+      go (yes i) = internal-cost i cost
+      go (no n) = external-cost n cost
+
+  cost-decided : (cost : ℕ → ℕ) → costBreak (costLeft A C q t at cost) (costRight A C q t at cost) ≡ costEquationFault cost A q (flowAt C at)
+  unfolding costBreak costRight costEquationFault costEquation flowAt
+  cost-decided cost = ap (λ (x : ℕ). unlessSame x (cost q * fourAt C (at + 2)) (fault 30) noFault) (cost-left cost)
+
+-- without costs the cost equation does not break
+free-passes : (A : Automaton) (q : ℕ) (f : Flow) → costEquationFault free A q f ≡ noFault
+unfolding costEquationFault
+free-passes A q f = sym (same _ (freeEquation A f q .equal) refl)
+
+-- for each step rule
+pub decided : (kind : Kind) (s : List ℕ) → DecidesEquations (ruleOf kind s) (costIn kind s)
+unfolding costEquationsFault
+decided Plain s A C R q t at noK noW =
+    let e = ap (firstOf (targetBreak A C q t at)) (cost-decided (tests-of Plain s) A C R q t at noK noW free ∙ free-passes A q (flowAt C at)) ∙ break-alone A 21 _ (omega arith) in
+    record {
+      is = ap (λ (f : Fault). firstOf (beforeBreak A C q t at) (firstOf (afterBreak A C q t at) f)) e ∙ plain-decided (tests-of Plain s) A C R q t at noK noW;
+    }
+decided Costs s A C R q t at noK noW =
+    let cost = costIn Costs s in
+    record {
+      is =
+          ap (firstOf (beforeBreak A C q t at)) (first-again (afterBreak A C q t at) (targetBreak A C q t at) _)
+          ∙ first-again (beforeBreak A C q t at) _ _
+          ∙ ap₂ firstOf (plain-decided (tests-of Costs s) A C R q t at noK noW) (cost-decided (tests-of Costs s) A C R q t at noK noW cost);
+    }

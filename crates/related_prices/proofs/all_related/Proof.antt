@@ -4,9 +4,9 @@ use mathlib.Core.Path.{_≡_}
 use native.Mathlib.Omega.{arith}
 use mir.Syntax.{w64}
 use mir.Val.{toZ}
-use Rattle.conditions.specs.HighestLaws.{Covering, cover-start, cover-turn, cover-not, cover-end}
-use Rattle.conditions.proofs.all_related.Statement.{statement}
-use Rattle.conditions.proofs.all_related.Tie as tie
+use Rattle.related_prices.specs.HighestLaws.{Covering, cover-start, cover-turn, cover-not, cover-end}
+use Rattle.related_prices.proofs.all_related.Statement.{statement}
+use Rattle.related_prices.proofs.all_related.Tie as tie
 
 abbrev Inv-loop : tie.InvT-loop
 Inv-loop rows n x g v₀ known₀ most₀ v known most = (v ≤ n) × Covering rows x g v known (toZ w64 most)

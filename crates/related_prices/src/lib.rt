@@ -1,0 +1,54 @@
+// The price condition of related states.
+ghost use Prim.Native.Nat.{_≤_, _<_};
+ghost use Rattle.rules.specs.definitions.Limits.{limits};
+ghost use Rattle.prices.specs.Prices.{SmallPrices};
+ghost use Rattle.related_prices.specs.Highest.{IsHighest, AreRelated};
+use limits::STATES;
+use pairs::Rows;
+use prices::Prices;
+
+// The highest of the prices g of the states that are related to v.
+fn highest(rows: &Rows, v: usize, g: &Prices) -> i64
+    requires { ⌜ v < limits .states ⌝ }
+    ensures { λ r. ⌜ IsHighest (now (rows .entry)) v (now (g .entry)) r ⌝ }
+{
+    let mut most = -0x8000_0000;
+    let mut u = pairs::next_related(rows, v, 0);
+    while u < STATES {
+        let price = g[u];
+        most = signed::larger(most, price);
+        u = pairs::next_related(rows, v, u + 1);
+    }
+    most
+}
+
+// The same, where that of another state is known: states with equal rows have it in common.
+fn highest_after(rows: &Rows, v: usize, known: usize, most: i64, g: &Prices) -> i64
+    requires { ⌜ (v < limits .states) × (known < limits .states) × IsHighest (now rows) known (now g) most ⌝ }
+    ensures { λ r. ⌜ IsHighest (now (rows .entry)) v (now (g .entry)) r ⌝ }
+{
+    if pairs::same_row(rows, v, known) {
+        return most;
+    }
+    highest(rows, v, g)
+}
+
+// For each related v and u, x(v) is at least g(u).
+pub fn all_related(rows: &Rows, n: usize, x: &Prices, g: &Prices) -> bool
+    requires { ⌜ (n ≤ limits .states) × SmallPrices n (now x) × SmallPrices n (now g) ⌝ }
+    ensures { λ r. ⌜ AreRelated n (now (rows .entry)) (now (x .entry)) (now (g .entry)) r ⌝ }
+{
+    let mut v = 0;
+    let mut known = 0;
+    let mut most = highest(rows, 0, g);
+    while v < n {
+        most = highest_after(rows, v, known, most, g);
+        let price = x[v];
+        if price < most {
+            return false;
+        }
+        known = v;
+        v += 1;
+    }
+    true
+}

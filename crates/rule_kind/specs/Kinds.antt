@@ -1,0 +1,59 @@
+-- The step rules that a pair can be judged by.
+use Prim.Native.Nat.{ℕ, _+_, _≤_, _<_}
+use mathlib.Core.Path.{_≡_}
+use mathlib.Core.List.{List}
+use lib.ListN.{length}
+use Rattle.rules.specs.definitions.Bytes.{byteAt}
+use Rattle.rules.specs.definitions.Reading.{statesOf, countOf}
+use Rattle.rules.specs.definitions.Certificate.{FileRule}
+use Rattle.rules.specs.definitions.JudgedBy.{JudgedBy, plainPairs}
+use Rattle.cost_files.specs.definitions.CostModel.{highestCost, costOf, transitionsEnd, costsIn}
+use Rattle.cost_files.specs.definitions.CostPairs.{costPairs}
+use Rattle.transition.specs.Known.{Known}
+use Rattle.rule_kind.specs.declared.Kind.{Kind}
+use Rattle.rule_kind.specs.declared.Kind.the-variants.{Plain, Costs}
+
+-- what the pair of a model file is judged by; the costs are those that stand in the file
+abbrev pub pairsBy : Kind → (model : List ℕ) → JudgedBy
+pairsBy Plain model = plainPairs
+pairsBy Costs model = costPairs (costsIn model)
+
+-- what the rule decides of a certificate file
+abbrev pub ruleOf : Kind → (model : List ℕ) → FileRule
+ruleOf kind model = pairsBy kind model .file
+
+-- the mark of a certificate's head, whatever the model
+abbrev pub markOf : Kind → ℕ
+markOf Plain = 0x4354
+markOf Costs = 0x4343
+
+-- how many prices stand behind those of the states
+abbrev pub furtherPrices : Kind → ℕ
+furtherPrices Plain = 0
+furtherPrices Costs = 1
+
+-- the cost of each transition, none without costs
+abbrev pub costIn : Kind → (model : List ℕ) → ℕ → ℕ
+costIn Plain model r = 0
+costIn Costs model r = costOf (costsIn model) r
+
+-- the cost record lies in the file, and no cost is above the highest
+pub record CostsThere (s : List ℕ) : Type 0 where
+  pub inside : transitionsEnd s + 2 + countOf s ≤ length s
+  pub low : (r : ℕ) → r < countOf s → byteAt s (transitionsEnd s + 2 + r) ≤ highestCost
+
+-- the model has what the rule asks of it
+abbrev pub KindStands : Kind → List ℕ → Type 0
+KindStands Plain s = Unit {0}
+KindStands Costs s = CostsThere s
+
+-- the cost of a transition of a sound model is asked for
+pub record CostAsked (kind : Kind) (s : List ℕ) (count : ℕ) (places : List ℕ) (r : ℕ) : Type 0 where
+  pub known : Known s (statesOf s) count places
+  pub stands : KindStands kind s
+  pub below : r < count
+
+-- it is the rule's
+pub record CostIs (kind : Kind) (s : List ℕ) (r cost : ℕ) : Type 0 where
+  pub is : cost ≡ costIn kind s r
+  pub low : cost ≤ highestCost

@@ -1,0 +1,64 @@
+-- Laws of the step rules by their kind.
+use Prim.Native.Nat.{ℕ, _+_, _≤_, _<_}
+use mathlib.Core.Path.{_≡_, refl, sym, _∙_, ap, subst}
+use mathlib.Core.List.{List}
+use lib.ListN.{length, getD}
+use native.Mathlib.Omega.{arith}
+use Rattle.bisimulation.specs.definitions.Automaton.{Automaton}
+use Rattle.rules.specs.definitions.Bytes.{byteAt}
+use Rattle.rules.specs.definitions.Reading.{countOf}
+use Rattle.rules.specs.definitions.PlainRule.{plainInQuestion, plainPriceCount}
+use Rattle.cost_files.specs.definitions.CostModel.{transitionsEnd}
+use Rattle.cost_files.specs.definitions.CostFile.{costPriceCount}
+use Rattle.cost_files.specs.argument.CostReadingLaws.{cost-at}
+use Rattle.transition.specs.Known.{Known}
+use Rattle.transition.specs.KnownLaws.{few-transitions}
+use Rattle.rule_kind.specs.declared.Kind.{Kind}
+use Rattle.rule_kind.specs.declared.Kind.the-variants.{Plain, Costs}
+use Rattle.rule_kind.specs.Kinds.{ruleOf, markOf, furtherPrices, costIn, KindStands, CostsThere, CostAsked, CostIs}
+
+-- the rule's mark, its price count, and its test of what is in the question
+pub mark-of : (kind : Kind) (s : List ℕ) → markOf kind ≡ ruleOf kind s .mark
+mark-of Plain s = refl
+mark-of Costs s = refl
+
+pub prices-of : (kind : Kind) (s : List ℕ) (A : Automaton) (q : ℕ) → plainPriceCount A q + furtherPrices kind ≡ ruleOf kind s .priceCount A q
+unfolding costPriceCount
+prices-of Plain s A q = omega arith
+prices-of Costs s A q = refl
+
+pub asks-of : (kind : Kind) (s : List ℕ) (A : Automaton) (q t layer r : ℕ) → ruleOf kind s .inQuestion A q t layer r ≡ plainInQuestion (A .action q) layer (A .action r)
+asks-of Plain s A q t layer r = refl
+asks-of Costs s A q t layer r = refl
+
+-- what each answer of a function by kinds is
+pub by-plain : {X : Type 0} (f : Kind → X) {kind : Kind} {x : X} → kind ≡ Plain → x ≡ f Plain → x ≡ f kind
+by-plain f e h = h ∙ ap f (sym e)
+
+pub by-costs : {X : Type 0} (f : Kind → X) {kind : Kind} {x : X} → kind ≡ Costs → x ≡ f Costs → x ≡ f kind
+by-costs f e h = h ∙ ap f (sym e)
+
+-- a rule without costs
+pub no-cost : {kind : Kind} {s : List ℕ} {r cost : ℕ} → kind ≡ Plain → cost ≡ 0 → CostIs kind s r cost
+no-cost {s = s} {r} e z = record { is = by-plain (λ (k : Kind). costIn k s r) e z; low = omega arith }
+
+-- the byte of a cost
+module _ {kind : Kind} {s places : List ℕ} {count r : ℕ} (a : CostAsked kind s count places r) (e : kind ≡ Costs) where
+  there : CostsThere s
+  there = subst (λ (k : Kind). KindStands k s) e (a .stands)
+
+  pub end-in-table : count < length places
+  end-in-table = omega (arith, a .known .size, few-transitions (a .known))
+
+  pub end-is : getD places count 0 ≡ transitionsEnd s
+  unfolding transitionsEnd
+  end-is = a .known .places .held count (omega arith) ∙ ap (λ (c : ℕ). Rattle.rules.specs.definitions.Reading.placeOf s c) (a .known .transitions)
+
+  pub cost-inside : getD places count 0 + 2 + r < length s
+  cost-inside = omega (arith, end-is, there .inside, a .below, a .known .transitions)
+
+  pub cost-is : {cost : ℕ} → cost ≡ byteAt s (getD places count 0 + 2 + r) → CostIs kind s r cost
+  cost-is {cost} h =
+      let below : r < countOf s = omega (arith, a .below, a .known .transitions) in
+      let here : cost ≡ byteAt s (transitionsEnd s + 2 + r) = h ∙ ap (λ (p : ℕ). byteAt s (p + 2 + r)) end-is in
+      record { is = by-costs (λ (k : Kind). costIn k s r) e (here ∙ sym (cost-at s r below)); low = omega (arith, here, there .low r below) }

@@ -5,7 +5,7 @@
  * changed by others during the call, and a lent buffer overlaps no input and no other lent buffer. A refusal writes no byte of any
  * lent buffer.
  *
- * Stack. zolkirta_reduce, zolkirta_judge, zolkirta_judge_costs and zolkirta_alike use at most 11,000 bytes each, zolkirta_sheet 12,400,
+ * Stack. zolkirta_reduce, zolkirta_judge, zolkirta_judge_costs and zolkirta_alike use at most 18,500 bytes each, zolkirta_sheet 24,500,
  * zolkirta_join and zolkirta_fetch 2,500 (measured, rounded up). In a dynamically linked program the loader adds some 3 KiB when it
  * binds memcpy or memset at the first call. No heap is used.
  *
@@ -19,16 +19,18 @@
 #include <stddef.h>
 #include <stdint.h>
 
-#define ZOLKIRTA_VERSION "0.6.0"
-#define ZOLKIRTA_VERSION_NUMBER 600 /* major * 10000 + minor * 100 + patch */
+#define ZOLKIRTA_VERSION "0.7.0"
+#define ZOLKIRTA_VERSION_NUMBER 700 /* major * 10000 + minor * 100 + patch */
 
 /* The most states that a model has: a block buffer of this length is always long enough. */
-#define ZOLKIRTA_STATES 64
-/* The bytes of the longest model, 8 + 64 + 7 * 256 + 3 * 1024: an output buffer of this length is always long enough for
+#define ZOLKIRTA_STATES 128
+/* The bytes of the longest model, 8 + 128 + 7 * 256 + 3 * 2048: an output buffer of this length is always long enough for
  * zolkirta_reduce and zolkirta_join, and a longer model file is always refused; a cost model's has up to 258 bytes more. */
-#define ZOLKIRTA_MODEL 4936
-/* The bytes of the longest sheet, 64 lines of 73: a sheet buffer of this length is always long enough. */
-#define ZOLKIRTA_SHEET 4672
+#define ZOLKIRTA_MODEL 8072
+/* The bytes of the longest sheet, 128 lines of 73: a sheet buffer of this length is always long enough. */
+#define ZOLKIRTA_SHEET 9344
+/* Versions before 0.7.0 have 64 states, 1,024 entries and 2,016 refutations for limits. What they accept is accepted with the same blocks;
+ * they refuse a larger sound model with 3 or 8. */
 
 #ifdef __cplusplus
 extern "C" {
@@ -45,14 +47,14 @@ enum zolkirta_number {
     ZOLKIRTA_TRANSITION = 5,            /* a source descends or is absent, an action is absent, d is 0, or a bad entry count */
     ZOLKIRTA_ENTRY = 6,                 /* an entry's state is absent or does not ascend, or its weight is 0 */
     ZOLKIRTA_SUM = 7,                   /* a transition's weights do not add up to d */
-    ZOLKIRTA_ENTRIES = 8,               /* the entries so far pass 1,024 */
+    ZOLKIRTA_ENTRIES = 8,               /* the entries so far pass 2,048 */
     ZOLKIRTA_MODEL_BYTES_LEFT = 9,      /* bytes are left after the last record */
     /* of the call, no file and no place */
     ZOLKIRTA_BLOCK_BUFFER = 10,         /* the block buffer is shorter than the state count */
     /* in the certificate, file 2 */
     ZOLKIRTA_CERTIFICATE_ENDS = 11,     /* the file ends inside a record */
     ZOLKIRTA_CERTIFICATE_MARK = 12,     /* a record has a wrong mark */
-    ZOLKIRTA_CERTIFICATE_HEAD = 13,     /* the refutation count is above 2,016 */
+    ZOLKIRTA_CERTIFICATE_HEAD = 13,     /* the refutation count is above 8,128 */
     ZOLKIRTA_REFUTED_PAIR = 14,         /* a refutation's transition or state is absent, t is s, or the pair is not related */
     ZOLKIRTA_PRICES = 15,               /* a price condition other than the last breaks */
     ZOLKIRTA_LAST_PRICES = 16,          /* the last price condition breaks */
@@ -65,7 +67,7 @@ enum zolkirta_number {
     /* of the call, no file and no place */
     ZOLKIRTA_OUTPUT_BUFFER = 23,        /* the certificate is accepted, and the buffer is shorter than the merged model's file */
     ZOLKIRTA_STATE = 24,                /* the state to fetch is not below the state count */
-    ZOLKIRTA_JOINED_MODEL = 25,         /* the joined model has more than 64 states, 256 transitions or 1,024 entries */
+    ZOLKIRTA_JOINED_MODEL = 25,         /* the joined model has more than 128 states, 256 transitions or 2,048 entries */
     ZOLKIRTA_JOINED_BUFFER = 26,        /* the buffer is shorter than the joined model's file */
     ZOLKIRTA_PARTS = 27,                /* accepted, and the first's count is above the state count or a state is not in its part */
     ZOLKIRTA_SHEET_BUFFER = 28,         /* the certificate is accepted, and the buffer is shorter than the sheet */

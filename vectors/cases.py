@@ -1,21 +1,26 @@
 #!/usr/bin/env python3
 """Writes crates/cases/data/cases and crates/cases/stdout: the cases, and what the program must print for them.
 
-C1 to C10 of document 01; the cases that it lists under 'Also run', files of the most bytes that the program reads, a pair with states
-that reach a move only by internal steps, transitions that are the same in other terms, models joined at the limits, sheets of blocks of 1,
-16, 17 and 33 states, a cost pair and what other programs say to it, and every truncation of model S, with their answers by hand; and the lines of
-base.txt, k1.txt, k3.txt, k4.txt and k6.txt with the answers that stand there, but for refusals 10, 23, 26 and 28: the program lends buffers that
-are always long enough. Merged models of base.txt, which is older than K3, lose what K3 drops.
+C1 to C10 of document 01; the cases that it lists under 'Also run', at the limits of K7 and at the older ones, files of the most bytes that the
+program reads, a pair with states that reach a move only by internal steps, refutations and blocks on either side of state 64, transitions
+that are the same in other terms, models joined at the limits, sheets of blocks of 1, 16, 17, 33 and 128 states and of 112 blocks, a cost
+pair and what other programs say to it, and every truncation of model S, with their answers by hand; and the lines of base.txt, k1.txt, k3.txt,
+k4.txt, k6.txt and k7.txt with the answers that stand there, but for refusals 10, 23, 26 and 28: the program lends buffers that are always
+long enough. Merged models of base.txt, which is older than K3, lose what K3 drops, and lines about the limits that K7 raised are left out.
+
+With the name of a folder the two files are written there, and not into crates/cases.
 """
 import os
+import sys
 from fractions import Fraction
 
 from files import FIRST, MEETS, S, S_CERTIFICATE, SECOND, STAYS, certificate, flow, model, refutation
 
 HERE = os.path.dirname(os.path.abspath(__file__))
-CRATE = os.path.join(HERE, '..', 'crates', 'cases')
+CRATE = sys.argv[1] if len(sys.argv) > 1 else os.path.join(HERE, '..', 'crates', 'cases')
 
-MODEL, CERTIFICATE = 8192, 49152  # of longer files the program would read no more
+MODEL, CERTIFICATE = 16384, 49152  # of longer files the program would read no more
+STATES, ACTIONS, TRANSITIONS, ENTRIES, REFUTATIONS = 128, 32, 256, 2048, 8128
 JUDGE, REDUCE, FETCH, JOIN, ALIKE, SHEET, JUDGE_COSTS = range(7)
 ABSENT = 0xFFFFFFFF  # a state that no model has
 
@@ -101,27 +106,65 @@ def proved_cases():
     yield refused(S, S_CERTIFICATE[:-1], 11, 2, 109)
 
 
+def still(n):
+    """A model of states without transitions."""
+    return model(n, 1, [0] * n, [])
+
+
+ONE_ENTRY = [(0, 1)]
+
+
+def full(count, n=64):
+    """Transitions with an entry for each state."""
+    return [(v, 0, n, [(u, 1) for u in range(n)]) for v in range(count)]
+
+
 def pairs_also_run():
-    one_block = certificate([], [0] * 64, [])
-    yield accepted(model(64, 1, [0] * 64, []), one_block, [0] * 64)
-    yield refused(model(65, 1, [0] * 65, []), one_block, 3, 1, 0)
+    one_block = certificate([], [0] * STATES, [])
+    for n in 64, 65, STATES:
+        yield accepted(still(n), certificate([], [0] * n, []), [0] * n)
+    yield refused(still(STATES + 1), one_block, 3, 1, 0)
     yield refused(model(0, 1, [], []), one_block, 3, 1, 0)
-    yield accepted(model(1, 1, [0], []), certificate([], [0], []), [0])
+    yield accepted(still(1), certificate([], [0], []), [0])
     yield refused(model(2, 1, [0, 0], [(0, 0, 3, [(0, 1), (1, 1)])]), one_block, 7, 1, 10)
-    whole = [(v, 1) for v in range(64)]
     each = certificate([], range(64), [])
-    full = [(v, 0, 64, whole) for v in range(16)]
-    yield accepted(model(64, 1, range(64), full), each, range(64))
-    yield refused(model(64, 1, range(64), full + [(16, 0, 1, [(0, 1)])]), each, 8, 1, 72 + 16 * 199)
+    for transitions in full(16), full(16) + [(16, 0, 1, ONE_ENTRY)], full(32):
+        yield accepted(model(64, 1, range(64), transitions), each, range(64))
+    yield refused(model(64, 1, range(64), full(32) + [(32, 0, 1, ONE_ENTRY)]), each, 8, 1, 72 + 32 * 199)
     yield refused(S.ljust(MODEL, b'\0'), S_CERTIFICATE, 9, 1, 31)
     yield refused(S, S_CERTIFICATE.ljust(CERTIFICATE, b'\0'), 22, 2, 125)
-    yield refused(S, b'CT' + (2016).to_bytes(2, 'big'), 11, 2, 4)
-    yield refused(S, b'CT' + (2017).to_bytes(2, 'big'), 13, 2, 0)
+    for count in 2016, 2017, REFUTATIONS:
+        yield refused(S, b'CT' + count.to_bytes(2, 'big'), 11, 2, 4)
+    yield refused(S, b'CT' + (REFUTATIONS + 1).to_bytes(2, 'big'), 13, 2, 0)
     lowest = -2147483648
     low_a = refutation(0, 2, (1, 1, lowest), (1, 1, 1), (1, 1, 1))
     yield accepted(S, certificate([low_a, SECOND], (0, 0, 1), [MEETS, STAYS]), (0, 0, 1))
     low_g = refutation(0, 2, (1, 1, 0), (1, 1, 1), (1, 1, lowest))
     yield refused(S, certificate([low_g, SECOND], (0, 0, 1), [MEETS, STAYS]), 16, 2, 4)
+
+
+def on_either_side_of_state_64():
+    """States 63, 64 and 127 share a label, and only 63 moves: it is refuted against the other two, which are one block."""
+    def of(first, second, third):
+        return [{63: first, 64: second, 127: third}.get(v, 0) for v in range(STATES)]
+
+    ones = [1] * STATES
+    m = model(STATES, 2, of(1, 1, 1), [(63, 1, 1, [(64, 1)])])
+    against_64, against_127 = (refutation(0, t, of(1, 0, 0), ones, ones) for t in (64, 127))
+    size = len(against_64)
+    apart = of(1, 2, 2)
+    yield accepted(m, certificate([against_64, against_127], apart, []), apart)
+    yield accepted(m, certificate([against_127, against_64], apart, []), apart)
+    yield refused(m, certificate([against_64], apart, []), 18, 2, 4 + size)
+    yield refused(m, certificate([against_127], apart, []), 18, 2, 4 + size)
+    yield refused(m, certificate([against_127, against_127], apart, []), 14, 2, 4 + size)
+    yield refused(m, certificate([against_64, against_127], of(1, 2, 3), []), 18, 2, 4 + 2 * size)
+    yield refused(m, certificate([refutation(0, 128, of(1, 0, 0), ones, ones)], apart, []), 14, 2, 4)
+    # 64 steps to itself, and 127 meets that by staying
+    loop = model(STATES, 2, of(1, 1, 1), [(63, 1, 1, [(64, 1)]), (64, 0, 1, [(64, 1)])])
+    for w, answer in ((127, 64), (0, 0, 0)), ((127, 127), (21, 2, 4 + 2 * size + 130)), ((127, 63), (19, 2, 4 + 2 * size + 130)):
+        c = certificate([against_64, against_127], apart, [flow(1, [], [(*w, 1)])])
+        yield judge(loop, c, answer, apart if answer[0] == 0 else ())
 
 
 def internal_steps():
@@ -184,19 +227,18 @@ def models_also_run():
     yield no_state(S, 3)
     yield no_state(S, 256)
     yield unsound(S + b'\0', 9, 31)
-    n64 = model(64, 1, [0] * 64, [])
-    yield run_of(n64, 63, 0, 0)
-    yield no_state(n64, 64)
-    yield unsound(model(65, 1, [0] * 65, []), 3, 0)
+    for n in 64, 65, STATES:
+        yield run_of(still(n), n - 1, 0, 0)
+        yield no_state(still(n), n)
+    yield unsound(still(STATES + 1), 3, 0)
     yield unsound(model(0, 1, [], []), 3, 0)
-    yield run_of(model(1, 1, [0], []), 0, 0, 0)
+    yield run_of(still(1), 0, 0, 0)
     yield unsound(model(2, 1, [0, 0], [(0, 0, 3, [(0, 1), (1, 1)])]), 7, 10)
-    whole = [(v, 1) for v in range(64)]
-    full = [(v, 0, 64, whole) for v in range(16)]
-    last, end = 72 + 15 * 199, 72 + 16 * 199
-    yield run_of(model(64, 1, [0] * 64, full), 15, last, end)
-    over = model(64, 1, [0] * 64, full + [(16, 0, 1, [(0, 1)])])
-    yield unsound(over, 8, end, 15)
+    for n, count in (64, 16), (64, 32), (STATES, 16):
+        end = 8 + n + count * (7 + 3 * n)
+        yield run_of(model(n, 1, [0] * n, full(count, n)), count - 1, end - 7 - 3 * n, end)
+        over = model(n, 1, [0] * n, full(count, n) + [(count, 0, 1, ONE_ENTRY)])
+        yield run_of(over, count, end, len(over)) if n * count < ENTRIES else unsound(over, 8, end, count)
     # 5 before 8, 5 in a cut file, 8 before the entries must be there, 6 before 7, a mark before the file's end
     yield unsound(over[:-5] + b'\0' + over[-4:], 5, end)
     yield unsound(model(1, 1, [0], [(0, 0, 0, [(0, 1)])])[:-3], 5, 9)
@@ -207,30 +249,32 @@ def models_also_run():
 
 
 def joined_at_the_limits():
-    def still(n):
-        return model(n, 1, [0] * n, [])
-
     def loops(count):
-        return model(1, 1, [0], [(0, 0, 1, [(0, 1)])] * count)
+        return model(1, 1, [0], [(0, 0, 1, ONE_ENTRY)] * count)
 
-    def wide(transitions, n=32):
+    def wide(transitions, n=64):
         return model(n, 1, [0] * n, transitions)
 
-    yield join(still(63), still(1), (0, 0, 0), still(64))
-    yield join(still(64), still(1), (25, 0, 0))
-    both = model(2, 1, [0, 0], [(0, 0, 1, [(0, 1)])] * 128 + [(1, 0, 1, [(1, 1)])] * 128)
+    def raised(transitions, by=64):
+        return [(v + by, action, d, [(u + by, p) for u, p in entries]) for v, action, d, entries in transitions]
+
+    for n in 63, 64, 127:
+        yield join(still(n), still(1), (0, 0, 0), still(n + 1))
+    yield join(still(64), still(64), (0, 0, 0), still(STATES))
+    yield join(still(STATES), still(1), (25, 0, 0))
+    yield join(still(1), still(STATES), (25, 0, 0))
+    both = model(2, 1, [0, 0], [(0, 0, 1, ONE_ENTRY)] * 128 + [(1, 0, 1, [(1, 1)])] * 128)
     yield join(loops(128), loops(128), (0, 0, 0), both)
     yield join(loops(128), loops(129), (25, 0, 0))
-    # 16 transitions with 32 entries each are 512 entries
-    full = [(v, 0, 32, [(u, 1) for u in range(32)]) for v in range(16)]
-    raised = [(v + 32, 0, 32, [(u + 32, 1) for u in range(32)]) for v in range(16)]
-    yield join(wide(full), wide(full), (0, 0, 0), wide(full + raised, 64))
-    yield join(wide(full), wide(full + [(16, 0, 1, [(0, 1)])]), (25, 0, 0))
+    # 16 transitions with 64 entries each are 1,024 entries
+    yield join(wide(full(16)), wide(full(16)), (0, 0, 0), wide(full(16) + raised(full(16)), STATES))
+    yield join(wide(full(16)), wide(full(16) + [(16, 0, 1, ONE_ENTRY)]), (25, 0, 0))
+    yield join(wide(full(16)), wide([(0, 0, 1, ONE_ENTRY)]), (0, 0, 0), wide(full(16) + [(64, 0, 1, [(64, 1)])], STATES))
 
 
 def sheets():
-    """Models without transitions, in which the labels are the blocks: of 16, 17 and 1 states, and of 33."""
-    def still(blocks):
+    """Models without transitions, in which the labels are the blocks: of 16, 17 and 1 states, of 33, of 128 and of 64; and 112 blocks."""
+    def labelled(blocks):
         return model(len(blocks), 1, blocks, []), certificate([], blocks, [])
 
     def lines(*rows):
@@ -239,11 +283,21 @@ def sheets():
     def numbers(*states):
         return ''.join('%4d' % v for v in states)
 
-    yield sheet(*still([0] * 16 + [1] * 17 + [2]), (0, 0, 0), lines(
+    yield sheet(*labelled([0] * 16 + [1] * 17 + [2]), (0, 0, 0), lines(
         '   0  16' + numbers(*range(16)), '   1  17' + numbers(*range(16, 32)), '        ' + numbers(32), '   2   1' + numbers(33)))
-    yield sheet(*still([0, 1] * 31 + [1, 1]), (0, 0, 0), lines(
+    yield sheet(*labelled([0, 1] * 31 + [1, 1]), (0, 0, 0), lines(
         '   0  31' + numbers(*range(0, 32, 2)), '        ' + numbers(*range(32, 62, 2)),
         '   1  33' + numbers(*range(1, 33, 2)), '        ' + numbers(*range(33, 62, 2), 62), '        ' + numbers(63)))
+    yield sheet(*labelled([0] * STATES), (0, 0, 0), lines(
+        '   0 128' + numbers(*range(16)), *('        ' + numbers(*range(v, v + 16)) for v in range(16, STATES, 16))))
+    yield sheet(*labelled([0, 1] * 64), (0, 0, 0), lines(*(
+        (' ' * 8 if v > 31 else '   %d  64' % (v % 2)) + numbers(*range(v, v + 32, 2)) for first in (0, 1) for v in range(first, STATES, 32))))
+    # Of states 0 to 47 each steps to 63, and those from 64 on, which have their labels, do not.
+    stepping = model(112, 1, [v % 64 for v in range(112)], [(v, 0, 1, [(63, 1)]) for v in range(48)])
+    reach = [int(v < 48 or v == 63) for v in range(112)]
+    only_63 = [int(v == 63) for v in range(112)]
+    apart = certificate([refutation(v, v + 64, reach, only_63) for v in range(48)], range(112), [])
+    yield sheet(stepping, apart, (0, 0, 0), lines(*('%4d   1%4d' % (v, v) for v in range(112))))
     yield sheet(S, S_CERTIFICATE, (0, 0, 0), lines('   0   2   0   1', '   1   1   2'))
     yield sheet(S, S_CERTIFICATE[:-1], (11, 2, 109))
 
@@ -273,28 +327,67 @@ def costs():
     yield join(S, m, (9, 3, 41))
 
 
-def request_lines(name):
+def two(file, at):
+    return int.from_bytes(file[at:at + 2], 'big')
+
+
+def entries_before(m, end):
+    """How many entries the transitions have that begin before a place."""
+    at, count = 8 + m[2], 0
+    while at < end:
+        count, at = count + m[at + 6], at + 7 + 3 * m[at + 6]
+    return count
+
+
+def about_the_limits(first, second, answer):
+    """Whether a line from before K7 is about the limits that K7 raised: 3, 8, 13 or 25 refuses it, and what that number counts keeps today's."""
+    number, file, place = answer
+    m = second if file == 3 else first
+    if number == 3:
+        return 1 <= m[2] <= STATES and 1 <= m[3] <= ACTIONS and two(m, 4) <= TRANSITIONS
+    if number == 8:
+        return entries_before(m, place + 1) <= ENTRIES
+    if number == 13:
+        return two(second, 2) <= REFUTATIONS
+    if number == 25:
+        sizes = [(m[2], two(m, 4), entries_before(m, len(m))) for m in (first, second)]
+        return all(one + other <= most for one, other, most in zip(*sizes, (STATES, TRANSITIONS, ENTRIES)))
+    return False
+
+
+def lines(name):
+    """The call, arguments, files, answer, run or stretch, yes and bytes written of each line that the programs can answer."""
+    about = 0
     for line in open(os.path.join(HERE, name)):
-        call, arguments, files, *numbers, outs = line.split()
-        first, second = (b'' if x == '-' else bytes.fromhex(x) for x in files.split(','))
-        number, file, place, stretch, run, state, remainder, yes = map(int, numbers)
-        out = b'' if outs == '-' else bytes.fromhex(outs)
-        yield call, tuple(map(int, arguments.split(','))), first, second, (number, file, place), yes, out
+        call, arguments, *rest = line.split()
+        files, numbers, outs = (rest[:2], rest[2:7], rest[7:]) if name == 'base.txt' else (rest[0].split(','), rest[1:9], rest[9:])
+        first, second, out = (b'' if x == '-' else bytes.fromhex(x) for x in [*files, '-'][:2] + outs)
+        number, file, place, stretch, run, *told = map(int, numbers)
+        if name != 'k7.txt' and about_the_limits(first, second, (number, file, place)):
+            about += 1
+        elif number not in (10, 23, 26, 28):
+            start = run if number == 0 else place
+            part = (second if file > 1 else first)[start:start + stretch]
+            assert len(part) == stretch
+            yield call, tuple(map(int, arguments.split(','))), first, second, (number, file, place), part, told[-1:] == [1], out
+    # as many as tests/vectors.rs of hosts/rust finds
+    assert about == {'base.txt': 46, 'k1.txt': 10, 'k3.txt': 9, 'k6.txt': 18}.get(name, 0)
+
+
+def case_of(call, arguments, first, second, answer, part, yes, out):
+    if call == 'fetch':
+        return fetch(first, *arguments, answer, part)
+    if call == 'alike':
+        return alike(first, second, arguments, answer, yes)
+    if call == 'sheet':
+        return sheet(first, second, answer, out.decode('ascii'))
+    return {'judge': judge, 'judge_costs': judge_costs, 'reduce': reduce, 'join': join}[call](first, second, answer, out)
 
 
 def from_requests():
-    lines = (line for name in ('k1.txt', 'k3.txt', 'k4.txt', 'k6.txt') for line in request_lines(name))
-    for call, arguments, first, second, answer, yes, out in lines:
-        if call == 'join' and answer[0] != 26:
-            yield join(first, second, answer, out)
-        if call == 'alike':
-            yield alike(first, second, arguments, answer, yes == 1)
-        if call == 'reduce' and answer[0] != 23:
-            yield reduce(first, second, answer, out)
-        if call == 'sheet' and answer[0] != 28:
-            yield sheet(first, second, answer, out.decode('ascii'))
-        if call == 'judge_costs' and answer[0] != 10:
-            yield judge_costs(first, second, answer, out)
+    for name in 'k1.txt', 'k3.txt', 'k4.txt', 'k6.txt', 'k7.txt':
+        for line in lines(name):
+            yield case_of(*line)
 
 
 def as_fractions(merged):
@@ -310,30 +403,21 @@ def as_fractions(merged):
 
 
 def from_vectors():
-    for line in open(os.path.join(HERE, 'base.txt')):
-        call, argument, m, c, *numbers, out = line.split()
-        m, c, out = (b'' if x == '-' else bytes.fromhex(x) for x in (m, c, out))
-        number, file, place, stretch, run = map(int, numbers)
-        answer = number, file, place
-        if call == 'fetch':
-            start = run if number == 0 else place
-            assert start + stretch <= len(m)
-            yield fetch(m, int(argument), answer, m[start:start + stretch])
-            continue
-        if call == 'judge' and number != 10:
-            yield judge(m, c, answer, out)
-        if call == 'reduce' and number != 23:
-            yield reduce(m, c, answer, as_fractions(out) if number == 0 else out)
-        # and its model by itself
-        yield unsound(m, number, place) if file == 1 else no_state(m, ABSENT)
+    for call, arguments, m, c, answer, part, yes, out in lines('base.txt'):
+        merged = as_fractions(out) if call == 'reduce' and answer[0] == 0 else out
+        yield case_of(call, arguments, m, c, answer, part, yes, merged)
+        if call != 'fetch':
+            # and its model by itself
+            number, file, place = answer
+            yield unsound(m, number, place) if file == 1 else no_state(m, ABSENT)
 
 
 def all_cases():
     """Each case once: where two sources have one case, they must agree."""
     found = {}
     by_hand = (
-        proved_cases(), pairs_also_run(), internal_steps(), halves_and_quarters(), models_also_run(), truncations(), joined_at_the_limits(), sheets(),
-        costs())
+        proved_cases(), pairs_also_run(), internal_steps(), on_either_side_of_state_64(), halves_and_quarters(), models_also_run(), truncations(),
+        joined_at_the_limits(), sheets(), costs())
     for source in (*by_hand, from_vectors(), from_requests()):
         for data, text in source:
             assert found.setdefault(data, text) == text

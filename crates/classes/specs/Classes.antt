@@ -9,17 +9,17 @@ use Rattle.bisimulation.specs.definitions.Choice.{allBelow}
 use Rattle.bisimulation.specs.definitions.Pairs.{Pairs}
 use Rattle.rules.specs.definitions.Certificate.{agree, sameBlock}
 use Rattle.rules.specs.definitions.Limits.{limits}
-use Rattle.row.specs.Bits.{bitOf}
-use Rattle.pairs.specs.Rows.{HoldsPairs}
+use Rattle.limits.specs.Sizes.{rowWords}
+use Rattle.pairs.specs.Rows.{rowBit, HoldsPairs}
 
 -- the pairs of equal labels, the labels in a list
 unfoldable pub sameLabels : List ℕ → Pairs
 sameLabels labels v u = eqb (getD labels v 0) (getD labels u 0)
 
 -- the row of a state with this byte, for the first n states: bit u says that state u has the byte
-pub record IsRow (bytes : List ℕ) (byte n row : ℕ) : Type 0 where
-  pub bits : (u : ℕ) → u < n → bitOf row u ≡ eqb byte (getD bytes u 0)
-  pub rest : (u : ℕ) → n ≤ u → bitOf row u ≡ false
+pub record IsRow (bytes : List ℕ) (byte n : ℕ) (row : ℕ → Bool) : Type 0 where
+  pub bits : (u : ℕ) → u < n → row u ≡ eqb byte (getD bytes u 0)
+  pub rest : (u : ℕ) → n ≤ u → row u ≡ false
 
 -- the bytes of n states are numbers of rows
 pub record SmallBytes (n : ℕ) (bytes : List ℕ) : Type 0 where
@@ -27,8 +27,8 @@ pub record SmallBytes (n : ℕ) (bytes : List ℕ) : Type 0 where
 
 -- row b is that of a state with byte b
 pub record AreClasses (bytes : List ℕ) (n : ℕ) (rows : List ℕ) : Type 0 where
-  pub whole : length rows ≡ limits .states
-  pub row : (b : ℕ) → b < limits .states → IsRow bytes b n (getD rows b 0)
+  pub whole : length rows ≡ rowWords
+  pub row : (b : ℕ) → b < limits .states → IsRow bytes b n (rowBit rows b)
 
 -- two of n states share a block exactly when they are related
 abbrev pub sharedAsRelated : ℕ → List ℕ → Pairs → Bool

@@ -3,9 +3,9 @@ ghost use Prim.Native.Nat.{_≤_, _<_};
 ghost use lib.ListN.{length, getD};
 ghost use mathlib.Core.Path.{_≡_};
 ghost use Rattle.rules.specs.definitions.Limits.{limits};
+ghost use Rattle.limits.specs.Sizes.{rowWords};
 ghost use Rattle.pairs.specs.Rows.{HoldsPairs};
 ghost use Rattle.classes.specs.Classes.{sameLabels, SmallBytes, AreClasses, Agrees};
-use limits::STATES;
 use pairs::Rows;
 
 // The byte of a state, as the number of a row.
@@ -21,11 +21,11 @@ fn classes(bytes: &[u8], n: usize) -> Rows
     requires { ⌜ (n ≤ limits .states) × (n ≤ length (now bytes)) × SmallBytes n (now bytes) ⌝ }
     ensures { λ r. ⌜ AreClasses (now (bytes .entry)) n r ⌝ }
 {
-    let mut rows = [0; STATES];
+    let mut rows = pairs::no_rows();
     let mut u = 0;
     while u < n {
         let byte = byte_of(bytes, n, u);
-        rows[byte] = row::with(rows[byte], u);
+        pairs::relate(&mut rows, byte, u);
         u += 1;
     }
     rows
@@ -33,13 +33,14 @@ fn classes(bytes: &[u8], n: usize) -> Rows
 
 // Relates every pair of the n states with equal labels.
 pub fn start(labels: &[u8], n: usize, rows: &mut Rows)
-    requires { ⌜ (n ≤ limits .states) × (n ≤ length (now labels)) × SmallBytes n (now labels) × (length (now rows) ≡ limits .states) ⌝ }
+    requires { ⌜ (n ≤ limits .states) × (n ≤ length (now labels)) × SmallBytes n (now labels) × (length (now rows) ≡ rowWords) ⌝ }
     ensures { λ r. ⌜ HoldsPairs n (sameLabels (now (labels .entry))) (now (rows .exit)) ⌝ }
 {
     let members = classes(labels, n);
     let mut v = 0;
     while v < n {
-        rows[v] = members[byte_of(labels, n, v)];
+        let byte = byte_of(labels, n, v);
+        pairs::copy_row(rows, v, &members, byte);
         v += 1;
     }
 }
@@ -52,7 +53,7 @@ pub fn agrees(blocks: &[u8], n: usize, rows: &Rows) -> bool
     let members = classes(blocks, n);
     let mut v = 0;
     while v < n {
-        if !row::same(rows[v], members[byte_of(blocks, n, v)]) {
+        if !pairs::same_in(rows, v, &members, byte_of(blocks, n, v)) {
             return false;
         }
         v += 1;

@@ -39,7 +39,7 @@ unfoldable pub still : ℕ → List ℕ
 still n = modelBytes (record { actions = 1; labels = replicate n 0; transitions = [] })
 
 abbrev few : (transitions entries : ℕ) → Limits
-few transitions entries = record { states = 64; actions = 32; transitions = transitions; entries = entries; refutations = 2016; label = 63 }
+few transitions entries = record { states = 128; actions = 32; transitions = transitions; entries = entries; refutations = 8128; label = 63 }
 
 unfoldable pub joinCases : List JoinCase
 joinCases =
@@ -52,9 +52,9 @@ joinCases =
     ∷ record { within = limits; first = take 19 firstFile; second = take 22 secondFile; before = 7 ∷ []; expected = outcomeOf 1 1 10 10 9 0 (7 ∷ []) }
     -- the second alone: file 3, with place and stretch in it
     ∷ record { within = limits; first = firstFile; second = take 22 secondFile; before = 7 ∷ []; expected = outcomeOf 1 3 10 10 12 0 (7 ∷ []) }
-    -- 64 states and 1 more, and no buffer: 25 comes before 26; 63 and 1 are 26
-    ∷ record { within = limits; first = still 64; second = still 1; before = []; expected = outcomeOf 25 0 0 0 0 0 [] }
-    ∷ record { within = limits; first = still 63; second = still 1; before = []; expected = outcomeOf 26 0 0 0 0 0 [] }
+    -- 128 states and 1 more, and no buffer: 25 comes before 26; 127 and 1 are 26
+    ∷ record { within = limits; first = still 128; second = still 1; before = []; expected = outcomeOf 25 0 0 0 0 0 [] }
+    ∷ record { within = limits; first = still 127; second = still 1; before = []; expected = outcomeOf 26 0 0 0 0 0 [] }
     -- two transitions and three entries, at their limits and past them
     ∷ record { within = few 2 3; first = firstFile; second = secondFile; before = []; expected = outcomeOf 26 0 0 0 0 0 [] }
     ∷ record { within = few 1 3; first = firstFile; second = secondFile; before = []; expected = outcomeOf 25 0 0 0 0 0 [] }

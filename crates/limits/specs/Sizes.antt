@@ -10,6 +10,10 @@ places = limits .transitions + 1
 abbrev pub remainders : ℕ
 remainders = 2 * limits .states
 
+-- the words of the related pairs: two for the row of each state
+abbrev pub rowWords : ℕ
+rowWords = 2 * limits .states
+
 -- the bytes of the transition records of a sound model, at most
 abbrev pub records : ℕ
 records = 7 * limits .transitions + 3 * limits .entries

@@ -1,13 +1,13 @@
-// The limits of document 01, and the sizes of tables that follow from them.
-pub const STATES: usize = 64;
+// The limits since document 02, K7, and the sizes of tables that follow from them.
+pub const STATES: usize = 128;
 
 pub const ACTIONS: usize = 32;
 
 pub const TRANSITIONS: usize = 256;
 
-pub const ENTRIES: usize = 1024;
+pub const ENTRIES: usize = 2048;
 
-pub const REFUTATIONS: usize = 2016;
+pub const REFUTATIONS: usize = 8128;
 
 pub const LABEL: usize = 63;
 
@@ -19,6 +19,9 @@ pub const PLACES: usize = TRANSITIONS + 1;
 
 // A remainder for each state before a flow's move, and one after it.
 pub const REMAINDERS: usize = 2 * STATES;
+
+// The words of the related pairs: two for the row of each state.
+pub const ROW_WORDS: usize = 2 * STATES;
 
 // The bytes of the transition records of a sound model, at most.
 pub const RECORDS: usize = 7 * TRANSITIONS + 3 * ENTRIES;

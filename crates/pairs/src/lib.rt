@@ -1,21 +1,56 @@
-// The related pairs, as a row of one bit for each state.
-ghost use Prim.Native.Nat.{_≤_, _<_};
-ghost use lib.ListN.{length};
+// The related pairs, as a row of one bit for each state. Nothing outside this crate knows the words of a row.
+ghost use Prim.Native.Nat.{_+_, _*_, _≤_, _<_};
+ghost use lib.ListN.{getD};
 ghost use mathlib.Core.Path.{_≡_};
 ghost use Rattle.bisimulation.specs.definitions.Choice.{countBelow};
 ghost use Rattle.rules.specs.definitions.Limits.{limits};
-ghost use Rattle.row.specs.Bits.{rowBits};
-ghost use Rattle.pairs.specs.Rows.{rowBit, removedRows, IsNext, AreAlike};
+ghost use Rattle.limits.specs.Sizes.{rowWords};
+ghost use Rattle.word.specs.Bits.{wordBits, AreSame};
+ghost use Rattle.pairs.specs.Rows.{rowBits, wordOf, bitIn, rowBit, NoRows, clearedRows, removedRows, relatedRows, copiedRows, IsNext, AreAlike};
+use limits::ROW_WORDS;
 use limits::STATES;
-use row::Row;
+use word::BITS;
+use word::Word;
 
-pub type Rows = [Row; STATES];
+pub type Rows = [Word; ROW_WORDS];
 
-// Rows that hold nothing yet, for `classes::start`.
+// Rows that hold nothing yet.
 pub fn no_rows() -> Rows
-    ensures { λ r. ⌜ length r ≡ limits .states ⌝ }
+    ensures { λ r. ⌜ NoRows r ⌝ }
 {
-    [0; STATES]
+    [0; ROW_WORDS]
+}
+
+// The word with the bit of (v,u).
+fn word_of(v: usize, u: usize) -> usize
+    requires { ⌜ (v < limits .states) × (u < limits .states) ⌝ }
+    ensures { λ r. ⌜ (r ≡ wordOf v u) × (r < rowWords) ⌝ }
+{
+    2 * v + u / BITS
+}
+
+// Where the bit of u stands in its word.
+fn bit_in(u: usize) -> usize
+    requires { ⌜ u < limits .states ⌝ }
+    ensures { λ r. ⌜ (r ≡ bitIn u) × (r < wordBits) ⌝ }
+{
+    u % BITS
+}
+
+// The first word of row v, and the second.
+fn first_word(rows: &Rows, v: usize) -> Word
+    requires { ⌜ v < limits .states ⌝ }
+    ensures { λ r. ⌜ r ≡ getD (now (rows .entry)) (2 * v) 0 ⌝ }
+{
+    rows[2 * v]
+}
+
+fn second_word(rows: &Rows, v: usize) -> Word
+    requires { ⌜ v < limits .states ⌝ }
+    ensures { λ r. ⌜ r ≡ getD (now (rows .entry)) (2 * v + 1) 0 ⌝ }
+{
+    let second = 2 * v + 1;
+    rows[second]
 }
 
 // The pair (v,u) is related.
@@ -23,7 +58,15 @@ pub fn related(rows: &Rows, v: usize, u: usize) -> bool
     requires { ⌜ (v < limits .states) × (u < limits .states) ⌝ }
     ensures { λ r. ⌜ r ≡ rowBit (now (rows .entry)) v u ⌝ }
 {
-    row::has(rows[v], u)
+    word::has(rows[word_of(v, u)], bit_in(u))
+}
+
+// The first state from u on that is related to v, where u has its bit in the second word.
+fn next_in_second(rows: &Rows, v: usize, u: usize) -> usize
+    requires { ⌜ (v < limits .states) × (wordBits ≤ u) × (u < limits .states) ⌝ }
+    ensures { λ r. ⌜ IsNext (rowBit (now (rows .entry)) v) u r ⌝ }
+{
+    BITS + word::next_bit(second_word(rows, v), u - BITS)
 }
 
 // The first state from u on that is related to v, no number below STATES where there is none.
@@ -34,7 +77,14 @@ pub fn next_related(rows: &Rows, v: usize, u: usize) -> usize
     if STATES <= u {
         return u;
     }
-    row::next_bit(rows[v], u)
+    if BITS <= u {
+        return next_in_second(rows, v, u);
+    }
+    let first = word::next_bit(first_word(rows, v), u);
+    if first < BITS {
+        return first;
+    }
+    next_in_second(rows, v, BITS)
 }
 
 // How many states are related to v.
@@ -42,7 +92,18 @@ pub fn count_related(rows: &Rows, v: usize) -> usize
     requires { ⌜ v < limits .states ⌝ }
     ensures { λ r. ⌜ r ≡ countBelow rowBits (rowBit (now (rows .entry)) v) ⌝ }
 {
-    row::ones(rows[v])
+    word::ones(first_word(rows, v)) + word::ones(second_word(rows, v))
+}
+
+// Row v of a and row u of b have the same bits.
+pub fn same_in(a: &Rows, v: usize, b: &Rows, u: usize) -> bool
+    requires { ⌜ (v < limits .states) × (u < limits .states) ⌝ }
+    ensures { λ r. ⌜ AreSame rowBits (rowBit (now (a .entry)) v) (rowBit (now (b .entry)) u) r ⌝ }
+{
+    if !word::same(first_word(a, v), first_word(b, u)) {
+        return false;
+    }
+    word::same(second_word(a, v), second_word(b, u))
 }
 
 // v and u are related to the same states, where it is true.
@@ -50,7 +111,16 @@ pub fn same_row(rows: &Rows, v: usize, u: usize) -> bool
     requires { ⌜ (v < limits .states) × (u < limits .states) ⌝ }
     ensures { λ r. ⌜ AreAlike (now (rows .entry)) v u r ⌝ }
 {
-    row::same(rows[v], rows[u])
+    same_in(rows, v, rows, u)
+}
+
+// Clears the bit of (v,u).
+fn clear(rows: &mut Rows, v: usize, u: usize)
+    requires { ⌜ (v < limits .states) × (u < limits .states) ⌝ }
+    ensures { λ r. ⌜ now (rows .exit) ≡ clearedRows v u (now (rows .entry)) ⌝ }
+{
+    let cleared = word_of(v, u);
+    rows[cleared] = word::without(rows[cleared], bit_in(u));
 }
 
 // Removes (s,t) and (t,s).
@@ -58,6 +128,24 @@ pub fn remove(rows: &mut Rows, s: usize, t: usize)
     requires { ⌜ (s < limits .states) × (t < limits .states) ⌝ }
     ensures { λ r. ⌜ now (rows .exit) ≡ removedRows s t (now (rows .entry)) ⌝ }
 {
-    rows[t] = row::without(rows[t], s);
-    rows[s] = row::without(rows[s], t);
+    clear(rows, t, s);
+    clear(rows, s, t);
+}
+
+// Sets the bit of (v,u).
+pub fn relate(rows: &mut Rows, v: usize, u: usize)
+    requires { ⌜ (v < limits .states) × (u < limits .states) ⌝ }
+    ensures { λ r. ⌜ now (rows .exit) ≡ relatedRows v u (now (rows .entry)) ⌝ }
+{
+    let set = word_of(v, u);
+    rows[set] = word::with(rows[set], bit_in(u));
+}
+
+// Makes row v that of row u of the other rows.
+pub fn copy_row(rows: &mut Rows, v: usize, from: &Rows, u: usize)
+    requires { ⌜ (v < limits .states) × (u < limits .states) ⌝ }
+    ensures { λ r. ⌜ now (rows .exit) ≡ copiedRows (now (from .entry)) u v (now (rows .entry)) ⌝ }
+{
+    rows[2 * v] = first_word(from, u);
+    rows[2 * v + 1] = second_word(from, u);
 }

@@ -4,8 +4,8 @@ ghost use Prim.Native.Nat.{_<_};
 ghost use Rattle.io.specs.Counts.{Counts};
 use libc::STDOUT_FILENO;
 
-// Of the model file the first 8,192 bytes are read; of the certificate file up to 49,152.
-const MODEL: usize = 8192;
+// Of the model file the first 16,384 bytes are read, more than any model has; of the certificate file up to 49,152.
+const MODEL: usize = 16384;
 
 const CERTIFICATE: usize = 49152;
 
@@ -358,7 +358,7 @@ pub fn fetch_stream(pa: i32, pa_bytes: usize, state: u32) {
     answer_streams(Asked::Fetch { state }, pa, pa_bytes, -1, 0);
 }
 
-// Joins two models of one open file likewise, and keeps no joined.bin. Of each the first 8,192 bytes are read.
+// Joins two models of one open file likewise, and keeps no joined.bin. Of each the first 16,384 bytes are read.
 pub fn join_streams(a: i32, a_bytes: usize, b: i32, b_bytes: usize) {
     write_streams(Output::Joined, a, a_bytes, b, b_bytes);
 }

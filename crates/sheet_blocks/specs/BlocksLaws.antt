@@ -15,8 +15,7 @@ use Rattle.rules.specs.definitions.Certificate.{sameBlock}
 use Rattle.rules.specs.definitions.Quotient.{blockCount}
 use Rattle.rules.specs.argument.LargestBlocks.{Numbered}
 use Rattle.rules.specs.argument.QuotientLaws.{block-below, each-block, count-most}
-use Rattle.row.specs.Bits.{rowBits}
-use Rattle.pairs.specs.Rows.{rowBit}
+use Rattle.pairs.specs.Rows.{rowBits, rowBit}
 use Rattle.pairs.specs.RowsLaws.{count-held}
 use Rattle.classes.specs.Classes.{sameLabels, SmallBytes}
 use Rattle.block_sheet.specs.Sheet.{cell, lines, lineCount, ascending, members, blockLines, sheetFrom}

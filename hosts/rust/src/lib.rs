@@ -30,13 +30,13 @@ use std::fmt;
 pub mod raw;
 
 /// The most states that a model has. A block buffer of this length is always long enough.
-pub const STATES: usize = 64;
+pub const STATES: usize = 128;
 
 /// The bytes of the longest model. An output buffer of this length is always long enough for [`reduce`] and [`join`].
-pub const MODEL: usize = 4936;
+pub const MODEL: usize = 8072;
 
 /// The bytes of the longest sheet. A sheet buffer of this length is always long enough.
-pub const SHEET: usize = 4672;
+pub const SHEET: usize = 9344;
 
 /// A file that was handed to a call.
 #[derive(Clone, Copy, Debug, PartialEq, Eq, Hash)]
@@ -139,12 +139,12 @@ const MEANINGS: [&str; 31] = [
     "a source descends or is absent, an action is absent, d is 0, or a bad entry count",
     "an entry's state is absent or does not ascend, or its weight is 0",
     "a transition's weights do not add up to d",
-    "the entries so far pass 1,024",
+    "the entries so far pass 2,048",
     "bytes are left after the last record",
     "the block buffer is shorter than the state count",
     "the file ends inside a record",
     "a record has a wrong mark",
-    "the refutation count is above 2,016",
+    "the refutation count is above 8,128",
     "a refutation's transition or state is absent, t is s, or the pair is not related",
     "a price condition other than the last breaks",
     "the last price condition breaks",
@@ -156,7 +156,7 @@ const MEANINGS: [&str; 31] = [
     "bytes are left after the last flow",
     "the certificate is accepted, and the buffer is shorter than the merged model's file",
     "the state to fetch is not below the state count",
-    "the joined model has more than 64 states, 256 transitions or 1,024 entries",
+    "the joined model has more than 128 states, 256 transitions or 2,048 entries",
     "the buffer is shorter than the joined model's file",
     "accepted, and the first's count is above the state count or a state is not in its part",
     "the certificate is accepted, and the buffer is shorter than the sheet",

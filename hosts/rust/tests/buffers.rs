@@ -3,12 +3,12 @@ mod compare;
 mod maker;
 mod plain;
 
-use compare::{accepted, accepted_costs, alike, fetch, join, judge, judge_costs, reduce, requests, sheet, vectors, Counts, Lent};
-use maker::families::{bytes, filled, flow_heavy, largest, refutation_heavy};
+use compare::{accepted, accepted_costs, alike, fetch, join, judge, judge_costs, lines, reduce, sheet, Counts};
+use maker::families::{bytes, flow_heavy, half, largest, refutation_heavy, still};
 use plain::Answer;
 use std::ptr::{null, null_mut};
 use zolkirta::raw::{zolkirta_alike, zolkirta_fetch, zolkirta_join, zolkirta_judge, zolkirta_judge_costs, zolkirta_reduce, zolkirta_sheet, Lending};
-use zolkirta::{MODEL, SHEET};
+use zolkirta::{MODEL, SHEET, STATES};
 
 /// Makes a call with buffers from none to one byte longer than what it writes, and with these: a shorter one is refused with a number.
 fn every_length(call: impl Fn(usize) -> (Answer, Vec<u8>), shorter: u32, more: &[usize]) {
@@ -24,17 +24,17 @@ fn every_length(call: impl Fn(usize) -> (Answer, Vec<u8>), shorter: u32, more: &
 fn buffers_of_every_length() {
     let pairs = accepted();
     for (model, certificate) in &pairs {
-        assert_eq!(judge(model, certificate, 64).1.len(), usize::from(model[2]));
-        every_length(|length| judge(model, certificate, length), 10, &[64, 65, 255, 256, 257]);
+        assert_eq!(judge(model, certificate, STATES).1.len(), usize::from(model[2]));
+        every_length(|length| judge(model, certificate, length), 10, &[STATES, STATES + 1, 255, 256, 257]);
         every_length(|length| reduce(model, certificate, length), 23, &[model.len() + 1]);
         every_length(|length| sheet(model, certificate, length), 28, &[SHEET, SHEET + 1]);
     }
     for (model, certificate) in &accepted_costs() {
-        assert_eq!(judge_costs(model, certificate, 64).1.len(), usize::from(model[2]));
-        every_length(|length| judge_costs(model, certificate, length), 10, &[64, 65, 255, 256, 257]);
+        assert_eq!(judge_costs(model, certificate, STATES).1.len(), usize::from(model[2]));
+        every_length(|length| judge_costs(model, certificate, length), 10, &[STATES, STATES + 1, 255, 256, 257]);
     }
-    let half = filled(32).0.bytes();
-    let small = || pairs.iter().map(|(model, _)| model).filter(|model| model[2] <= 32 && model.len() < 1000);
+    let half = half().0.bytes();
+    let small = || pairs.iter().map(|(model, _)| model).filter(|model| model[2] <= 64 && model.len() < 1000);
     for (first, second) in small().zip(small().rev()).chain([(&half, &half)]) {
         assert_eq!(join(first, second, MODEL).1.len(), first.len() + second.len() - 8); // one head and one mark of labels less
         every_length(|length| join(first, second, length), 26, &[MODEL, MODEL + 1]);
@@ -44,30 +44,32 @@ fn buffers_of_every_length() {
 #[test]
 fn a_refusal_writes_nothing_whatever_the_length() {
     let mut refused = 0;
-    for v in vectors().into_iter().filter(|v| v.call != "fetch" && v.answer.file != 0) {
-        for length in 0..=66 {
-            judge(&v.model, &v.certificate, length);
-            assert_eq!(reduce(&v.model, &v.certificate, length).0.number, v.answer.number);
-            assert_eq!(sheet(&v.model, &v.certificate, length).0.number, v.answer.number);
+    let all = lines();
+    let said = |calls: &'static [&str], file: u32| all.iter().filter(move |v| calls.contains(&v.call.as_str()) && v.said.0.file >= file);
+    for v in said(&["judge", "reduce"], 1).filter(|v| matches!(v.name, "base" | "k7")) {
+        for length in (0..=66).chain(126..=130) {
+            judge(&v.files[0], &v.files[1], length);
+            assert_eq!(reduce(&v.files[0], &v.files[1], length).0.number, v.number());
+            assert_eq!(sheet(&v.files[0], &v.files[1], length).0.number, v.number());
             refused += 1;
         }
     }
     assert!(refused > 10_000);
     let mut refused = 0;
-    for v in requests().into_iter().filter(|v| v.call == "judge_costs" && v.answer.file != 0) {
-        for length in 0..=66 {
+    for v in said(&["judge_costs"], 1) {
+        for length in (0..=66).chain(126..=130) {
             let number = judge_costs(&v.files[0], &v.files[1], length).0.number;
             // 10 comes between the model's faults and the certificate's.
-            let short = v.answer.file == 2 && length < usize::from(v.files[0][2]);
-            assert_eq!(number, if short { 10 } else { v.answer.number });
+            let short = v.said.0.file == 2 && length < usize::from(v.files[0][2]);
+            assert_eq!(number, if short { 10 } else { v.number() });
             refused += 1;
         }
     }
     assert!(refused > 10_000);
     let mut refused = 0;
-    for v in requests().into_iter().filter(|v| v.call == "join" && matches!(v.answer.number, 1..=25)) {
-        for length in 0..=66 {
-            assert_eq!(join(&v.files[0], &v.files[1], length).0, v.answer);
+    for v in said(&["join"], 0).filter(|v| matches!(v.number(), 1..=25)) {
+        for length in (0..=66).chain(126..=130) {
+            assert_eq!(join(&v.files[0], &v.files[1], length).0, v.said.0);
             refused += 1;
         }
     }
@@ -79,9 +81,10 @@ fn null_pointers_at_length_0() {
     let (model, certificate) = &accepted()[0];
     let (costly, its_certificate) = &accepted_costs()[0];
     let (m, m_length, c, c_length) = (model.as_ptr(), model.len(), certificate.as_ptr(), certificate.len());
-    let mut blocks = [7; 64];
+    let mut blocks = [7; STATES];
     let b = blocks.as_mut_ptr();
     // The same call with an empty slice for every null pointer.
+    type Lent = fn(&[u8], &[u8], usize) -> (Answer, Vec<u8>);
     let lending: [(Lending, Lent, &[u8], &[u8]); 5] = [
         (zolkirta_judge, judge, model, certificate),
         (zolkirta_judge_costs, judge_costs, costly, its_certificate),
@@ -93,8 +96,8 @@ fn null_pointers_at_length_0() {
         let (p, p_length, o, o_length) = (one.as_ptr(), one.len(), other.as_ptr(), other.len());
         unsafe {
             assert_eq!(call(null(), 0, null(), 0, null_mut(), 0), same(&[], &[], 0).0);
-            assert_eq!(call(null(), 0, o, o_length, b, 64), same(&[], other, 64).0);
-            assert_eq!(call(p, p_length, null(), 0, b, 64), same(one, &[], 64).0);
+            assert_eq!(call(null(), 0, o, o_length, b, STATES), same(&[], other, STATES).0);
+            assert_eq!(call(p, p_length, null(), 0, b, STATES), same(one, &[], STATES).0);
             assert_eq!(call(p, p_length, o, o_length, null_mut(), 0), same(one, other, 0).0);
             assert_eq!(call(p, p_length, null(), 0, null_mut(), 0), same(one, &[], 0).0);
         }
@@ -105,25 +108,26 @@ fn null_pointers_at_length_0() {
         assert_eq!(zolkirta_alike(m, m_length, 1, null(), 0, 0, 1), alike(model, &[], [1, 0, 1]));
         assert_eq!(zolkirta_alike(null(), 0, 1, c, c_length, 0, 1), alike(&[], certificate, [1, 0, 1]));
     }
-    assert_eq!(blocks, [7; 64]);
+    assert_eq!(blocks, [7; STATES]);
     let judged = [judge(model, certificate, 0).0, reduce(model, certificate, 0).0, sheet(model, certificate, 0).0];
     assert_eq!(judged.map(|answer| (answer.number, answer.file)), [(10, 0), (23, 0), (28, 0)]);
-    let with_costs = [judge_costs(costly, its_certificate, 0).0, judge_costs(costly, &[], 64).0, judge_costs(model, certificate, 64).0];
+    let with_costs = [(costly, its_certificate, 0), (costly, &Vec::new(), STATES), (model, certificate, STATES)];
+    let with_costs = with_costs.map(|(model, certificate, length)| judge_costs(model, certificate, length).0);
     assert_eq!(with_costs.map(|answer| (answer.number, answer.file)), [(10, 0), (11, 2), (1, 1)]);
-    let joined = [join(model, model, 0).0, join(model, &[], 64).0];
+    let joined = [join(model, model, 0).0, join(model, &[], STATES).0];
     assert_eq!(joined.map(|answer| (answer.number, answer.file)), [(26, 0), (1, 3)]);
 }
 
-/// Numbers below 66, and those that are one of them in their lowest bits.
+/// Numbers below 130, and those that are one of them in their lowest bits.
 fn every_size() -> impl Iterator<Item = u32> {
-    let low = 0..66;
+    let low = 0..130;
     let wide = low.clone().flat_map(|state| [8, 16, 24, 31].map(|bit| state + (1 << bit)));
-    low.chain([127, 128, 255, 65_535, u32::MAX]).chain(wide)
+    low.chain([255, 65_535, u32::MAX]).chain(wide)
 }
 
 #[test]
 fn states_of_every_size() {
-    let mut models: Vec<_> = vectors().into_iter().map(|v| v.model).collect();
+    let mut models: Vec<_> = lines().into_iter().filter(|v| matches!(v.name, "base" | "k7")).map(|mut v| v.files.remove(0)).collect();
     models.push(largest().0.bytes());
     models.sort();
     models.dedup();
@@ -138,7 +142,7 @@ fn states_of_every_size() {
 #[test]
 fn parts_and_states_of_every_size() {
     let small = accepted().into_iter().filter(|(_, certificate)| certificate.len() < 500);
-    for (model, certificate) in small.chain([bytes(largest())]) {
+    for (model, certificate) in small.chain([bytes(half()), bytes(still(&[0; STATES]))]) {
         let n = u32::from(model[2]);
         let in_parts = [n / 2, 0, n - 1];
         let each = every_size().flat_map(|x| [0, 1, 2].map(|i| (i, x)));
@@ -153,29 +157,39 @@ fn parts_and_states_of_every_size() {
     }
 }
 
+/// Truncations of a long certificate, bytes added to it, and changes of so many bytes along it and of these at its end.
+fn long_certificate(counts: &mut Counts, (model, certificate): (Vec<u8>, Vec<u8>), along: usize, last: Vec<usize>) {
+    let size = certificate.len();
+    assert!(size > 300_000 && counts.pair(&model, &certificate).number == 0);
+    for end in [65_534, 65_535, 65_536, 65_537, 262_143, 262_144, 262_145, size - 1] {
+        counts.pair(&model, &certificate[..end]);
+    }
+    let longer = [&certificate[..], &[0; 70_000]].concat();
+    assert_eq!(counts.pair(&model, &longer).place, size);
+    let mut damaged = certificate.clone();
+    for at in (1 << 18..size).step_by(size / along).chain(last) {
+        damaged[at] ^= 1;
+        let answer = counts.pair(&model, &damaged);
+        assert!(answer.number == 0 || answer.file == 2 && answer.place > 1 << 17);
+        damaged[at] = certificate[at];
+    }
+}
+
 #[test]
 fn long_certificates() {
     let mut counts = Counts::default();
-    let (flows, refutations) = (bytes(flow_heavy(64, 3)), bytes(refutation_heavy(64)));
-    // Bytes of the last flow; fields and every second price of the last refutation, and the blocks.
-    let last_flow: Vec<usize> = (flows.1.len() - 37..flows.1.len()).collect();
-    let (start, blocks) = (refutations.1.len() - 66 - 773, refutations.1.len() - 66);
-    let last_refutation = (start..start + 5).chain((start + 8..blocks).step_by(8)).chain(blocks..blocks + 66).collect();
-    for ((model, certificate), last) in [(flows, last_flow), (refutations, last_refutation)] {
-        let size = certificate.len();
-        assert!(size > 300_000 && counts.pair(&model, &certificate).number == 0);
-        for end in [65_534, 65_535, 65_536, 65_537, 262_143, 262_144, 262_145, size - 1] {
-            counts.pair(&model, &certificate[..end]);
-        }
-        let longer = [&certificate[..], &[0; 70_000]].concat();
-        assert_eq!(counts.pair(&model, &longer).place, size);
-        let mut damaged = certificate.clone();
-        for at in (1 << 18..size).step_by(size / 30).chain(last) {
-            damaged[at] ^= 1;
-            let answer = counts.pair(&model, &damaged);
-            assert!(answer.number == 0 || answer.file == 2 && answer.place > 1 << 17);
-            damaged[at] = certificate[at];
-        }
+    for n in [64, 128] {
+        let (flows, refutations) = (bytes(flow_heavy(n, 3)), bytes(refutation_heavy(n)));
+        // Bytes of the last flow; fields and some prices of the last refutation, and the blocks.
+        let last_flow = (flows.1.len() - 37..flows.1.len()).collect();
+        let blocks = refutations.1.len() - 2 - n;
+        let start = blocks - 5 - 12 * n;
+        // One judging takes eight times as long at 128 states, with four times as many refutations.
+        let (along, step) = if n == 64 { (30, 1) } else { (4, 48) };
+        let prices = (start + 8..blocks).step_by(8 * step);
+        let last_refutation = (start..start + 5).step_by(step).chain(prices).chain((blocks..blocks + 2 + n).step_by(step)).collect();
+        long_certificate(&mut counts, flows, 30, last_flow);
+        long_certificate(&mut counts, refutations, along, last_refutation);
     }
     println!("long certificates: {counts}");
     for number in [0, 11, 12, 14, 15, 16, 17, 18, 19, 20, 21, 22] {
@@ -188,7 +202,7 @@ fn long_models() {
     let mut counts = Counts::default();
     let largest = largest().0.bytes();
     assert_eq!(largest.len(), MODEL);
-    assert_eq!(fetch(&largest, 63).stretch_length, 4 * 19);
+    assert_eq!(fetch(&largest, 127).stretch_length, 2 * 31);
     for more in [1, 65_535, 300_000] {
         let long = [&largest[..], &vec![0; more]].concat();
         let answer = counts.pair(&long, &long);

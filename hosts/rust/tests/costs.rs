@@ -13,10 +13,10 @@ use maker::families::{
 use maker::files::{Certificate, Flow, Model, Refutation, Transition};
 use maker::random::{random_cost_model, random_model};
 use maker::Missed;
-use plain::{Answer, Rule};
+use plain::{Answer, Rule, TODAY};
 use records::{crowded, each_damaged, respelled, split, Records};
 use std::collections::{BTreeMap, BTreeSet};
-use zolkirta::{MODEL, SHEET};
+use zolkirta::{MODEL, SHEET, STATES};
 
 /// Both accept with the blocks of the certificate, in a buffer of just their length and in none shorter.
 fn accepted(model: &Model, certificate: &Certificate) {
@@ -51,7 +51,7 @@ fn all_certificates_of_a_cost_model_name_the_same_blocks_inside_the_plain_ones()
             for certificate in &made {
                 accepted(&file, certificate);
                 let pair = (file.bytes(), certificate.bytes());
-                assert_eq!(judge_costs(&pair.0, &respelled(&pair, &mut numbers), 64).1, certificate.blocks);
+                assert_eq!(judge_costs(&pair.0, &respelled(&pair, &mut numbers), STATES).1, certificate.blocks);
             }
             several += u64::from(made.iter().map(Certificate::bytes).collect::<BTreeSet<_>>().len() == 2);
             all.extend(made);
@@ -62,7 +62,7 @@ fn all_certificates_of_a_cost_model_name_the_same_blocks_inside_the_plain_ones()
         apart += u64::from((2..model.n()).contains(&count(blocks)));
         let plain_model = model.without_costs();
         if let Some(without) = missed.certificate(&plain_model, &mut numbers) {
-            assert_eq!(judge(&plain_model.bytes(), &without.bytes(), 64).1, without.blocks);
+            assert_eq!(judge(&plain_model.bytes(), &without.bytes(), STATES).1, without.blocks);
             assert!(inside(blocks, &without.blocks), "{model:?}");
             *(if count(blocks) > count(&without.blocks) { &mut finer } else { &mut same }) += 1;
         }
@@ -90,7 +90,7 @@ fn costs_of_0_give_the_plain_blocks() {
         let free = model.with_costs(|_, _| 0);
         let made = missed.certificate(&model, &mut numbers).zip(missed.certificate(&free, &mut numbers));
         let Some((own, with_costs)) = made else { continue };
-        assert_eq!(judge(&model.bytes(), &own.bytes(), 64).1, with_costs.blocks);
+        assert_eq!(judge(&model.bytes(), &own.bytes(), STATES).1, with_costs.blocks);
         accepted(&free, &with_costs);
         // The plain certificate does as well, whatever L is: it is nowhere counted.
         let prices: Vec<i32> = own.refutations.iter().map(|_| numbers.any() as i32).collect();
@@ -111,9 +111,9 @@ fn families(sizes: impl Iterator<Item = usize> + Clone) -> Vec<(Model, Certifica
 }
 
 #[test]
-fn families_with_costs_up_to_64_states() {
+fn families_with_costs_up_to_128_states() {
     let mut numbers = Numbers::new(63);
-    for (model, certificate) in families([3, 4, 6, 16, 40, 64].into_iter()) {
+    for (model, certificate) in families([3, 4, 6, 16, 40, 64, 128].into_iter()) {
         accepted(&model, &certificate);
         if model.n() <= 6 {
             let found = maker::certificate(&model, &mut numbers).expect("small numbers");
@@ -126,7 +126,7 @@ fn families_with_costs_up_to_64_states() {
         let model = random_cost_model(&mut numbers, 6);
         let Some(certificate) = maker::certificate(&model, &mut numbers) else { continue };
         let k = most_copies(&model);
-        if certificate.refutations.len() * k * k <= 2016 {
+        if certificate.refutations.len() * k * k <= TODAY.refutations {
             let (copied, lifted) = copies(&model, &certificate, k);
             accepted(&copied, &lifted);
             most = most.max(copied.n());
@@ -134,7 +134,7 @@ fn families_with_costs_up_to_64_states() {
         }
     }
     println!("copies up to {most} states, {records} refutations and flows");
-    assert!(most == 64 && records > 10_000);
+    assert!(most > 120 && records > 10_000);
 }
 
 /// How often each number was answered, with the file.
@@ -150,7 +150,7 @@ fn every_number() -> BTreeSet<(u32, u32)> {
 fn damaged_pairs_are_answered_alike() {
     let mut numbers = Numbers::new(64);
     let (mut model, certificate) = crowded();
-    model.extend([&b"CO"[..], &[7; 79]].concat());
+    model.extend([&b"CO"[..], &[7; 81]].concat());
     let mut pairs = accepted_costs();
     pairs.extend(vec![(model, [b"CC", &certificate[2..]].concat()); 5]); // few damages make its entries too many
     pairs.extend([tolls(8), flow_heavy_with_costs(2), late_steps(5)].map(bytes));
@@ -158,11 +158,11 @@ fn damaged_pairs_are_answered_alike() {
         let model = random_cost_model(&mut numbers, 6);
         pairs.extend(maker::certificate(&model, &mut numbers).map(|certificate| bytes((model, certificate))));
     }
-    assert!(pairs.iter().all(|(model, certificate)| judge_costs(model, certificate, 64).0.number == 0));
+    assert!(pairs.iter().all(|(model, certificate)| judge_costs(model, certificate, STATES).0.number == 0));
     let pairs: Vec<Records> = pairs.iter().map(split).collect();
     let (mut told, mut kinds) = (Told::new(), BTreeSet::new());
     each_damaged(&pairs, rounds(150_000), 65, |model, certificate, n, numbers| {
-        let length = if numbers.below(8) == 0 { numbers.below(n + 2) } else { 64 };
+        let length = if numbers.below(8) == 0 { numbers.below(n + 2) } else { STATES };
         let (answer, _) = judge_costs(model, certificate, length);
         *told.entry((answer.number, answer.file)).or_insert(0) += 1;
         kinds.extend(kind_by(Rule::Costs, answer, model, certificate));
@@ -179,15 +179,15 @@ fn every_truncation_and_change_of_one_byte_of_small_pairs() {
     let (mut told, mut pairs) = (Told::new(), 0);
     for (model, certificate) in small.take(8) {
         for size in 0..model.len() {
-            let answer = judge_costs(&model[..size], &certificate, 64).0;
+            let answer = judge_costs(&model[..size], &certificate, STATES).0;
             assert_eq!((answer.number, answer.file, answer.place + answer.stretch_length), (1, 1, size));
         }
         for size in 0..certificate.len() {
-            let answer = judge_costs(&model, &certificate[..size], 64).0;
+            let answer = judge_costs(&model, &certificate[..size], STATES).0;
             assert_eq!((answer.number, answer.file, answer.place + answer.stretch_length), (11, 2, size));
         }
         let mut tell = |model: &[u8], certificate: &[u8]| {
-            let answer = judge_costs(model, certificate, 64).0;
+            let answer = judge_costs(model, certificate, STATES).0;
             *told.entry((answer.number, answer.file)).or_insert(0) += 1;
         };
         changes(&model, |damaged| tell(damaged, &certificate));
@@ -258,14 +258,14 @@ fn a_cycle_that_pays_breaks_the_cost_equation_alone() {
         ks.insert((0, cycle), k);
         certificate.flows[i].ks = ks.into_iter().collect();
         let place = Certificate { flows: certificate.flows[..i].to_vec(), ..certificate.clone() }.bytes().len();
-        assert_eq!(told(judge_costs(&model.bytes(), &certificate.bytes(), 64).0), (30, place, 0, 0), "{model:?} {certificate:?}");
+        assert_eq!(told(judge_costs(&model.bytes(), &certificate.bytes(), STATES).0), (30, place, 0, 0), "{model:?} {certificate:?}");
         broken += 1;
     }
 }
 
 #[test]
 fn the_first_cost_above_63_is_where_a_model_breaks() {
-    for (model, certificate) in accepted_costs().into_iter().filter(|(model, _)| model.ends_with(&[0])).chain([bytes(tolls(64))]) {
+    for (model, certificate) in accepted_costs().into_iter().filter(|(model, _)| model.ends_with(&[0])).chain([bytes(tolls(128))]) {
         let count = usize::from(model[4]) * 256 + usize::from(model[5]);
         let first = model.len() - count;
         for (at, cost) in (first..model.len()).flat_map(|at| [(at, 64), (at, 255)]) {
@@ -335,28 +335,28 @@ fn every_other_call_refuses_a_cost_model() {
     let still = b"PA\x01\x01\0\0LB\0";
     let mut pairs = accepted_costs();
     assert!(pairs.iter().any(|(model, _)| model.ends_with(b"CO")), "one without transitions");
-    pairs.push(bytes(tolls(64)));
+    pairs.push(bytes(tolls(128)));
     pairs.push(bytes(flow_heavy_with_costs(3)));
     for (model, certificate) in &pairs {
         let count = usize::from(model[4]) * 256 + usize::from(model[5]);
         let (length, place) = (model.len(), model.len() - 2 - count);
         let left = |file: u32| Answer { number: 9, file, place, stretch_start: place, stretch_length: length - place, ..Answer::default() };
-        assert_eq!(judge_costs(model, certificate, 64).0.number, 0);
+        assert_eq!(judge_costs(model, certificate, STATES).0.number, 0);
         for ct in [certificate.clone(), [b"CT", &certificate[2..]].concat()] {
-            assert_eq!(judge(model, &ct, 64).0, left(1));
+            assert_eq!(judge(model, &ct, STATES).0, left(1));
             assert_eq!(judge(model, &ct, 0).0, left(1), "before the length of the buffer is looked at");
             assert_eq!(reduce(model, &ct, MODEL).0, left(1));
             assert_eq!(sheet(model, &ct, SHEET).0, left(1));
             assert_eq!(alike(model, &ct, [1, 0, 1]).answer, left(1));
         }
         assert_eq!(fetch(model, 0), left(1));
-        assert_eq!(fetch(model, 64), left(1));
+        assert_eq!(fetch(model, 128), left(1));
         assert_eq!(join(model, still, MODEL).0, left(1));
         assert_eq!(join(still, model, MODEL).0, left(3));
         assert_eq!(join(model, model, MODEL).0, left(1));
         // Without the record it is a model, which in turn is no cost model.
-        assert_eq!(fetch(&model[..place], 64).number, 24);
-        let answer = judge_costs(&model[..place], certificate, 64).0;
+        assert_eq!(fetch(&model[..place], 128).number, 24);
+        let answer = judge_costs(&model[..place], certificate, STATES).0;
         assert_eq!((answer.number, answer.file, answer.place, answer.stretch_length), (1, 1, place, 0));
     }
 }
@@ -370,9 +370,9 @@ fn a_certificate_of_the_other_rule_has_a_wrong_mark() {
         let (free, with_l) = (model.with_costs(|_, _| 0), certificate.with_l(|_| 0));
         accepted(&free, &with_l);
         let length = with_l.bytes().len();
-        let answer = judge(&model.bytes(), &with_l.bytes(), 64).0;
+        let answer = judge(&model.bytes(), &with_l.bytes(), STATES).0;
         assert_eq!((answer.number, answer.file, answer.place, answer.stretch_length), (12, 2, 0, length));
-        let answer = judge_costs(&free.bytes(), &certificate.bytes(), 64).0;
+        let answer = judge_costs(&free.bytes(), &certificate.bytes(), STATES).0;
         assert_eq!((answer.number, answer.file, answer.place), (12, 2, 0));
         pairs += 1;
     }

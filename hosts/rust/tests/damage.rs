@@ -4,9 +4,10 @@ mod compare;
 mod plain;
 mod records;
 
-use compare::{accepted, every_kind, judge, rounds, vectors, Counts, Numbers};
+use compare::{accepted, every_kind, judge, lines, rounds, Counts, Numbers};
 use records::{crowded, damaged, respelled};
 use std::collections::BTreeSet;
+use zolkirta::STATES;
 
 /// Sends every truncation of both files of these pairs through.
 fn truncations<'a>(pairs: impl IntoIterator<Item = &'a (Vec<u8>, Vec<u8>)>) -> Counts {
@@ -24,7 +25,8 @@ fn every_truncation() {
     // What is cut off is missing in some record: no other number can be, but for fetches of whole models.
     let [fetched, model_ends, certificate_ends] = [0, 1, 11].map(|number| counts.answers[number]);
     assert_eq!(fetched + model_ends + certificate_ends, 3 * counts.pairs);
-    let refused: BTreeSet<_> = vectors().into_iter().filter(|v| v.answer.file != 0).map(|v| (v.model, v.certificate)).collect();
+    let refused = lines().into_iter().filter(|v| matches!(v.name, "base" | "k7") && matches!(v.call.as_str(), "judge" | "reduce"));
+    let refused: BTreeSet<_> = refused.filter(|v| v.said.0.file != 0).map(|mut v| (v.files.remove(0), v.files.remove(0))).collect();
     println!("truncations of refused pairs: {}", truncations(&refused));
 }
 
@@ -61,9 +63,9 @@ fn random_bytes() {
 fn respelled_certificates_name_the_same_blocks() {
     let mut numbers = Numbers::new(3);
     for pair in accepted() {
-        let blocks = judge(&pair.0, &pair.1, 64).1;
+        let blocks = judge(&pair.0, &pair.1, STATES).1;
         for _ in 0..100 {
-            let (answer, same) = judge(&pair.0, &respelled(&pair, &mut numbers), 64);
+            let (answer, same) = judge(&pair.0, &respelled(&pair, &mut numbers), STATES);
             assert_eq!((answer.number, &same), (0, &blocks));
         }
     }
@@ -73,7 +75,7 @@ fn respelled_certificates_name_the_same_blocks() {
 fn damage_by_records_and_fields() {
     let mut pairs = accepted();
     pairs.push(crowded());
-    assert_eq!(judge(&pairs.last().unwrap().0, &pairs.last().unwrap().1, 64).0.number, 0);
+    assert_eq!(judge(&pairs.last().unwrap().0, &pairs.last().unwrap().1, STATES).0.number, 0);
     let counts = damaged(&pairs, rounds(600_000), 7);
     println!("damage by records and fields: {counts}");
     for (number, count) in counts.answers.iter().enumerate() {

@@ -6,12 +6,12 @@ mod plain;
 mod records;
 
 use compare::{accepted, alike, changes, every_kind, join, judge, kind, reduce, rounds, Numbers};
-use maker::families::filled;
+use maker::families::half;
 use maker::files::{Certificate, Model, Transition};
 use maker::random::random_model;
 use records::{crowded, each_damaged, split, split_models, Records};
 use std::collections::BTreeSet;
-use zolkirta::MODEL;
+use zolkirta::{MODEL, STATES};
 
 /// A joined model with a certificate, and the first's state count.
 struct Joined {
@@ -26,7 +26,7 @@ impl Joined {
         let (answer, model) = join(&first.bytes(), &second.bytes(), MODEL);
         assert_eq!(answer.number, 0);
         let certificate = maker::certificate(&Model::read(&model), numbers)?;
-        assert_eq!(judge(&model, &certificate.bytes(), 64).1, certificate.blocks);
+        assert_eq!(judge(&model, &certificate.bytes(), STATES).1, certificate.blocks);
         Some(Joined { model, certificate, count: first.n() })
     }
 
@@ -164,13 +164,13 @@ fn every_truncation_and_change_of_one_byte_of_small_models() {
 /// Two models that fill the limits together, and what one state, transition or entry more does.
 #[test]
 fn a_joined_model_keeps_the_limits() {
-    let half = filled(32).0;
+    let half = half().0;
     assert_eq!(join(&half.bytes(), &half.bytes(), MODEL).1.len(), MODEL);
     let state = Model { labels: [&half.labels[..], &[63]].concat(), ..half.clone() };
     let (mut transition, mut entry) = (half.clone(), half.clone());
-    let weights = transition.transitions[0].weights.split_off(2);
-    transition.transitions[0].d = 2;
-    transition.transitions.insert(0, Transition { source: 0, action: 31, d: 2, weights, cost: 0 });
+    let weights = transition.transitions[0].weights.split_off(4);
+    transition.transitions[0].d = 4;
+    transition.transitions.insert(0, Transition { source: 0, action: 31, d: 4, weights, cost: 0 });
     entry.transitions[127].weights.insert(0, (0, 9));
     entry.transitions[127].d += 9;
     for larger in [state, transition, entry].map(|model| model.bytes()) {

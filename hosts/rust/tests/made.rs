@@ -6,12 +6,15 @@ mod plain;
 mod records;
 
 use compare::{every_kind, judge, reduce, rounds, Counts, Numbers};
-use maker::families::{bytes, copies, flow_heavy, internal_chain, largest, most_copies, one_source, refutation_heavy};
+use maker::families::{
+    bytes, copies, flow_heavy, half, in_any_order, internal_chain, largest, most_copies, one_source, random_large, refutation_heavy, still,
+};
 use maker::files::{Certificate, Model};
 use maker::random::random_model;
 use maker::Missed;
-use records::{damaged, respelled};
+use records::{crowded, damaged, respelled};
 use std::collections::BTreeSet;
+use zolkirta::STATES;
 
 /// Both accept with the blocks of the certificate, and write the merged model into a buffer of just its length and none shorter. Hands
 /// the merged model back.
@@ -31,7 +34,7 @@ fn accepted(model: &Model, certificate: &Certificate) -> Vec<u8> {
 fn dropped_in_other_terms(model: &Model, blocks: &[u8], merged: &Model) -> usize {
     let mut fields = BTreeSet::new();
     for r in &model.transitions {
-        let mut weights = [0; 64];
+        let mut weights = [0; STATES];
         r.weights.iter().for_each(|&(v, p)| weights[usize::from(blocks[v])] += p);
         fields.insert((blocks[r.source], r.action, r.d, weights));
     }
@@ -57,7 +60,7 @@ fn all_certificates_of_an_automaton_name_the_same_blocks() {
             several += u64::from(made.iter().map(Certificate::bytes).collect::<BTreeSet<_>>().len() == 3);
             for certificate in &made {
                 let pair = (file.bytes(), certificate.bytes());
-                assert_eq!(judge(&pair.0, &respelled(&pair, &mut numbers), 64).1, certificate.blocks);
+                assert_eq!(judge(&pair.0, &respelled(&pair, &mut numbers), STATES).1, certificate.blocks);
             }
             all.extend(made);
         }
@@ -102,9 +105,9 @@ fn a_merged_model_merges_no_further() {
 }
 
 #[test]
-fn families_up_to_64_states() {
-    let sizes = || (8..=64).step_by(8);
-    for (model, certificate) in [largest(), one_source()] {
+fn families_up_to_128_states() {
+    let sizes = || (8..=64).step_by(8).chain([65, 100, 128]);
+    for (model, certificate) in [largest(), half(), one_source()] {
         assert_eq!(accepted(&model, &certificate), model.bytes());
     }
     let mut numbers = Numbers::new(3);
@@ -118,17 +121,20 @@ fn families_up_to_64_states() {
             }
         }
     }
-    let (mut most, mut records) = (0, 0);
+    let (mut most, mut records, mut across) = (0, 0, 0);
     for i in 0..rounds(60) as usize {
         let model = random_model(&mut numbers, 6);
         let Some(certificate) = maker::certificate(&model, &mut numbers) else { continue };
         let room = most_copies(&model);
         let k = if i % 2 == 0 { room } else { 1 + numbers.below(room) };
-        if certificate.refutations.len() * k * k > 2016 {
-            continue;
+        if certificate.refutations.len() * k * k > 2500 {
+            continue; // more of them take long
         }
         let (copied, lifted) = copies(&model, &certificate, k);
         accepted(&copied, &lifted);
+        let (mixed, told) = in_any_order((copied.clone(), lifted.clone()), &mut numbers);
+        accepted(&mixed, &told);
+        across += across_words(&told.blocks);
         if copied.n() <= 10 {
             let found = maker::certificate(&copied, &mut numbers);
             assert!(found.is_none_or(|found| found.blocks == lifted.blocks));
@@ -136,8 +142,34 @@ fn families_up_to_64_states() {
         most = most.max(copied.n());
         records += lifted.refutations.len() + lifted.flows.len();
     }
-    println!("copies up to {most} states, {records} refutations and flows");
-    assert!(most == 64 && records > 20_000);
+    println!("copies up to {most} states, {records} refutations and flows, {across} blocks across two words");
+    assert!(most > 120 && records > 20_000 && across > 50);
+}
+
+/// How many blocks have states below 64 and from 64 on: their bits stand in two words.
+fn across_words(blocks: &[u8]) -> usize {
+    let (low, high) = blocks.split_at(blocks.len().min(64));
+    BTreeSet::from_iter(low).intersection(&BTreeSet::from_iter(high)).count()
+}
+
+#[test]
+fn pairs_of_65_to_128_states() {
+    let mut numbers = Numbers::new(7);
+    let (mut sizes, mut across, mut refuted, mut met) = (BTreeSet::new(), 0, 0, 0);
+    for _ in 0..rounds(40) {
+        let (model, certificate) = random_large(&mut numbers);
+        let merged = Model::read(&accepted(&model, &certificate));
+        assert_eq!(merged.n(), BTreeSet::from_iter(&certificate.blocks).len());
+        let pair = (model.bytes(), certificate.bytes());
+        assert_eq!(judge(&pair.0, &respelled(&pair, &mut numbers), STATES).1, certificate.blocks);
+        sizes.insert(model.n());
+        across += across_words(&certificate.blocks);
+        refuted += certificate.refutations.len();
+        met += certificate.flows.len();
+    }
+    println!("{sizes:?} states, {across} blocks across two words, {refuted} refutations, {met} flows");
+    assert!(sizes.iter().all(|n| (65..=128).contains(n)) && sizes.first() < Some(&80) && sizes.last() > Some(&110));
+    assert!(across > 200 && refuted > 1000 && met > 1000);
 }
 
 #[test]
@@ -153,6 +185,21 @@ fn damaged_pairs_are_answered_alike() {
     println!("made pairs damaged by records and fields: {counts}");
     assert!((11..=22).all(|number| counts.answers[number] > 0));
     assert_eq!(counts.kinds, every_kind());
+}
+
+#[test]
+fn damaged_pairs_of_65_to_128_states_are_answered_alike() {
+    let mut numbers = Numbers::new(8);
+    let mut pairs: Vec<_> = (0..20).map(|_| bytes(random_large(&mut numbers))).collect();
+    pairs.push(bytes(internal_chain(70)));
+    pairs.push(bytes(in_any_order(flow_heavy(66, 2), &mut numbers)));
+    pairs.extend((0..3).map(|_| bytes(in_any_order(largest(), &mut numbers))));
+    // One entry more is too many in these, and in short certificates the count is often changed.
+    pairs.extend(vec![crowded(); 10]);
+    pairs.extend((0..5).map(|i| bytes(still(&vec![i; 128 - usize::from(i)]))));
+    let counts = damaged(&pairs, rounds(4_000), 9);
+    println!("pairs of 65 to 128 states damaged by records and fields: {counts}");
+    assert!((1..=9).chain(11..=22).all(|number| counts.answers[number] > 0), "{counts}");
 }
 
 #[test]

@@ -8,14 +8,14 @@ use compare::{alike, every_kind, judge, kind, reduce, rounds, Kind, Numbers};
 use maker::files::{Certificate, Flow, Model, Refutation, Transition};
 use maker::random::random_model;
 use std::collections::{BTreeMap, BTreeSet};
-use zolkirta::MODEL;
+use zolkirta::{MODEL, STATES};
 
 /// Number, state and remainder.
 type Told = (u32, usize, i64);
 
 /// Every call that judges refuses the certificate with this.
 fn refused(model: &[u8], certificate: &[u8], told: Told) -> Option<Kind> {
-    let answer = judge(model, certificate, 64).0;
+    let answer = judge(model, certificate, STATES).0;
     assert_eq!((answer.number, answer.state as usize, answer.remainder), told);
     assert_eq!([reduce(model, certificate, MODEL).0, alike(model, certificate, [1, 0, 1]).answer], [answer; 2]);
     kind(answer, model, certificate)
@@ -113,10 +113,7 @@ fn a_changed_number_is_off_by_the_change() {
             }
         }
         let blocks = &certificate.blocks;
-        let challengers = model.transitions.iter().map(|r| r.source).enumerate();
-        let all = challengers.flat_map(|(q, s)| (0..model.n()).map(move |t| (s, t, q)));
-        let mut asked: Vec<_> = all.filter(|&(s, t, _)| s != t && blocks[s] == blocks[t]).collect();
-        asked.sort();
+        let asked = certificate.questions(&model);
         assert_eq!(asked.len(), certificate.flows.len());
         for (i, (_, t, q)) in asked.into_iter().enumerate() {
             if let Some((flow, told)) = changed_flow(&model, blocks, (q, t), &certificate.flows[i], &mut numbers) {
@@ -130,8 +127,6 @@ fn a_changed_number_is_off_by_the_change() {
     assert_eq!(kinds, every_kind());
 }
 
-const STATES: usize = 64;
-
 /// A transition to one state in the longest terms.
 fn wide(source: usize, action: usize, target: usize) -> Transition {
     Transition::step(source, action, target).times(65_535)
@@ -139,7 +134,7 @@ fn wide(source: usize, action: usize, target: usize) -> Transition {
 
 /// A transition to all states in the longest terms.
 fn spread(source: usize, action: usize) -> Transition {
-    Transition { source, action, d: 65_535, weights: (0..STATES).map(|v| (v, if v == 0 { 1023 } else { 1024 })).collect(), cost: 0 }
+    Transition { source, action, d: 65_535, weights: (0..STATES).map(|v| (v, if v == 0 { 511 } else { 512 })).collect(), cost: 0 }
 }
 
 /// Sums as large as they can be, or some terms below: in 21 all w together are D, since the equations at v hold.
@@ -157,7 +152,7 @@ fn the_largest_sums() {
     let flow = |ks: Vec<_>, ws: Vec<_>| vec![Flow { d: u32::MAX, ks, ws }];
 
     // 256 internal transitions that leave state 0 and all w, and 256 that lead there and D.
-    tell(vec![wide(0, 0, 1); 256], vec![], flow(most(0, 0..256), everywhere.clone()), (20, 0, -72_056_769_387_430_080));
+    tell(vec![wide(0, 0, 1); 256], vec![], flow(most(0, 0..256), everywhere.clone()), (20, 0, -72_057_044_265_336_960));
     tell(vec![wide(1, 0, 0); 256], vec![], flow(most(0, 0..256), nowhere()), (20, 0, 72_056_498_804_490_495));
     // Before the move: 256 moves that leave state 0, and 255 internal transitions that lead there and D.
     tell(vec![wide(0, 1, 1); 256], vec![], flow(most(1, 0..256), everywhere.clone()), (20, 0, -72_056_494_509_523_200));
@@ -166,7 +161,7 @@ fn the_largest_sums() {
     // After the move, with 254 internal transitions: the defender moves by its own transition.
     let leaving = [vec![Transition::step(0, 1, 0)], vec![wide(0, 0, 1); 254], vec![Transition::step(1, 1, 1)]].concat();
     let ks = [most(1, 255..256), most(2, 1..255)].concat();
-    tell(leaving, vec![], flow(ks, everywhere), (20, 0, -71_493_828_024_074_430));
+    tell(leaving, vec![], flow(ks, everywhere), (20, 0, -71_494_102_901_981_310));
     let arriving = [vec![Transition::step(0, 1, 0), Transition::step(1, 1, 0)], vec![wide(1, 0, 0); 254]].concat();
     let ks = [most(1, 1..2), most(2, 2..256)].concat();
     tell(arriving, vec![], flow(ks, nowhere()), (20, 0, 71_493_557_441_134_845));
@@ -180,8 +175,8 @@ fn the_largest_sums() {
     for (high, low, remainder) in edges {
         for action in [0, 1] {
             let prices = [vec![vec![high; STATES]; 1 + action], vec![vec![low; STATES]]].concat();
-            let refutation = Refutation::new(0, 63, prices);
-            tell(vec![spread(0, action)], vec![refutation], vec![], (16, 63, remainder));
+            let refutation = Refutation::new(0, STATES - 1, prices);
+            tell(vec![spread(0, action)], vec![refutation], vec![], (16, STATES - 1, remainder));
         }
     }
     assert_eq!(kinds, every_kind());

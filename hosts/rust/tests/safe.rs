@@ -2,10 +2,10 @@
 mod compare;
 mod plain;
 
-use compare::{accepted, accepted_costs, alike, fetch, join, judge, judge_costs, reduce, requests, sheet, vectors, Calls, Counts, Numbers};
+use compare::{accepted, accepted_costs, lines, Answering, Both, Counts, Numbers};
 use plain::{AlikeAnswer, Answer};
 use std::collections::BTreeSet;
-use zolkirta::{Difference, File, Refusal};
+use zolkirta::{Difference, File, Refusal, STATES};
 
 /// The slice lies in this file from this place on: the same bytes at the same address.
 fn same_bytes(slice: &[u8], file: &[u8], from: usize, length: usize) {
@@ -50,51 +50,53 @@ fn same_lent(call: Call, told: (Answer, Vec<u8>), model: &[u8], other: &[u8], le
     told
 }
 
-fn same_judge(model: &[u8], certificate: &[u8], length: usize) -> (Answer, Vec<u8>) {
-    same_lent(zolkirta::judge, judge(model, certificate, length), model, certificate, length)
-}
-
-fn same_judge_costs(model: &[u8], certificate: &[u8], length: usize) -> (Answer, Vec<u8>) {
-    same_lent(zolkirta::judge_costs, judge_costs(model, certificate, length), model, certificate, length)
-}
-
-fn same_reduce(model: &[u8], certificate: &[u8], length: usize) -> (Answer, Vec<u8>) {
-    same_lent(zolkirta::reduce, reduce(model, certificate, length), model, certificate, length)
-}
-
 fn sheet_bytes<'a, 'b>(model: &'a [u8], certificate: &'a [u8], buffer: &'b mut [u8]) -> Result<&'b [u8], Refusal<'a>> {
     zolkirta::sheet(model, certificate, buffer).map(str::as_bytes)
 }
 
-fn same_sheet(model: &[u8], certificate: &[u8], length: usize) -> (Answer, Vec<u8>) {
-    same_lent(sheet_bytes, sheet(model, certificate, length), model, certificate, length)
-}
+/// The safe calls, each compared with the raw one.
+struct Safe;
 
-fn same_join(first: &[u8], second: &[u8], length: usize) -> (Answer, Vec<u8>) {
-    same_lent(zolkirta::join, join(first, second, length), first, second, length)
-}
-
-fn same_alike(model: &[u8], certificate: &[u8], [count, s, t]: [u32; 3]) -> AlikeAnswer {
-    let said = alike(model, certificate, [count, s, t]);
-    match zolkirta::alike(model, count, certificate, s, t) {
-        Ok(yes) => assert_eq!((said.answer.number, said.alike), (0, yes.into())),
-        Err(refusal) => same_refusal(refusal, said.answer, model, certificate),
+impl Answering for Safe {
+    fn fetch(&self, model: &[u8], state: u32) -> Answer {
+        let answer = Both.fetch(model, state);
+        match zolkirta::fetch(model, state) {
+            Ok(run) => {
+                assert_eq!(answer.number, 0);
+                same_bytes(run, model, answer.stretch_start, answer.stretch_length);
+            }
+            Err(refusal) => same_refusal(refusal, answer, model, &[]),
+        }
+        answer
     }
-    said
+
+    fn lent(&self, call: &str, one: &[u8], other: &[u8], length: usize) -> (Answer, Vec<u8>) {
+        let safe: Call = match call {
+            "judge" => zolkirta::judge,
+            "judge_costs" => zolkirta::judge_costs,
+            "reduce" => zolkirta::reduce,
+            "sheet" => sheet_bytes,
+            "join" => zolkirta::join,
+            _ => panic!("no such call: {call}"),
+        };
+        same_lent(safe, Both.lent(call, one, other, length), one, other, length)
+    }
+
+    fn alike(&self, model: &[u8], certificate: &[u8], [count, s, t]: [u32; 3]) -> AlikeAnswer {
+        let said = Both.alike(model, certificate, [count, s, t]);
+        match zolkirta::alike(model, count, certificate, s, t) {
+            Ok(yes) => assert_eq!((said.answer.number, said.alike), (0, yes.into())),
+            Err(refusal) => same_refusal(refusal, said.answer, model, certificate),
+        }
+        said
+    }
 }
 
 fn same(counts: &mut Counts, model: &[u8], certificate: &[u8], state: u32, blocks: usize, out: usize) {
-    let answer = counts.count(fetch(model, state));
-    match zolkirta::fetch(model, state) {
-        Ok(run) => {
-            assert_eq!(answer.number, 0);
-            same_bytes(run, model, answer.stretch_start, answer.stretch_length);
-        }
-        Err(refusal) => same_refusal(refusal, answer, model, &[]),
-    }
-    counts.count(same_judge(model, certificate, blocks).0);
-    counts.count(same_reduce(model, certificate, out).0);
-    same_sheet(model, certificate, out);
+    counts.count(Safe.fetch(model, state));
+    counts.count(Safe.lent("judge", model, certificate, blocks).0);
+    counts.count(Safe.lent("reduce", model, certificate, out).0);
+    Safe.lent("sheet", model, certificate, out);
 }
 
 /// One of these pairs with a bit of one of its files changed.
@@ -109,14 +111,15 @@ fn one_bit_changed(pairs: &[(Vec<u8>, Vec<u8>)], numbers: &mut Numbers) -> (Vec<
 #[test]
 fn safe_calls_say_what_the_raw_ones_say() {
     let mut counts = Counts::default();
-    for v in vectors() {
-        same(&mut counts, &v.model, &v.certificate, v.argument as u32, v.argument, v.argument);
+    for v in lines().into_iter().filter(|v| matches!(v.call.as_str(), "fetch" | "judge" | "reduce")) {
+        let (number, certificate) = (v.numbers[0].min(20_000), v.files.get(1).map_or(&[][..], Vec::as_slice));
+        same(&mut counts, &v.files[0], certificate, number, number as usize, number as usize);
     }
     let mut numbers = Numbers::new(13);
     let pairs = accepted();
     for _ in 0..20_000 {
         let (model, certificate) = one_bit_changed(&pairs, &mut numbers);
-        same(&mut counts, &model, &certificate, numbers.below(9) as u32, 64, model.len());
+        same(&mut counts, &model, &certificate, numbers.below(9) as u32, STATES, model.len());
     }
     for (number, count) in counts.answers.iter().enumerate() {
         assert!(*count > 0, "no safe call was answered with {number}");
@@ -130,25 +133,17 @@ fn the_safe_call_for_cost_pairs_says_what_the_raw_one_says() {
     let mut told = BTreeSet::new();
     for _ in 0..20_000 {
         let (model, certificate) = one_bit_changed(&pairs, &mut numbers);
-        let length = if numbers.below(8) == 0 { numbers.below(12) } else { 64 };
-        told.insert(same_judge_costs(&model, &certificate, length).0.number);
+        let length = if numbers.below(8) == 0 { numbers.below(12) } else { STATES };
+        told.insert(Safe.lent("judge_costs", &model, &certificate, length).0.number);
     }
     assert!([0, 1, 2, 10, 16, 20, 21, 29, 30].iter().all(|number| told.contains(number)), "{told:?}");
 }
 
 #[test]
-fn safe_calls_give_the_answers_of_requests() {
-    let calls = Calls {
-        judge: same_judge,
-        judge_costs: same_judge_costs,
-        reduce: same_reduce,
-        sheet: same_sheet,
-        join: same_join,
-        alike: same_alike,
-    };
-    let all = requests();
-    all.iter().for_each(|v| v.holds_for(&calls));
-    assert!((1..=3).all(|file| all.iter().any(|v| v.answer.file == file)));
+fn safe_calls_give_the_answers_of_the_vectors() {
+    let all = lines();
+    all.iter().for_each(|v| v.holds_for(&Safe));
+    assert!((1..=3).all(|file| all.iter().any(|v| v.said.0.file == file)));
 }
 
 #[test]

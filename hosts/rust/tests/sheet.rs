@@ -10,7 +10,7 @@ use maker::families::{bytes, flow_heavy, internal_chain, largest, refutation_hea
 use maker::random::random_model;
 use records::{crowded, each_damaged, split, Records};
 use std::collections::BTreeSet;
-use zolkirta::SHEET;
+use zolkirta::{SHEET, STATES};
 
 /// A cell of a line: a number to its right, or none.
 fn cell(line: &str, i: usize) -> Option<usize> {
@@ -45,7 +45,7 @@ fn read(text: &str) -> Vec<(usize, Vec<usize>)> {
 
 /// The sheet of an accepted pair tells its blocks; a buffer one byte shorter is refused.
 fn tells_its_blocks(model: &[u8], certificate: &[u8]) -> usize {
-    let (answer, blocks) = judge(model, certificate, 64);
+    let (answer, blocks) = judge(model, certificate, STATES);
     assert_eq!(answer.number, 0);
     let (answer, written) = sheet(model, certificate, SHEET);
     assert_eq!((answer.number, answer.written), (0, written.len()));
@@ -63,7 +63,9 @@ fn tells_its_blocks(model: &[u8], certificate: &[u8]) -> usize {
 fn a_sheet_tells_the_blocks() {
     let mut numbers = Numbers::new(41);
     let mut lines = BTreeSet::new();
-    let families = [largest(), refutation_heavy(64), flow_heavy(64, 0), flow_heavy(17, 1), internal_chain(64), internal_chain(34)].map(bytes);
+    let large = [largest(), refutation_heavy(128), flow_heavy(128, 0), internal_chain(128)];
+    let small = [refutation_heavy(64), flow_heavy(17, 1), internal_chain(64), internal_chain(34)];
+    let families = large.into_iter().chain(small).map(bytes);
     for (model, certificate) in accepted().into_iter().chain(families) {
         lines.insert(tells_its_blocks(&model, &certificate));
     }
@@ -72,8 +74,8 @@ fn a_sheet_tells_the_blocks() {
         let Some(certificate) = maker::certificate(&model, &mut numbers) else { continue };
         lines.insert(tells_its_blocks(&model.bytes(), &certificate.bytes()));
     }
-    // From one block in a line to 64 blocks; SHEET is the longest.
-    assert!(lines.contains(&1) && lines.contains(&4) && lines.last() == Some(&(SHEET / 73)), "{lines:?}");
+    // From one block in a line to 128 blocks; SHEET is the longest.
+    assert!(lines.contains(&1) && lines.contains(&8) && lines.last() == Some(&(SHEET / 73)), "{lines:?}");
 }
 
 #[test]

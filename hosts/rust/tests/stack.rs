@@ -5,12 +5,13 @@ mod plain;
 
 use compare::{accepted, accepted_costs, judge_costs, Counts};
 use maker::families::{
-    bytes, filled, flow_heavy, flow_heavy_with_costs, internal_chain, largest, one_source, refutation_heavy, tolls, with_costs,
+    bytes, flow_heavy, flow_heavy_with_costs, half, internal_chain, largest, one_source, refutation_heavy, tolls, with_costs,
 };
 use std::arch::asm;
 use zolkirta::raw::{
     zolkirta_alike, zolkirta_fetch, zolkirta_join, zolkirta_judge, zolkirta_judge_costs, zolkirta_reduce, zolkirta_sheet, AlikeAnswer,
 };
+use zolkirta::{MODEL, SHEET, STATES};
 
 /// Several times what a call uses.
 #[repr(align(16))]
@@ -66,20 +67,20 @@ fn stated(name: &str) -> usize {
 #[test]
 fn calls_use_the_stack_that_the_header_states() {
     let mut pairs = accepted();
-    pairs.extend([largest(), one_source(), refutation_heavy(64), flow_heavy(64, 3), internal_chain(64)].map(bytes));
+    pairs.extend([largest(), one_source(), refutation_heavy(128), flow_heavy(128, 3), internal_chain(128)].map(bytes));
     // On the test's own stack first: a loader that binds memcpy and memset at their first call does it here.
     for (model, certificate) in &pairs {
         assert_eq!(Counts::default().pair(model, certificate).number, 0);
     }
     let mut cost_pairs = accepted_costs();
-    let moves_cost = with_costs(internal_chain(64), |_, r| r.action as i64);
-    cost_pairs.extend([with_costs(largest(), |_, _| 63), tolls(64), flow_heavy_with_costs(64), moves_cost].map(bytes));
+    let moves_cost = with_costs(internal_chain(128), |_, r| r.action as i64);
+    cost_pairs.extend([with_costs(largest(), |_, _| 63), tolls(128), flow_heavy_with_costs(128), moves_cost].map(bytes));
     for (model, certificate) in &cost_pairs {
-        assert_eq!(judge_costs(model, certificate, 64).0.number, 0);
+        assert_eq!(judge_costs(model, certificate, STATES).0.number, 0);
     }
-    let half = filled(32).0.bytes();
+    let half = half().0.bytes();
     let joins = [(half.clone(), half)];
-    let mut buffer = vec![0u8; 8192];
+    let mut buffer = vec![0u8; MODEL.max(SHEET)];
     let [lent, room] = [buffer.as_mut_ptr() as usize, buffer.len()];
     let words = |file: &Vec<u8>| (file.as_ptr() as usize, file.len());
     let lending = |(one, other): &(Vec<u8>, Vec<u8>)| -> Words {

@@ -1,26 +1,24 @@
-//! The plain judge gives the answers of document 02's vectors by itself: where it and the library differ, this says which of them is right.
+//! The plain judge gives the answers of the vectors by itself: where it and the library differ, this says which of them is right.
 mod compare;
 mod plain;
 
-use compare::{requests, Calls, PlainLending};
-use plain::Answer;
+use compare::all_lines;
+use plain::{BEFORE_K7, TODAY};
 
-fn lent(call: PlainLending, one: &[u8], other: &[u8], length: usize) -> (Answer, Vec<u8>) {
-    let mut buffer = vec![0; length];
-    let answer = call(one, other, &mut buffer);
-    buffer.truncate(answer.written);
-    (answer, buffer)
-}
-
+/// Every line by the limits that it was written under.
 #[test]
 fn the_plain_judge_gives_the_answers() {
-    let plain = Calls {
-        judge: |model, certificate, length| lent(plain::judge, model, certificate, length),
-        judge_costs: |model, certificate, length| lent(plain::judge_costs, model, certificate, length),
-        reduce: |model, certificate, length| lent(plain::reduce, model, certificate, length),
-        sheet: |model, certificate, length| lent(plain::sheet, model, certificate, length),
-        join: |first, second, length| lent(plain::join, first, second, length),
-        alike: |model, certificate, [count, s, t]| plain::alike(model, count, certificate, s, t),
-    };
-    requests().iter().for_each(|v| v.holds_for(&plain));
+    let all = all_lines();
+    for v in &all {
+        v.holds_for(if v.name == "k7" { &TODAY } else { &BEFORE_K7 });
+    }
+    assert!(all.iter().filter(|v| v.name == "k7").count() > 800 && all.iter().filter(|v| v.name != "k7").count() > 2900);
+}
+
+/// Of the lines from before K7, today's limits change only those that 3, 8, 13 or 25 refuse.
+#[test]
+fn todays_limits_change_few_answers() {
+    for v in all_lines().iter().filter(|v| !v.about_the_limits()) {
+        v.holds_for(&TODAY);
+    }
 }

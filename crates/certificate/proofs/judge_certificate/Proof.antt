@@ -55,7 +55,7 @@ start-requires c κs =
       few-states k,
       omega (arith, part, k .labels, length-take-le (8 + a .n - 8) (drop 8 (a .s .now)) (omega (arith, part, k .labels, length-drop 8 (a .s .now)))),
       labels-small k _ part,
-      c .before .before .no-rows .ensures,
+      c .before .before .no-rows .ensures .whole,
     )
 
 new-requires : tie.Need-new-requires Inv-loop μ-loop

@@ -21,31 +21,19 @@ classes-requires c κs = (omega arith, omega arith, c .before .pre .2)
 loop-holds : tie.Need-loop-holds Inv-loop μ-loop
 loop-holds c = (omega arith, below-none _)
 
-mul-same : tie.Need-mul-same Inv-loop μ-loop
-mul-same c = omega arith
-
-element-copy-out-same : tie.Need-element-copy-out-same Inv-loop μ-loop
-element-copy-out-same c = omega arith
-
 byte-of-requires : tie.Need-byte-of-requires Inv-loop μ-loop
 byte-of-requires c κs = (omega arith, omega arith, c .before .before .before .before .before .pre .2)
 
-mul-same-2 : tie.Need-mul-same-2 Inv-loop μ-loop
-mul-same-2 c = omega arith
-
-array-read-same : tie.Need-array-read-same Inv-loop μ-loop
-array-read-same c = omega arith
-
-same-requires : tie.Need-same-requires Inv-loop μ-loop
-same-requires c κs = tt
+same-in-requires : tie.Need-same-in-requires Inv-loop μ-loop
+same-in-requires c κs = omega arith
 
 returns : tie.Need-returns Inv-loop μ-loop
 returns c =
     let a = c .before .before .before .before .before .before .before .before in
     let v = c .before .before .before .before .before .loop .v in
     let members = c .before .before .before .before .before .before .classes in
-    let same = c .before .same .ensures in
-    agrees-not (members .ensures) (a .pre .2) v _ (omega arith) (omega arith) (same .differ (not-true _ (c .if1 .taken)))
+    let same = c .before .same-in .ensures in
+    agrees-not (members .ensures) (a .pre .2) v _ (omega arith) (omega arith) (λ all. same .differ (not-true _ (c .if1 .taken)) (λ i l. all i))
 
 add-v : tie.Need-add-v Inv-loop μ-loop
 add-v c = omega arith
@@ -56,7 +44,7 @@ loop-less c = omega arith
 loop-again : tie.Need-loop-again Inv-loop μ-loop
 loop-again c =
     let b = c .before .before .before .before .before in
-    let same = c .before .same .ensures in
+    let same = c .before .same-in .ensures in
     (omega arith, same-more (b .before .classes .ensures) (b .before .before .before .args .rows .now) (b .loop .v) (c .before .before .byte-of .result) (b .loop .inv .1) (omega arith) (same .alike (not-false _ (c .if1 .left))))
 
 returns-2 : tie.Need-returns-2 Inv-loop μ-loop
@@ -73,12 +61,8 @@ agrees-spec =
     μ-loop
     classes-requires
     loop-holds
-    mul-same
-    element-copy-out-same
     byte-of-requires
-    mul-same-2
-    array-read-same
-    same-requires
+    same-in-requires
     returns
     add-v
     loop-less

@@ -13,26 +13,17 @@ Inv-loop bytes n rows₀ u₀ rows u = (u ≤ n) × AreClasses bytes u rows
 abbrev μ-loop : tie.MeasureT-loop
 μ-loop bytes n rows₀ u₀ rows u = n - u
 
+no-rows-requires : tie.Need-no-rows-requires Inv-loop μ-loop
+no-rows-requires c κs = tt
+
 loop-holds : tie.Need-loop-holds Inv-loop μ-loop
-loop-holds c = (omega arith, classes-none _)
+loop-holds c = (omega arith, classes-none _ _ (c .no-rows .ensures))
 
 byte-of-requires : tie.Need-byte-of-requires Inv-loop μ-loop
-byte-of-requires c κs = (omega arith, omega arith, c .before .before .before .pre .2)
+byte-of-requires c κs = (omega arith, omega arith, c .before .before .before .before .pre .2)
 
-mul-with : tie.Need-mul-with Inv-loop μ-loop
-mul-with c = omega arith
-
-array-read-with : tie.Need-array-read-with Inv-loop μ-loop
-array-read-with c = omega arith
-
-with-requires : tie.Need-with-requires Inv-loop μ-loop
-with-requires c κs = omega arith
-
-mul-rows : tie.Need-mul-rows Inv-loop μ-loop
-mul-rows c = omega arith
-
-array-write-rows : tie.Need-array-write-rows Inv-loop μ-loop
-array-write-rows c = omega arith
+relate-requires : tie.Need-relate-requires Inv-loop μ-loop
+relate-requires c κs = omega arith
 
 add-u : tie.Need-add-u Inv-loop μ-loop
 add-u c = omega arith
@@ -42,13 +33,13 @@ loop-less c = omega arith
 
 loop-again : tie.Need-loop-again Inv-loop μ-loop
 loop-again c =
-    let l = c .before .before .before .loop in
-    let b = c .before .byte-of in
-    (omega arith, rw (c .with .ensures) (classes-more _ _ _ _ (l .inv .1) (sym (b .ensures .0)) (b .ensures .1)))
+    let l = c .before .before .before .before .loop in
+    let b = c .before .before .byte-of in
+    (omega arith, rw (c .relate .ensures) (classes-more _ _ _ _ (l .inv .1) (sym (b .ensures .0)) (b .ensures .1)))
 
 returns : tie.Need-returns Inv-loop μ-loop
 returns c =
-    let e : c .before .loop .u ≡ c .before .before .before .args .n = omega arith in
+    let e : c .before .loop .u ≡ c .before .before .before .before .args .n = omega arith in
     rw e at (c .before .loop .inv .1)
 
 pub classes-spec : {M : Type 1} → statement M
@@ -57,13 +48,10 @@ classes-spec =
     (tie.spec
     Inv-loop
     μ-loop
+    no-rows-requires
     loop-holds
     byte-of-requires
-    mul-with
-    array-read-with
-    with-requires
-    mul-rows
-    array-write-rows
+    relate-requires
     add-u
     loop-less
     loop-again

@@ -23,17 +23,8 @@ loop-holds c = (omega arith, rows-none _ _ _ (omega arith))
 byte-of-requires : tie.Need-byte-of-requires Inv-loop μ-loop
 byte-of-requires c κs = (omega arith, omega arith, c .before .before .before .before .pre .2)
 
-mul-rows : tie.Need-mul-rows Inv-loop μ-loop
-mul-rows c = omega arith
-
-array-read-rows : tie.Need-array-read-rows Inv-loop μ-loop
-array-read-rows c = omega arith
-
-mul-rows-2 : tie.Need-mul-rows-2 Inv-loop μ-loop
-mul-rows-2 c = omega arith
-
-element-write-rows : tie.Need-element-write-rows Inv-loop μ-loop
-element-write-rows c = omega arith
+copy-row-requires : tie.Need-copy-row-requires Inv-loop μ-loop
+copy-row-requires c κs = omega arith
 
 add-v : tie.Need-add-v Inv-loop μ-loop
 add-v c = omega arith
@@ -43,9 +34,9 @@ loop-less c = omega arith
 
 loop-again : tie.Need-loop-again Inv-loop μ-loop
 loop-again c =
-    let l = c .before .before .loop in
-    let row = c .before .before .before .classes .ensures .row _ (c .byte-of .ensures .1) in
-    (omega arith, rows-more _ _ _ _ _ _ (l .inv .1) (omega arith) (omega arith) row)
+    let l = c .before .before .before .before .before .loop in
+    let row = c .before .before .before .before .before .before .classes .ensures .row _ (c .before .before .before .byte-of .ensures .1) in
+    (omega arith, rw (c .copy-row .ensures) (rows-more _ _ _ _ _ _ (l .inv .1) (omega arith) (omega arith) row))
 
 returns : tie.Need-returns Inv-loop μ-loop
 returns c =
@@ -61,10 +52,7 @@ start-spec =
     classes-requires
     loop-holds
     byte-of-requires
-    mul-rows
-    array-read-rows
-    mul-rows-2
-    element-write-rows
+    copy-row-requires
     add-v
     loop-less
     loop-again

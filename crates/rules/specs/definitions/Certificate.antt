@@ -31,7 +31,7 @@ pub record FileRule : Type 0 where
 unfoldable pub refutationCount : List ℕ → ℕ
 refutationCount C = twoAt C 2
 
--- 'certificate head': 11, 12, and 13, 'count above 2,016'
+-- 'certificate head': 11, 12, and 13, 'count above 2,016'; since document 02, K7, above 8,128
 unfoldable pub certificateHeadFault : Limits → FileRule → List ℕ → Fault
 certificateHeadFault L rule C =
     firstOf (openFault certificateRecord (rule .mark) 4 C 0)

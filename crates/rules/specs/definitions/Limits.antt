@@ -1,4 +1,4 @@
--- The limits of document 01's tables, named once. Every definition of the files takes them as a parameter.
+-- The limits of the papers' tables, named once. Every definition of the files takes them as a parameter.
 use Prim.Native.Nat.{ℕ}
 
 -- the most states, actions, transitions, entries and refutations, and the highest label
@@ -10,6 +10,10 @@ pub record Limits : Type 0 where
   pub refutations : ℕ
   pub label : ℕ
 
--- the limits of document 01
+-- document 02, K7: 'The limits become 128 states, 2,048 entries and 8,128 refutations; transitions stay at 256'
 abbrev pub limits : Limits
-limits = record { states = 64; actions = 32; transitions = 256; entries = 1024; refutations = 2016; label = 63 }
+limits = record { states = 128; actions = 32; transitions = 256; entries = 2048; refutations = 8128; label = 63 }
+
+-- the limits of document 01, which a part from before K7 has
+abbrev pub olderLimits : Limits
+olderLimits = record { states = 64; actions = 32; transitions = 256; entries = 1024; refutations = 2016; label = 63 }

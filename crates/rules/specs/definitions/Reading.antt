@@ -63,7 +63,7 @@ entryCountAt s at = byteAt s (at + 6)
 unfoldable pub afterTransition : List ℕ → ℕ → ℕ
 afterTransition s at = at + 7 + 3 * entryCountAt s at
 
--- 'transition, fixed fields': 5, 'source descends or absent, action absent, d 0, c outside 1 to n'; 8, 'entries so far pass 1,024'.
+-- 'transition, fixed fields': 5, 'source descends or absent, action absent, d 0, c outside 1 to n'; 8, 'entries so far pass 1,024', since K7 2,048.
 -- n, m, the last source and the entries before this record; then the record's fields
 unfoldable pub fixedFault : Limits → (n m last entries : ℕ) → (source action d c : ℕ) → Fault
 fixedFault L n m last entries source action d c =

@@ -12,7 +12,7 @@ no-rows-requires c κs = search needs
 start-requires : tie.Need-start-requires
 start-requires c κs =
     let blocks = c .before .before .before .before .pre in
-    (omega (arith, blocks .few), omega arith, small-blocks _ blocks, c .before .no-rows .ensures)
+    (omega (arith, blocks .few), omega arith, small-blocks _ blocks, c .before .no-rows .ensures .whole)
 
 sheet-length-requires : tie.Need-sheet-length-requires
 sheet-length-requires c κs = search needs

@@ -10,9 +10,10 @@ mod plain;
 mod report;
 
 use compare::Numbers;
-use maker::families::{bytes, filled, flow_heavy, flow_heavy_with_costs, largest, one_source, refutation_heavy};
+use maker::families::{bytes, filled, flow_heavy, flow_heavy_with_costs, half, largest, one_source, refutation_heavy};
 use maker::files::{Certificate, Model};
 use maker::random::random_model;
+use plain::{Limits, TODAY};
 use std::hint::black_box;
 use std::time::{Duration, Instant};
 use zolkirta::raw;
@@ -59,38 +60,39 @@ type Files = (Vec<u8>, Vec<u8>);
 
 fn fetching(length: Duration, model: &[u8], state: u32) -> Times {
     let library = || unsafe { raw::zolkirta_fetch(black_box(model).as_ptr(), model.len(), state) }.number;
-    measured(length, library, || plain::fetch(black_box(model), state).number)
+    measured(length, library, || TODAY.fetch(black_box(model), state).number)
 }
 
 /// The sum over the pairs of a call that lends a buffer, one that is long enough.
 fn lending(length: Duration, library: raw::Lending, plain: compare::PlainLending, pairs: &[Files]) -> Times {
-    let (mut lent, mut lent_plain) = (vec![0; zolkirta::MODEL], vec![0; zolkirta::MODEL]);
+    let room = zolkirta::MODEL.max(zolkirta::SHEET);
+    let (mut lent, mut lent_plain) = (vec![0; room], vec![0; room]);
     let mut proved = |(one, other): &Files| {
         let (one, other) = (black_box(one), black_box(other));
         unsafe { library(one.as_ptr(), one.len(), other.as_ptr(), other.len(), lent.as_mut_ptr(), lent.len()) }.number
     };
-    let mut by_hand = |(one, other): &Files| plain(black_box(one), black_box(other), &mut lent_plain).number;
+    let mut by_hand = |(one, other): &Files| plain(&TODAY, black_box(one), black_box(other), &mut lent_plain).number;
     measured(length, || pairs.iter().map(&mut proved).sum(), || pairs.iter().map(&mut by_hand).sum())
 }
 
 fn judging(length: Duration, pairs: &[Files]) -> Times {
-    lending(length, raw::zolkirta_judge, plain::judge, pairs)
+    lending(length, raw::zolkirta_judge, Limits::judge, pairs)
 }
 
 fn judging_costs(length: Duration, pairs: &[Files]) -> Times {
-    lending(length, raw::zolkirta_judge_costs, plain::judge_costs, pairs)
+    lending(length, raw::zolkirta_judge_costs, Limits::judge_costs, pairs)
 }
 
 fn reducing(length: Duration, pairs: &[Files]) -> Times {
-    lending(length, raw::zolkirta_reduce, plain::reduce, pairs)
+    lending(length, raw::zolkirta_reduce, Limits::reduce, pairs)
 }
 
 fn joining(length: Duration, pairs: &[Files]) -> Times {
-    lending(length, raw::zolkirta_join, plain::join, pairs)
+    lending(length, raw::zolkirta_join, Limits::join, pairs)
 }
 
 fn on_paper(length: Duration, pairs: &[Files]) -> Times {
-    lending(length, raw::zolkirta_sheet, plain::sheet, pairs)
+    lending(length, raw::zolkirta_sheet, Limits::sheet, pairs)
 }
 
 /// State 0 compared with the last one.
@@ -101,7 +103,7 @@ fn comparing(length: Duration, (model, certificate): &Files) -> Times {
         let (pa, ct) = (black_box(model), black_box(certificate));
         said(unsafe { raw::zolkirta_alike(pa.as_ptr(), pa.len(), last, ct.as_ptr(), ct.len(), 0, last) })
     };
-    measured(length, library, || said(plain::alike(black_box(model), last, black_box(certificate), 0, last)))
+    measured(length, library, || said(TODAY.alike(black_box(model), last, black_box(certificate), 0, last)))
 }
 
 /// Accepted pairs of 1 to 10 states, always the same ones.
@@ -138,31 +140,37 @@ pub type Growth = (&'static str, Vec<(usize, Times)>);
 
 fn cases(random: &[Files]) -> Vec<Case> {
     let (length, no_slower, by_a_third) = (Duration::from_millis(400), 1.0, 2.0 / 3.0);
-    let (largest, one_source) = (bytes(largest()), bytes(one_source()));
-    let (refutations, flows) = ([bytes(refutation_heavy(64))], [bytes(flow_heavy(64, 0))]);
-    let (half, paying) = (filled(32).0.bytes(), [bytes(flow_heavy_with_costs(64))]);
+    let (largest, one_source, once_largest) = (bytes(largest()), bytes(one_source()), filled(64, 4, 4).0.bytes());
+    let [refutations, refutations_128] = [64, 128].map(|n| [bytes(refutation_heavy(n))]);
+    let [flows, flows_128] = [64, 128].map(|n| [bytes(flow_heavy(n, 0))]);
+    let [paying, paying_128] = [64, 128].map(|n| [bytes(flow_heavy_with_costs(n))]);
+    let half = half().0.bytes();
     let cut = (largest.0[..1].to_vec(), largest.1.clone());
     let case = |name, times, goal, reason| Case { name, times, goal, reason };
     vec![
-        case("largest model read: fetch, 256 transitions, 1,024 entries; no state 64", fetching(length, &largest.0, 64), no_slower, ""),
+        case("model read: fetch, 64 states, 256 transitions, 1,024 entries; no state 64", fetching(length, &once_largest, 64), no_slower, ""),
+        case("largest model read: fetch, 128 states, 256 transitions, 2,048 entries; no state 128", fetching(length, &largest.0, 128), no_slower, ""),
         case("refusal at the first byte: judge, the model cut after it", judging(length, &[cut]), no_slower, ""),
         case("refutation-heavy: judge, 64 states, 2,016 refutations of 192 prices", judging(length, &refutations), by_a_third, ""),
         case("flow-heavy: judge, 64 states, 16,128 flows of one w entry", judging(length, &flows), by_a_third, ""),
+        case("refutation-heavy: judge, 128 states, 8,128 refutations of 384 prices", judging(length, &refutations_128), by_a_third, ""),
+        case("flow-heavy: judge, 128 states, 32,512 flows of one w entry", judging(length, &flows_128), by_a_third, ""),
         case("random accepted pairs: judge, 300 pairs of 1 to 10 states, sum", judging(length, random), no_slower, ""),
         case("judge_costs, flow-heavy: 64 states, 16,128 flows of one k and one w entry", judging_costs(length, &paying), by_a_third, ""),
+        case("judge_costs, flow-heavy: 128 states, 32,512 flows of one k and one w entry", judging_costs(length, &paying_128), by_a_third, ""),
         case("sheet, the largest model, every state a block", on_paper(length, &[largest.clone()]), no_slower, ""),
         case("reduce, the largest model, every state a block", reducing(length, &[largest]), no_slower, ""),
         case("reduce, 256 different transitions of one state", reducing(length, &[one_source]), no_slower, COMPARED),
-        case("reduce, flow-heavy", reducing(length, &flows), no_slower, ""),
-        case("join, two models of 32 states, 128 transitions, 512 entries", joining(length, &[(half.clone(), half)]), no_slower, ""),
-        case("alike, refutation-heavy: no", comparing(length, &refutations[0]), by_a_third, ""),
-        case("alike, flow-heavy: yes", comparing(length, &flows[0]), by_a_third, ""),
+        case("reduce, flow-heavy, 64 states", reducing(length, &flows), no_slower, ""),
+        case("join, two models of 64 states, 128 transitions, 1,024 entries", joining(length, &[(half.clone(), half)]), no_slower, ""),
+        case("alike, refutation-heavy, 64 states: no", comparing(length, &refutations[0]), by_a_third, ""),
+        case("alike, flow-heavy, 64 states: yes", comparing(length, &flows[0]), by_a_third, ""),
     ]
 }
 
 fn growths() -> Vec<Growth> {
     let of = |family: fn(usize) -> (Model, Certificate)| {
-        let sizes = (8..=64).step_by(8);
+        let sizes = (8..=zolkirta::STATES).step_by(8);
         sizes.map(|n| (n, judging(Duration::from_millis(200), &[bytes(family(n))]))).collect()
     };
     vec![("refutation-heavy", of(refutation_heavy)), ("flow-heavy", of(|n| flow_heavy(n, 0)))]

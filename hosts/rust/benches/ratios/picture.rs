@@ -7,6 +7,9 @@ use std::fmt::Write;
 const WIDTH: f64 = 320.0;
 const HEIGHT: f64 = 220.0;
 
+/// The right end of a panel.
+const STATES: f64 = zolkirta::STATES as f64;
+
 const LIBRARY: &str = "#0b6e4f";
 const PLAIN: &str = "#c2410c";
 
@@ -37,7 +40,7 @@ fn panel(out: &mut String, (left, top): (f64, f64), (name, growth): &Growth) {
     let highest = growth.iter().map(|(_, times)| times.plain.max(times.library) / 1e3).fold(0.0, f64::max);
     let step = step(highest);
     let top_value = (highest / step).ceil() * step;
-    let at = |n: f64, microseconds: f64| (left + n / 64.0 * WIDTH, top + HEIGHT * (1.0 - microseconds / top_value));
+    let at = |n: f64, microseconds: f64| (left + n / STATES * WIDTH, top + HEIGHT * (1.0 - microseconds / top_value));
     text(out, left + WIDTH / 2.0, top - 14.0, "middle", &format!("{name}: microseconds by number of states n"));
     for tick in 0..=(top_value / step).round() as u32 {
         let value = f64::from(tick) * step;
@@ -48,9 +51,11 @@ fn panel(out: &mut String, (left, top): (f64, f64), (name, growth): &Growth) {
     for &(n, _) in growth {
         let (x, y) = at(n as f64, 0.0);
         line(out, (x, y), (x, y + 5.0), "#404040");
-        text(out, x, y + 19.0, "middle", &n.to_string());
+        if n % 16 == 0 {
+            text(out, x, y + 19.0, "middle", &n.to_string());
+        }
     }
-    line(out, at(0.0, 0.0), at(64.0, 0.0), "#404040");
+    line(out, at(0.0, 0.0), at(STATES, 0.0), "#404040");
     line(out, at(0.0, 0.0), at(0.0, top_value), "#404040");
     let points = |of: fn(&Times) -> f64| -> Vec<(f64, f64)> { growth.iter().map(|(n, times)| at(*n as f64, of(times) / 1e3)).collect() };
     curve(out, &points(|times| times.plain), PLAIN);

@@ -35,11 +35,12 @@ fn missed(out: &mut String, cases: &[Case]) {
 fn beside_c(out: &mut String, cases: &[Case]) {
     *out += "\n## Beside a C judge\n\n| | C judge, measured elsewhere | library, this run |\n|---|---|---|\n";
     for (name, c, case, count) in [
-        ("largest model read", "2.2 µs", 0, 1.0),
-        ("one refutation of 192 prices", "1.25 µs", 2, 2016.0),
-        ("one flow with one w entry", "8 to 10 ns", 3, 16_128.0),
+        ("model of 64 states, 256 transitions, 1,024 entries read", "2.2 µs", "model read: ", 1.0),
+        ("one refutation of 192 prices", "1.25 µs", "refutation-heavy: judge, 64 states", 2016.0),
+        ("one flow with one w entry, 64 states", "8 to 10 ns", "flow-heavy: judge, 64 states", 16_128.0),
     ] {
-        writeln!(out, "| {name} | {c} | {} |", shown(cases[case].times.library / count)).unwrap();
+        let case = cases.iter().find(|other| other.name.starts_with(case)).expect("a case of this name");
+        writeln!(out, "| {name} | {c} | {} |", shown(case.times.library / count)).unwrap();
     }
     *out += "\nThe C figures were given as a goal: to be within 1.2 times of them. They come from another machine, so the columns make no\n\
         measured ratio.\n";

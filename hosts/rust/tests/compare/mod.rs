@@ -1,11 +1,11 @@
 //! The library beside the plain judge: the same answer and the same bytes in every lent buffer and around it, or the pair in hex.
 #![allow(dead_code)] // each test file uses its own part
 
-use crate::plain::{self, AlikeAnswer, Answer, Broken, Rule};
+use crate::plain::{self, AlikeAnswer, Answer, Broken, Limits, Rule, BEFORE_K7, TODAY};
 use std::cmp::Ordering;
 use std::collections::{BTreeSet, HashMap};
 use std::fmt;
-use zolkirta::raw;
+use zolkirta::{raw, STATES};
 
 /// Guard bytes before and after every lent buffer.
 const GUARD: usize = 16;
@@ -28,19 +28,32 @@ pub fn bytes(hex: &str) -> Vec<u8> {
 /// Fetches by both and compares.
 pub fn fetch(model: &[u8], state: u32) -> Answer {
     let library = unsafe { raw::zolkirta_fetch(model.as_ptr(), model.len(), state) };
-    let plain = plain::fetch(model, state);
+    let plain = TODAY.fetch(model, state);
     assert!(library == plain, "fetch of state {state}\nlibrary {library:?}\nplain   {plain:?}\nmodel {}", hex(model));
     plain
 }
 
-pub type PlainLending = fn(&[u8], &[u8], &mut [u8]) -> Answer;
+pub type PlainLending = fn(&Limits, &[u8], &[u8], &mut [u8]) -> Answer;
+
+/// The calls that lend a buffer, by name: the library's and the plain judge's.
+fn lending(name: &str) -> (raw::Lending, PlainLending) {
+    match name {
+        "judge" => (raw::zolkirta_judge, Limits::judge),
+        "judge_costs" => (raw::zolkirta_judge_costs, Limits::judge_costs),
+        "reduce" => (raw::zolkirta_reduce, Limits::reduce),
+        "sheet" => (raw::zolkirta_sheet, Limits::sheet),
+        "join" => (raw::zolkirta_join, Limits::join),
+        _ => panic!("no such call: {name}"),
+    }
+}
 
 /// Calls both with two files and a lent buffer of this length and compares answers, buffers and guard bytes. Hands back what was written.
-fn lent(name: &str, call: raw::Lending, plain_call: PlainLending, one: &[u8], other: &[u8], length: usize) -> (Answer, Vec<u8>) {
+fn lent(name: &str, one: &[u8], other: &[u8], length: usize) -> (Answer, Vec<u8>) {
+    let (call, plain_call) = lending(name);
     let before: Vec<u8> = (0..length + 2 * GUARD).map(|i| (i * 89 + 165) as u8).collect();
     let (mut left, mut right) = (before.clone(), before.clone());
     let library = unsafe { call(one.as_ptr(), one.len(), other.as_ptr(), other.len(), left[GUARD..].as_mut_ptr(), length) };
-    let plain = plain_call(one, other, &mut right[GUARD..GUARD + length]);
+    let plain = plain_call(&TODAY, one, other, &mut right[GUARD..GUARD + length]);
     let silent = plain.number == 0 || right == before;
     assert!(
         library == plain && left == right && silent,
@@ -56,34 +69,34 @@ fn lent(name: &str, call: raw::Lending, plain_call: PlainLending, one: &[u8], ot
 
 /// Judges by both and compares.
 pub fn judge(model: &[u8], certificate: &[u8], length: usize) -> (Answer, Vec<u8>) {
-    lent("judge", raw::zolkirta_judge, plain::judge, model, certificate, length)
+    lent("judge", model, certificate, length)
 }
 
 /// Judges a cost pair by both and compares.
 pub fn judge_costs(model: &[u8], certificate: &[u8], length: usize) -> (Answer, Vec<u8>) {
-    lent("judge_costs", raw::zolkirta_judge_costs, plain::judge_costs, model, certificate, length)
+    lent("judge_costs", model, certificate, length)
 }
 
 /// Reduces by both and compares.
 pub fn reduce(model: &[u8], certificate: &[u8], length: usize) -> (Answer, Vec<u8>) {
-    lent("reduce", raw::zolkirta_reduce, plain::reduce, model, certificate, length)
+    lent("reduce", model, certificate, length)
 }
 
 /// Writes the sheet by both and compares.
 pub fn sheet(model: &[u8], certificate: &[u8], length: usize) -> (Answer, Vec<u8>) {
-    lent("sheet", raw::zolkirta_sheet, plain::sheet, model, certificate, length)
+    lent("sheet", model, certificate, length)
 }
 
 /// Joins by both and compares.
 pub fn join(first: &[u8], second: &[u8], length: usize) -> (Answer, Vec<u8>) {
-    lent("join", raw::zolkirta_join, plain::join, first, second, length)
+    lent("join", first, second, length)
 }
 
 /// Asks both for a first count and two states, and compares.
 pub fn alike(model: &[u8], certificate: &[u8], [count, s, t]: [u32; 3]) -> AlikeAnswer {
     let (m, c) = (model.as_ptr(), certificate.as_ptr());
     let library = unsafe { raw::zolkirta_alike(m, model.len(), count, c, certificate.len(), s, t) };
-    let plain = plain::alike(model, count, certificate, s, t);
+    let plain = TODAY.alike(model, count, certificate, s, t);
     let files = || [model, certificate].map(hex).join(" ");
     assert!(library == plain, "alike of {s} and {t}, first count {count}\nlibrary {library:?}\nplain   {plain:?}\nfiles {}", files());
     plain
@@ -94,7 +107,7 @@ pub type Kind = (Broken, Ordering);
 
 /// The kind of an answer for a pair that was judged by a rule; none for other numbers.
 pub fn kind_by(rule: Rule, answer: Answer, model: &[u8], certificate: &[u8]) -> Option<Kind> {
-    let broken = || plain::broken(rule, model, certificate).expect("a state and a remainder").0;
+    let broken = || TODAY.broken(rule, model, certificate).expect("a state and a remainder").0;
     matches!(answer.number, 16 | 20 | 21).then(|| (broken(), answer.remainder.cmp(&0)))
 }
 
@@ -138,7 +151,7 @@ impl Counts {
 
     /// Sends a pair through the three calls, with buffers that are long enough. Hands back what judging answers.
     pub fn pair(&mut self, model: &[u8], certificate: &[u8]) -> Answer {
-        self.pair_with(model, certificate, 64, model.len(), 0)
+        self.pair_with(model, certificate, STATES, model.len(), 0)
     }
 
     /// Sends every truncation of both files through.
@@ -177,26 +190,9 @@ impl fmt::Display for Counts {
     }
 }
 
-/// One line of the vectors.
-pub struct Vector {
-    pub line: String,
-    pub call: String,
-    pub argument: usize,
-    pub model: Vec<u8>,
-    pub certificate: Vec<u8>,
-    pub answer: Answer,
-    pub out: Vec<u8>,
-}
-
-/// The fields of every line of a file of vectors.
-fn lines(name: &str) -> Vec<(String, Vec<String>)> {
-    let text = std::fs::read_to_string(format!("{}/../../vectors/{name}.txt", env!("CARGO_MANIFEST_DIR"))).unwrap();
-    text.lines().map(|line| (line.into(), line.split(' ').map(String::from).collect())).collect()
-}
-
 /// The answer of a line: five fields from its number to the start of a run, a state and a remainder where it has them, and the bytes
 /// written.
-fn answer(fields: &[String], fetched: bool, out: &[u8]) -> Answer {
+fn answer(fields: &[&str], fetched: bool, out: &[u8]) -> Answer {
     let [number, file, place, stretch_length, run] = [0, 1, 2, 3, 4].map(|i| fields[i].parse().unwrap());
     // A run's start stands in its own field; a stretch starts at its place, and one without a file at 0.
     let stretch_start = if fetched && number == 0 { run } else { place };
@@ -207,25 +203,9 @@ fn answer(fields: &[String], fetched: bool, out: &[u8]) -> Answer {
     Answer { number: number as u32, file: file as u32, place, stretch_start, stretch_length, written: out.len(), state, remainder }
 }
 
-/// An answer as the vectors from before K2 have it, which tell no state and no remainder.
-pub fn before_k2(answer: Answer) -> Answer {
-    match answer.number {
-        16 | 20 | 21 => Answer { state: 0, remainder: 0, ..answer },
-        _ => answer,
-    }
-}
-
-/// A line that reduces: its files, the length of its buffer, and what it must get.
-struct Reduced<'a> {
-    files: [&'a [u8]; 2],
-    length: usize,
-    answer: &'a mut Answer,
-    out: &'a mut Vec<u8>,
-}
-
 /// A merged model from before K3 without the transitions that are the same as an earlier one of their block as fractions.
 fn as_fractions(merged: &[u8]) -> Vec<u8> {
-    let model = plain::read(Rule::Plain, merged).ok().expect("a merged model");
+    let model = plain::read(&BEFORE_K7, Rule::Plain, merged).ok().expect("a merged model");
     let ends = model.transitions.iter().skip(1).map(|r| r.place).chain([merged.len()]);
     let mut out = merged[..8 + model.n()].to_vec();
     let mut kept: Vec<&plain::Transition> = Vec::new();
@@ -241,144 +221,164 @@ fn as_fractions(merged: &[u8]) -> Vec<u8> {
     out
 }
 
-/// What lines from before K3 must get since: the merged file is that of K3, and a buffer that was shorter than the old one may hold it. Hands
-/// back which of them still tell something: 23 for files that no line has the merged file of does not.
-fn since_k3(lines: Vec<Reduced>) -> Vec<bool> {
-    let accepted = lines.iter().filter(|line| line.answer.number == 0);
-    let merged: HashMap<_, _> = accepted.map(|line| (line.files.map(<[u8]>::to_vec), as_fractions(line.out))).collect();
-    let told = |line: Reduced| {
-        let Some(file) = merged.get(&line.files.map(<[u8]>::to_vec)) else { return line.answer.number != 23 };
-        if file.len() <= line.length {
-            *line.answer = Answer { written: file.len(), ..Answer::default() };
-            line.out.clone_from(file);
-        }
-        true
-    };
-    lines.into_iter().map(told).collect()
-}
-
-impl Vector {
-    fn reduced(&mut self) -> Reduced<'_> {
-        Reduced { files: [&self.model, &self.certificate], length: self.argument, answer: &mut self.answer, out: &mut self.out }
-    }
-}
-
-pub fn vectors() -> Vec<Vector> {
-    let mut all: Vec<Vector> = lines("base")
-        .into_iter()
-        .map(|(line, field)| {
-            let out = bytes(&field[9]);
-            Vector {
-                line,
-                argument: field[1].parse().unwrap(),
-                model: bytes(&field[2]),
-                certificate: bytes(&field[3]),
-                answer: answer(&field[4..9], field[0] == "fetch", &out),
-                call: field[0].clone(),
-                out,
-            }
-        })
-        .collect();
-    let reducing = all.iter_mut().filter(|v| v.call == "reduce");
-    let mut told = since_k3(reducing.map(Vector::reduced).collect()).into_iter();
-    all.retain(|v| v.call != "reduce" || told.next() == Some(true));
-    all
-}
-
-/// One line of the vectors of a request of document 02.
-pub struct Request {
-    pub line: String,
-    name: &'static str,
+/// One line of the vectors: a call with its numbers and files, and what it must get.
+#[derive(Clone)]
+pub struct Line {
+    pub text: String,
+    /// The file of vectors that it stands in.
+    pub name: &'static str,
     pub call: String,
     pub numbers: Vec<u32>,
     pub files: Vec<Vec<u8>>,
-    pub answer: Answer,
-    pub yes: u32,
-    pub outs: Vec<Vec<u8>>,
+    pub said: Said,
 }
 
-pub fn requests() -> Vec<Request> {
-    let named = ["k1", "k2", "k3", "k4", "k6"].into_iter().flat_map(|name| lines(name).into_iter().map(move |line| (name, line)));
-    let mut all: Vec<Request> = named
-        .map(|(name, (line, field))| {
-            let outs: Vec<Vec<u8>> = field[11].split(',').map(bytes).collect();
-            Request {
-                line,
-                name,
-                numbers: field[1].split(',').map(|number| number.parse().unwrap()).collect(),
-                files: field[2].split(',').map(bytes).collect(),
-                answer: answer(&field[3..10], false, &outs[0]),
-                yes: field[10].parse().unwrap(),
-                call: field[0].clone(),
-                outs,
-            }
-        })
-        .collect();
-    let before_k3 = |v: &Request| v.name == "k2" && v.call == "reduce";
-    let mut told = since_k3(all.iter_mut().filter(|v| before_k3(v)).map(Request::reduced).collect()).into_iter();
-    all.retain(|v| !before_k3(v) || told.next() == Some(true));
-    all
+/// What a call says: its answer, 1 for yes, and the bytes that it wrote.
+pub type Said = (Answer, u32, Vec<u8>);
+
+/// Who answers a line: the plain judge at some limits, both, or the safe calls.
+pub trait Answering {
+    fn fetch(&self, model: &[u8], state: u32) -> Answer;
+    /// A call, by its name, with two files and a lent buffer of this length, and what it writes there.
+    fn lent(&self, call: &str, one: &[u8], other: &[u8], length: usize) -> (Answer, Vec<u8>);
+    fn alike(&self, model: &[u8], certificate: &[u8], named: [u32; 3]) -> AlikeAnswer;
 }
 
-/// A call with two files and a lent buffer of this length, and what it writes there.
-pub type Lent = fn(&[u8], &[u8], usize) -> (Answer, Vec<u8>);
-
-/// The calls of document 02's vectors.
-pub struct Calls {
-    pub judge: Lent,
-    pub judge_costs: Lent,
-    pub reduce: Lent,
-    pub sheet: Lent,
-    pub join: Lent,
-    pub alike: fn(&[u8], &[u8], [u32; 3]) -> AlikeAnswer,
-}
-
-/// By both, which are compared.
-pub const BOTH: Calls = Calls { judge, judge_costs, reduce, sheet, join, alike };
-
-impl Request {
-    fn reduced(&mut self) -> Reduced<'_> {
-        let files = [&self.files[0][..], &self.files[1]];
-        Reduced { files, length: self.numbers[0] as usize, answer: &mut self.answer, out: &mut self.outs[0] }
+/// The plain judge by itself.
+impl Answering for Limits {
+    fn fetch(&self, model: &[u8], state: u32) -> Answer {
+        self.fetch(model, state)
     }
 
-    /// Makes the line's call by one of these, and compares what it says with the line.
-    pub fn holds_for(&self, calls: &Calls) {
-        let lent = |call: Lent, one: &[u8], other: &[u8], length: u32| {
-            let (answer, out) = call(one, other, length as usize);
-            (answer, 0, out)
+    fn lent(&self, call: &str, one: &[u8], other: &[u8], length: usize) -> (Answer, Vec<u8>) {
+        let mut buffer = vec![0; length];
+        let answer = lending(call).1(self, one, other, &mut buffer);
+        buffer.truncate(answer.written);
+        (answer, buffer)
+    }
+
+    fn alike(&self, model: &[u8], certificate: &[u8], [count, s, t]: [u32; 3]) -> AlikeAnswer {
+        self.alike(model, count, certificate, s, t)
+    }
+}
+
+/// The library and the plain judge at today's limits, which are compared.
+pub struct Both;
+
+impl Answering for Both {
+    fn fetch(&self, model: &[u8], state: u32) -> Answer {
+        fetch(model, state)
+    }
+
+    fn lent(&self, call: &str, one: &[u8], other: &[u8], length: usize) -> (Answer, Vec<u8>) {
+        lent(call, one, other, length)
+    }
+
+    fn alike(&self, model: &[u8], certificate: &[u8], named: [u32; 3]) -> AlikeAnswer {
+        alike(model, certificate, named)
+    }
+}
+
+impl Line {
+    /// A line of base.txt or, with further fields, of a request.
+    fn new(name: &'static str, text: &str) -> Line {
+        let field: Vec<&str> = text.split(' ').collect();
+        let (files, fields, yes, out) = match field[..] {
+            ["fetch", _, model, .., out] if name == "base" => (vec![model], &field[4..9], 0, out),
+            [_, _, model, certificate, .., out] if name == "base" => (vec![model, certificate], &field[4..9], 0, out),
+            [_, _, files, .., yes, out] => (files.split(',').collect(), &field[3..10], yes.parse().unwrap(), out),
+            _ => panic!("no line of {name}: {text}"),
         };
-        let (answer, yes, out) = match (self.call.as_str(), &self.numbers[..], &self.files[..]) {
-            ("judge", &[length], [model, certificate]) => lent(calls.judge, model, certificate, length),
-            ("judge_costs", &[length], [model, certificate]) => lent(calls.judge_costs, model, certificate, length),
-            ("reduce", &[length], [model, certificate]) => lent(calls.reduce, model, certificate, length),
-            ("sheet", &[length], [model, certificate]) => lent(calls.sheet, model, certificate, length),
-            ("join", &[length], [first, second]) => lent(calls.join, first, second, length),
-            ("alike", &[count, s, t], [model, certificate]) => {
-                let said = (calls.alike)(model, certificate, [count, s, t]);
+        let out = bytes(out);
+        Line {
+            text: text.into(),
+            name,
+            call: field[0].into(),
+            numbers: field[1].split(',').map(|number| number.parse().unwrap()).collect(),
+            files: files.into_iter().map(bytes).collect(),
+            said: (answer(fields, field[0] == "fetch", &out), yes, out),
+        }
+    }
+
+    pub fn number(&self) -> u32 {
+        self.said.0.number
+    }
+
+    /// What is said to the line, as far as its file tells it: before K2 no state and no remainder.
+    pub fn said_by(&self, calls: &impl Answering) -> Said {
+        let (mut answer, yes, out) = match (&self.numbers[..], &self.files[..]) {
+            (&[state], [model]) if self.call == "fetch" => (calls.fetch(model, state), 0, Vec::new()),
+            (&[length], [one, other]) => {
+                let (answer, out) = calls.lent(&self.call, one, other, length as usize);
+                (answer, 0, out)
+            }
+            (&[count, s, t], [model, certificate]) if self.call == "alike" => {
+                let said = calls.alike(model, certificate, [count, s, t]);
                 (said.answer, said.alike, Vec::new())
             }
-            _ => panic!("no such call: {}", self.line),
+            _ => panic!("no such call: {}", self.text),
         };
-        let answer = if self.name == "k1" { before_k2(answer) } else { answer };
-        assert_eq!((answer, yes, vec![out]), (self.answer, self.yes, self.outs.clone()), "{}", self.line);
+        if matches!(self.name, "base" | "k1") && matches!(answer.number, 16 | 20 | 21) {
+            (answer.state, answer.remainder) = (0, 0);
+        }
+        (answer, yes, out)
+    }
+
+    /// Whether the line is about the limits from before K7: one of the four numbers that go by them refuses it, and by today's limits the
+    /// plain judge says something else. That it says the line's own answer by the older ones is a test of its own.
+    pub fn about_the_limits(&self) -> bool {
+        self.name != "k7" && matches!(self.number(), 3 | 8 | 13 | 25) && self.said_by(&TODAY) != self.said
+    }
+
+    /// Asks and compares with the line.
+    pub fn holds_for(&self, calls: &impl Answering) {
+        assert_eq!(self.said_by(calls), self.said, "{}: {}", self.name, self.text);
+    }
+
+    fn reduces_before_k3(&self) -> bool {
+        self.call == "reduce" && matches!(self.name, "base" | "k2")
+    }
+
+    /// The line with what it must get since K3, by the merged files of its own file of vectors: one of K3, which a buffer that was shorter
+    /// than the old one may hold. None where it has 23 and no line has the merged file.
+    fn since_k3(mut self, merged: &HashMap<Vec<Vec<u8>>, Vec<u8>>) -> Option<Line> {
+        if !self.reduces_before_k3() {
+            return Some(self);
+        }
+        let Some(file) = merged.get(&self.files) else { return (self.number() != 23).then_some(self) };
+        if file.len() <= self.numbers[0] as usize {
+            self.said = (Answer { written: file.len(), ..Answer::default() }, 0, file.clone());
+        }
+        Some(self)
     }
 }
 
-/// The accepted pairs of the vectors.
-pub fn accepted() -> Vec<(Vec<u8>, Vec<u8>)> {
-    let accepted = vectors().into_iter().filter(|v| v.call != "fetch" && matches!(v.answer.number, 0 | 23));
-    once_each(accepted.map(|v| (v.model, v.certificate)).collect())
+/// The files of vectors, in the order in which they came.
+pub const NAMES: [&str; 7] = ["base", "k1", "k2", "k3", "k4", "k6", "k7"];
+
+/// The lines of a file of vectors.
+fn lines_of(name: &'static str) -> Vec<Line> {
+    let text = std::fs::read_to_string(format!("{}/../../vectors/{name}.txt", env!("CARGO_MANIFEST_DIR"))).unwrap();
+    let all: Vec<Line> = text.lines().map(|line| Line::new(name, line)).collect();
+    let accepted = all.iter().filter(|v| v.reduces_before_k3() && v.number() == 0);
+    let merged = accepted.map(|v| (v.files.clone(), as_fractions(&v.said.2))).collect();
+    all.into_iter().filter_map(|v| v.since_k3(&merged)).collect()
 }
 
-/// The accepted cost pairs of the vectors.
-pub fn accepted_costs() -> Vec<(Vec<u8>, Vec<u8>)> {
-    let accepted = requests().into_iter().filter(|v| v.call == "judge_costs" && v.answer.number == 0);
-    once_each(accepted.map(|mut v| (v.files.remove(0), v.files.remove(0))).collect())
+/// All lines, with what they must get by the limits that they were written under.
+pub fn all_lines() -> Vec<Line> {
+    NAMES.into_iter().flat_map(lines_of).collect()
 }
 
-/// Pairs with the shorter ones first, each once and at most three for one model.
-fn once_each(mut pairs: Vec<(Vec<u8>, Vec<u8>)>) -> Vec<(Vec<u8>, Vec<u8>)> {
+/// The lines that are not about the older limits, with what they must get.
+pub fn lines() -> Vec<Line> {
+    all_lines().into_iter().filter(|v| !v.about_the_limits()).collect()
+}
+
+/// The pairs of some lines, the shorter ones first, each once and at most three for one model.
+fn pairs_of(told: impl Fn(&Line) -> bool) -> Vec<(Vec<u8>, Vec<u8>)> {
+    let told = lines().into_iter().filter(|v| told(v));
+    let mut pairs: Vec<_> = told.map(|mut v| (v.files.remove(0), v.files.remove(0))).collect();
     pairs.sort_by_key(|(model, certificate)| (model.len() + certificate.len(), model.clone(), certificate.clone()));
     pairs.dedup();
     let mut of_model = HashMap::new();
@@ -388,6 +388,17 @@ fn once_each(mut pairs: Vec<(Vec<u8>, Vec<u8>)>) -> Vec<(Vec<u8>, Vec<u8>)> {
         *count <= 3
     });
     pairs
+}
+
+/// The accepted pairs of base.txt and k7.txt.
+pub fn accepted() -> Vec<(Vec<u8>, Vec<u8>)> {
+    let judged = |v: &Line| matches!(v.call.as_str(), "judge" | "reduce") && matches!(v.number(), 0 | 23);
+    pairs_of(|v| matches!(v.name, "base" | "k7") && judged(v))
+}
+
+/// The accepted cost pairs of the vectors.
+pub fn accepted_costs() -> Vec<(Vec<u8>, Vec<u8>)> {
+    pairs_of(|v| v.call == "judge_costs" && v.number() == 0)
 }
 
 /// A seeded generator of numbers; a test that fails says its seed.

@@ -1,33 +1,51 @@
-//! Structured pairs up to 64 states, certificates by formula.
+//! Structured pairs up to 128 states, certificates by formula, and larger pairs made of small ones.
 
-use super::files::{Certificate, Flow, Model, Prices, Refutation, Transition};
+use super::files::{by_appearance, reordered, Certificate, Flow, Model, Prices, Refutation, Transition};
+use super::random::random_model;
+use super::{certificate, shuffle, Numbers};
+use crate::plain::{TODAY, TRANSITIONS};
 
 /// The two files of a pair.
 pub fn bytes((model, certificate): (Model, Certificate)) -> (Vec<u8>, Vec<u8>) {
     (model.bytes(), certificate.bytes())
 }
 
-/// The most that a model may have: 64 states, 256 transitions, 1,024 entries. Every label is another, so every state is a block.
+/// The most that a model may have: 128 states, 256 transitions, 2,048 entries. Every state is a block.
 pub fn largest() -> (Model, Certificate) {
-    filled(64)
+    filled(128, 2, 8)
 }
 
-/// States with another label each, and four transitions of four entries from each of them.
-pub fn filled(n: usize) -> (Model, Certificate) {
-    let weights = |q: usize| (0..4).map(|e| (q / 4 % (n / 4) * 4 + e, 1)).collect();
-    let transitions = (0..4 * n).map(|q| Transition { source: q / 4, action: q % 32, d: 4, weights: weights(q), cost: 0 }).collect();
-    labelled_apart(n, 32, transitions)
+/// The first half of it, 64 states, 128 transitions, 1,024 entries, every label another: two of them fill the limits together.
+pub fn half() -> (Model, Certificate) {
+    filled(64, 2, 8)
+}
+
+/// States with so many transitions of so many entries each. Every state is a block: the 64 labels are given in turn, and of two states that
+/// share one the later is refuted, which must have no move of the earlier one's first action.
+pub fn filled(n: usize, each: usize, entries: usize) -> (Model, Certificate) {
+    let action = |q: usize| 1 + q % 31;
+    let weights = |q: usize| (0..entries).map(|e| (q / each % (n / entries) * entries + e, 1)).collect();
+    let filling = |q: usize| Transition { source: q / each, action: action(q), d: entries as i64, weights: weights(q), cost: 0 };
+    let refuted = |t: usize| {
+        let challenger = each * (t - 64);
+        let moves = |v: usize| (each * v..each * v + each).any(|q| action(q) == action(challenger));
+        Refutation::new(challenger, t, vec![(0..n).map(|v| i32::from(moves(v))).collect(), vec![1; n], vec![1; n]])
+    };
+    let model = Model::new((0..n).map(|v| v as u8 % 64).collect(), 32, (0..each * n).map(filling).collect());
+    (model, Certificate::new((64..n).map(refuted).collect(), (0..n as u8).collect(), Vec::new()))
+}
+
+/// States without transitions, whose labels are their blocks.
+pub fn still(blocks: &[u8]) -> (Model, Certificate) {
+    (Model::new(blocks.to_vec(), 1, Vec::new()), Certificate::new(Vec::new(), by_appearance(blocks), Vec::new()))
 }
 
 /// 64 states of which one has 256 transitions, no two the same, that differ in their last two weights alone.
 pub fn one_source() -> (Model, Certificate) {
     let weights = |q: i64| vec![(0, 1), (1, 1), (2, 1 + q), (3, 300 - q)];
-    labelled_apart(64, 1, (0..256).map(|q| Transition { source: 0, action: 0, d: 303, weights: weights(q), cost: 0 }).collect())
-}
-
-fn labelled_apart(n: usize, m: usize, transitions: Vec<Transition>) -> (Model, Certificate) {
-    let states: Vec<u8> = (0..n as u8).collect();
-    (Model::new(states.clone(), m, transitions), Certificate::new(Vec::new(), states, Vec::new()))
+    let transitions = (0..256).map(|q| Transition { source: 0, action: 0, d: 303, weights: weights(q), cost: 0 }).collect();
+    let (apart, certificate) = still(&(0..64).collect::<Vec<u8>>());
+    (Model { transitions, ..apart }, certificate)
 }
 
 /// A chain whose states each have an internal self loop and move to the one below, so no two are alike: every pair is refuted.
@@ -45,14 +63,15 @@ pub fn refutation_heavy(n: usize) -> (Model, Certificate) {
     (Model::new(vec![0; n], 2, transitions), Certificate::new(refutations, (0..n as u8).collect(), Vec::new()))
 }
 
-/// Every state moves to state 0, at a cost of its own: costs alone tell two apart. A dearer challenger is refuted by L 1, a cheaper one by
-/// L -1, and the two take turns.
+/// Every state moves to state 0, at a cost that of its label it has alone: costs tell two apart. A dearer challenger is refuted by L 1, a
+/// cheaper one by L -1, and the two take turns.
 pub fn tolls(n: usize) -> (Model, Certificate) {
-    let model = Model::new(vec![0; n], 2, (0..n).map(|s| Transition::step(s, 1, 0)).collect()).with_costs(|s, _| s as i64);
+    let labels = (0..n).map(|s| (s / 64) as u8).collect();
+    let model = Model::new(labels, 2, (0..n).map(|s| Transition::step(s, 1, 0)).collect()).with_costs(|s, _| s as i64 % 64);
     let mut refutations = Vec::new();
-    for (t, s) in (0..n).flat_map(|t| (t + 1..n).map(move |s| (t, s))) {
+    for (t, s) in (0..n).flat_map(|t| (t + 1..n).map(move |s| (t, s))).filter(|(t, s)| t / 64 == s / 64) {
         let (challenger, defender, l) = if (s + t) % 2 == 0 { (s, t, 1) } else { (t, s, -1) };
-        let a = (0..n as i32).map(|v| l * v).collect();
+        let a = (0..n as i32).map(|v| l * (v % 64)).collect();
         refutations.push(Refutation::new(challenger, defender, vec![a, vec![0; n], vec![0; n]]).with_l(l));
     }
     let apart = Certificate::new(Vec::new(), (0..n as u8).collect(), Vec::new());
@@ -125,10 +144,14 @@ pub fn internal_chain(n: usize) -> (Model, Certificate) {
     (Model::new(vec![0; n], 2, transitions), Certificate::new(refutations, blocks, flows))
 }
 
+fn entries(model: &Model) -> usize {
+    model.transitions.iter().map(|r| r.weights.len()).sum()
+}
+
 /// How often a model may have every state, by the limits.
 pub fn most_copies(model: &Model) -> usize {
-    let entries: usize = model.transitions.iter().map(|r| r.weights.len()).sum();
-    (64 / model.n()).min(256 / model.transitions.len().max(1)).min(1024 / entries.max(1))
+    let most = [(TODAY.states, model.n()), (TRANSITIONS, model.transitions.len()), (TODAY.entries, entries(model))];
+    most.map(|(limit, size)| limit / size.max(1)).into_iter().min().unwrap()
 }
 
 /// Every state k times, the copies of a state standing together and copy i leading to copies i: the prices of a state are those of all its
@@ -141,8 +164,7 @@ pub fn copies(model: &Model, certificate: &Certificate, k: usize) -> (Model, Cer
         for i in 0..k {
             for (q, r) in model.transitions.iter().enumerate().filter(|(_, r)| r.source == s) {
                 place[q][i] = transitions.len();
-                let weights = r.weights.iter().map(|&(v, p)| (v * k + i, p)).collect();
-                transitions.push(Transition { source: s * k + i, weights, ..*r });
+                transitions.push(r.moved(|v| v * k + i));
             }
         }
     }
@@ -156,30 +178,81 @@ pub fn copies(model: &Model, certificate: &Certificate, k: usize) -> (Model, Cer
     }
 
     // The flows of a pair of states, one for each transition of the first.
-    let mut given = certificate.flows.iter();
     let mut between = vec![vec![Vec::new(); n]; n];
-    for (s, t) in (0..n).flat_map(|s| (0..n).map(move |t| (s, t))) {
-        for (q, r) in model.transitions.iter().enumerate().filter(|(_, r)| r.source == s) {
-            if s == t {
-                let own = (u8::from(r.action > 0), q);
-                let ws = r.weights.iter().map(|&(u, p)| ((u, u), p as u32)).collect();
-                between[s][t].push(Flow { d: r.d as u32, ks: vec![(own, 1)], ws });
-            } else if certificate.blocks[s] == certificate.blocks[t] {
-                between[s][t].push(given.next().expect("a flow for each question").clone());
-            }
-        }
+    for (q, r) in model.transitions.iter().enumerate() {
+        let ws = r.weights.iter().map(|&(u, p)| ((u, u), p as u32)).collect();
+        between[r.source][r.source].push(Flow { d: r.d as u32, ks: vec![((u8::from(r.action > 0), q), 1)], ws });
+    }
+    for ((s, t, _), flow) in certificate.questions(model).into_iter().zip(&certificate.flows) {
+        between[s][t].push(flow.clone());
     }
     let mut flows = Vec::new();
     for (s, t) in (0..n * k).flat_map(|s| (0..n * k).map(move |t| (s, t))).filter(|(s, t)| s != t) {
-        for flow in &between[s / k][t / k] {
-            let mut ks: Vec<_> = flow.ks.iter().map(|&((layer, r), x)| ((layer, place[r][t % k]), x)).collect();
-            let mut ws: Vec<_> = flow.ws.iter().map(|&((v, u), x)| ((v * k + t % k, u * k + s % k), x)).collect();
-            ks.sort();
-            ws.sort();
-            flows.push(Flow { d: flow.d, ks, ws });
-        }
+        let lifted = |flow: &Flow| flow.moved(|r| place[r][t % k], |v| v * k + t % k, |u| u * k + s % k);
+        flows.extend(between[s / k][t / k].iter().map(lifted));
     }
     let blocks = certificate.blocks.iter().flat_map(|&block| vec![block; k]).collect();
     let labels = model.labels.iter().flat_map(|&label| vec![label; k]).collect();
     (Model { labels, transitions, ..*model }, Certificate { refutations, blocks, flows, ..*certificate })
+}
+
+/// The same pair with its states in any order, so that blocks lie across all words of a row.
+pub fn in_any_order((model, certificate): (Model, Certificate), numbers: &mut Numbers) -> (Model, Certificate) {
+    let mut to: Vec<usize> = (0..model.n()).collect();
+    shuffle(&mut to, numbers);
+    let (other, place) = model.reordered(&to);
+    let refuted = |r: &Refutation| {
+        let prices = Prices { sides: r.prices.sides.iter().map(|side| reordered(side, &to)).collect(), l: r.prices.l };
+        Refutation { challenger: place[r.challenger], defender: to[r.defender], prices }
+    };
+    let questions = certificate.questions(&model).into_iter().map(|(s, t, q)| (to[s], to[t], place[q]));
+    let moved = certificate.flows.iter().map(|flow| flow.moved(|r| place[r], |v| to[v], |u| to[u]));
+    let mut flows: Vec<_> = questions.zip(moved).collect();
+    flows.sort_by_key(|e| e.0);
+    let (refutations, blocks) = (certificate.refutations.iter().map(refuted).collect(), by_appearance(&reordered(&certificate.blocks, &to)));
+    (other, Certificate { refutations, blocks, flows: flows.into_iter().map(|e| e.1).collect(), ..certificate })
+}
+
+/// Pairs without costs side by side, each with labels of its own: a price of one part is 0 in all others.
+fn beside(parts: &[(Model, Certificate)]) -> (Model, Certificate) {
+    let n = parts.iter().map(|(model, _)| model.n()).sum();
+    let (mut whole, mut told) = still(&[]);
+    let highest = |numbers: &[u8]| numbers.iter().max().map_or(0, |most| most + 1);
+    for (model, certificate) in parts {
+        let (states, before) = (whole.n(), whole.transitions.len());
+        let (labels, blocks) = (highest(&whole.labels), highest(&told.blocks));
+        let side = |prices: &Vec<i32>| {
+            let mut side = vec![0; n];
+            side[states..states + prices.len()].copy_from_slice(prices);
+            side
+        };
+        let refuted = |r: &Refutation| Refutation::new(before + r.challenger, states + r.defender, r.prices.sides.iter().map(side).collect());
+        told.refutations.extend(certificate.refutations.iter().map(refuted));
+        told.blocks.extend(certificate.blocks.iter().map(|block| blocks + block));
+        told.flows.extend(certificate.flows.iter().map(|flow| flow.moved(|r| before + r, |v| states + v, |u| states + u)));
+        whole.labels.extend(by_appearance(&model.labels).iter().map(|label| labels + label));
+        whole.transitions.extend(model.transitions.iter().map(|r| r.moved(|v| states + v)));
+        whole.m = whole.m.max(model.m);
+    }
+    (whole, told)
+}
+
+/// A pair of 65 to 128 states in any order: small random ones side by side.
+pub fn random_large(numbers: &mut Numbers) -> (Model, Certificate) {
+    loop {
+        let n = 65 + numbers.below(64);
+        let (mut parts, mut states) = (Vec::new(), 0);
+        while states < n {
+            let model = random_model(numbers, (n - states).min(10));
+            if let Some(certificate) = certificate(&model, numbers) {
+                states += model.n();
+                parts.push((model, certificate));
+            }
+        }
+        let pair = beside(&parts);
+        let small = pair.0.transitions.len() <= TRANSITIONS && entries(&pair.0) <= TODAY.entries && pair.0.labels.iter().all(|&label| label < 64);
+        if small && pair.1.refutations.len() <= TODAY.refutations {
+            return in_any_order(pair, numbers);
+        }
+    }
 }

@@ -56,6 +56,25 @@ pub fn gcd(a: i64, b: i64) -> i64 {
     if b == 0 { a.abs() } else { gcd(b, a % b) }
 }
 
+/// What each state has, with state v as state to[v].
+pub fn reordered<T: Copy + Default>(side: &[T], to: &[usize]) -> Vec<T> {
+    let mut out = vec![T::default(); side.len()];
+    side.iter().zip(to).for_each(|(&x, &v)| out[v] = x);
+    out
+}
+
+/// Numbers by first appearance.
+pub fn by_appearance(numbers: &[u8]) -> Vec<u8> {
+    let mut seen = Vec::new();
+    let mut place = |number: &u8| {
+        seen.iter().position(|other| other == number).unwrap_or_else(|| {
+            seen.push(*number);
+            seen.len() - 1
+        })
+    };
+    numbers.iter().map(|number| place(number) as u8).collect()
+}
+
 fn two(number: usize) -> [u8; 2] {
     u16::try_from(number).expect("a field of two bytes").to_be_bytes()
 }
@@ -64,6 +83,13 @@ impl Transition {
     /// A transition to one state.
     pub fn step(source: usize, action: usize, target: usize) -> Transition {
         Transition { source, action, d: 1, weights: vec![(target, 1)], cost: 0 }
+    }
+
+    /// The same with its states by other numbers.
+    pub fn moved(&self, to: impl Fn(usize) -> usize) -> Transition {
+        let mut weights: Vec<_> = self.weights.iter().map(|&(v, p)| (to(v), p)).collect();
+        weights.sort();
+        Transition { source: to(self.source), weights, ..*self }
     }
 
     /// The number by which all terms can be divided.
@@ -129,6 +155,16 @@ impl Model {
         Model::new(file[8..8 + n].to_vec(), file[3].into(), transitions)
     }
 
+    /// The same model with state v as state to[v], and where each transition then stands: those of a state keep their order.
+    pub fn reordered(&self, to: &[usize]) -> (Model, Vec<usize>) {
+        let mut order: Vec<usize> = (0..self.transitions.len()).collect();
+        order.sort_by_key(|&q| to[self.transitions[q].source]);
+        let transitions = order.iter().map(|&q| self.transitions[q].moved(|v| to[v])).collect();
+        let mut place = vec![0; order.len()];
+        order.into_iter().enumerate().for_each(|(i, q)| place[q] = i);
+        (Model { labels: reordered(&self.labels, to), transitions, ..*self }, place)
+    }
+
     fn spelled(&self, factor: impl Fn(usize, &Transition) -> i64) -> Model {
         let transitions = self.transitions.iter().enumerate().map(|(i, r)| r.times(factor(i, r))).collect();
         Model { transitions, ..self.clone() }
@@ -166,7 +202,27 @@ impl Refutation {
     }
 }
 
+impl Flow {
+    /// The same with its transitions, and the v and the u of its w, by other numbers.
+    pub fn moved(&self, place: impl Fn(usize) -> usize, v_to: impl Fn(usize) -> usize, u_to: impl Fn(usize) -> usize) -> Flow {
+        let mut ks: Vec<_> = self.ks.iter().map(|&((layer, r), x)| ((layer, place(r)), x)).collect();
+        let mut ws: Vec<_> = self.ws.iter().map(|&((v, u), x)| ((v_to(v), u_to(u)), x)).collect();
+        ks.sort();
+        ws.sort();
+        Flow { d: self.d, ks, ws }
+    }
+}
+
 impl Certificate {
+    /// What its flows meet, in their order: s, t and a transition of s.
+    pub fn questions(&self, model: &Model) -> Vec<(usize, usize, usize)> {
+        let challengers = model.transitions.iter().map(|r| r.source).enumerate();
+        let all = challengers.flat_map(|(q, s)| (0..model.n()).map(move |t| (s, t, q)));
+        let mut asked: Vec<_> = all.filter(|&(s, t, _)| s != t && self.blocks[s] == self.blocks[t]).collect();
+        asked.sort();
+        asked
+    }
+
     /// One for a model without costs.
     pub fn new(refutations: Vec<Refutation>, blocks: Vec<u8>, flows: Vec<Flow>) -> Certificate {
         Certificate { rule: Rule::Plain, refutations, blocks, flows }

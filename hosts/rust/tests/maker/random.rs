@@ -152,20 +152,8 @@ fn grown(mut model: Model, numbers: &mut Numbers, most: usize) -> Model {
 fn renumbered(mut model: Model, numbers: &mut Numbers) -> Model {
     let mut to: Vec<usize> = (0..model.n()).collect();
     shuffle(&mut to, numbers);
-    let mut labels = vec![0; model.n()];
-    for (v, &label) in model.labels.iter().enumerate() {
-        labels[to[v]] = label;
-    }
-    model.labels = labels;
-    for r in &mut model.transitions {
-        r.source = to[r.source];
-        for e in &mut r.weights {
-            e.0 = to[e.0];
-        }
-        r.weights.sort();
-    }
     shuffle(&mut model.transitions, numbers);
-    model.transitions.sort_by_key(|r| r.source);
+    let (model, _) = model.reordered(&to);
     let factor = numbers.below(3);
     if factor > 0 { model.respelled(factor) } else { model }
 }

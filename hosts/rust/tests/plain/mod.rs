@@ -1,13 +1,33 @@
 //! Document 01's judge, reduce and fetch, document 02's join and alike (K1), the state and the remainder of 16, 20 and 21 (K2), its merged
-//! transitions that are the same as fractions (K3), its block sheet (K4) and its cost pairs (K6) in plain Rust, written from the documents
-//! alone: what the library is compared with.
+//! transitions that are the same as fractions (K3), its block sheet (K4), its cost pairs (K6) and its limits (K7) in plain Rust, written from
+//! the documents alone: what the library is compared with. Every call is one of a set of limits, today's or older ones.
 //!
 //! Every sum fits an i64. Weights of a transition add up to at most 65,535, so weights times prices stay below 2^47 and a difference
 //! of two such sums below 2^48; L times cost times d is below 2^53. k times d is below 2^48, and a state's equation has at most 768 of
-//! them (each layer and transition once), 64 w and one D: below 2^58. d0 times the at most 64 w onto a state is below 2^54. k times d times
+//! them (each layer and transition once), 128 w and one D: below 2^58. d0 times the at most 128 w onto a state is below 2^55. k times d times
 //! cost is below 2^54, and at most 511 of them are paid: 256 transitions, of which all but the moves stand in two layers. That is below 2^63.
 
 pub use zolkirta::raw::{AlikeAnswer, Answer};
+
+/// The most that a model and a certificate may have. Actions, transitions and labels are the same in all of them.
+#[derive(Clone, Copy, Debug, PartialEq, Eq)]
+pub struct Limits {
+    pub states: usize,
+    pub entries: usize,
+    pub refutations: usize,
+}
+
+/// Document 01's limits.
+pub const BEFORE_K7: Limits = Limits { states: 64, entries: 1024, refutations: 2016 };
+
+/// The limits of K7.
+pub const TODAY: Limits = Limits { states: 128, entries: 2048, refutations: 8128 };
+
+/// The most states by any limits, the length of every table.
+const STATES: usize = TODAY.states;
+
+const ACTIONS: u8 = 32;
+pub const TRANSITIONS: usize = 256;
 
 /// The step rule that a pair is judged by: document 01's, or K6's with costs.
 #[derive(Clone, Copy, Debug, PartialEq, Eq)]
@@ -99,31 +119,31 @@ impl<'a> Model<'a> {
     }
 }
 
-/// The related pairs: a row of one bit for each state.
-struct Related([u64; 64]);
+/// The related pairs: a row of one bit for each state, in words of 64.
+struct Related([[u64; STATES / 64]; STATES]);
 
 impl Related {
     fn new(labels: &[u8]) -> Related {
-        let mut rows = [0; 64];
+        let mut rows = [[0; STATES / 64]; STATES];
         for (v, label) in labels.iter().enumerate() {
             for (u, other) in labels.iter().enumerate() {
-                rows[v] |= u64::from(label == other) << u;
+                rows[v][u / 64] |= u64::from(label == other) << (u % 64);
             }
         }
         Related(rows)
     }
 
     fn holds(&self, v: usize, u: usize) -> bool {
-        self.0[v] >> u & 1 == 1
+        self.0[v][u / 64] >> (u % 64) & 1 == 1
     }
 
     fn count(&self, v: usize) -> usize {
-        (0..64).filter(|&u| self.holds(v, u)).count()
+        (0..STATES).filter(|&u| self.holds(v, u)).count()
     }
 
     fn remove(&mut self, s: usize, t: usize) {
-        self.0[s] &= !(1 << t);
-        self.0[t] &= !(1 << s);
+        self.0[s][t / 64] &= !(1 << (t % 64));
+        self.0[t][s / 64] &= !(1 << (s % 64));
     }
 }
 
@@ -152,10 +172,10 @@ fn record<'a>(file: &'a [u8], at: usize, mark: &[u8; 2], fixed: usize, ends: u32
 }
 
 /// Reads a model, refusals 1 to 9, or a cost model: 29 as well.
-pub fn read(rule: Rule, file: &[u8]) -> Result<Model<'_>, Fault> {
+pub fn read<'a>(limits: &Limits, rule: Rule, file: &'a [u8]) -> Result<Model<'a>, Fault> {
     let head = record(file, 0, b"PA", 6, 1)?;
     let (n, m, count) = (usize::from(head[2]), head[3], usize::from(two(head, 4)));
-    if !(1..=64).contains(&n) || !(1..=32).contains(&m) || count > 256 {
+    if !(1..=limits.states).contains(&n) || !(1..=ACTIONS).contains(&m) || count > TRANSITIONS {
         return fault(3, 0);
     }
     let labels = &record(file, 6, b"LB", 2 + n, 1)?[2..2 + n];
@@ -171,7 +191,7 @@ pub fn read(rule: Rule, file: &[u8]) -> Result<Model<'_>, Fault> {
             return fault(5, at);
         }
         total += c;
-        if total > 1024 {
+        if total > limits.entries {
             return fault(8, at);
         }
         let size = 7 + 3 * c;
@@ -229,7 +249,7 @@ fn refutation(model: &Model, related: &Related, file: &[u8], at: usize) -> Resul
     if bytes.len() < size {
         return fault(11, at);
     }
-    let mut prices = [0; 3 * 64 + 1];
+    let mut prices = [0; 3 * STATES + 1];
     for (price, field) in prices.iter_mut().zip(bytes[5..size].chunks_exact(4)) {
         *price = i64::from(four(field, 0) as i32);
     }
@@ -246,9 +266,9 @@ fn refutation(model: &Model, related: &Related, file: &[u8], at: usize) -> Resul
             return fault(15, at);
         }
     }
-    for v in 0..n {
-        for u in 0..n {
-            if related.holds(v, u) && b[v] < g[u] {
+    for (row, price) in related.0.iter().zip(b) {
+        for (word, prices) in row.iter().zip(g.chunks(64)) {
+            if prices.iter().enumerate().any(|(u, g)| word >> u & 1 == 1 && price < g) {
                 return fault(15, at);
             }
         }
@@ -266,8 +286,14 @@ fn first_broken(remainders: &[i64]) -> (usize, i64) {
     remainders.iter().copied().enumerate().find(|&(_, x)| x != 0).expect("an equation that breaks")
 }
 
-/// Judges the flow at a place for a challenger and its defender, refusals 11, 12, 19 to 21 and 30: the place after it.
-fn flow(model: &Model, related: &Related, file: &[u8], challenger: &Transition, t: usize, at: usize) -> Result<usize, Fault> {
+/// A sum for each state: of the w onto it, before the move, and after it.
+type Sums = [[i64; STATES]; 3];
+
+/// A challenger and its defender.
+type Question<'a, 'b> = (&'a Transition<'b>, usize);
+
+/// Judges the flow at a place for a question, refusals 11, 12, 19 to 21 and 30: the place after it.
+fn flow(model: &Model, related: &Related, sums: &mut Sums, file: &[u8], (challenger, t): Question, at: usize) -> Result<usize, Fault> {
     let n = model.n();
     let bytes = record(file, at, b"FL", 8, 11)?;
     let (big, k_count) = (i64::from(four(bytes, 2)), usize::from(two(bytes, 6)));
@@ -279,8 +305,10 @@ fn flow(model: &Model, related: &Related, file: &[u8], challenger: &Transition, 
         return fault(11, at);
     }
     let external = challenger.action != 0;
+    let stays = usize::from(external);
+    sums[..2 + stays].iter_mut().for_each(|side| side[..n].fill(0));
     // What arrives at each state less what leaves it: [0] before the move, [1] after it.
-    let mut left = [[0; 64]; 2];
+    let [onto, left @ ..] = sums;
     left[0][t] = big;
     let mut paid = 0;
     let mut last = None;
@@ -310,8 +338,6 @@ fn flow(model: &Model, related: &Related, file: &[u8], challenger: &Transition, 
     if bytes.len() < size {
         return fault(11, at);
     }
-    let stays = usize::from(external);
-    let mut onto = [0; 64];
     let mut last = None;
     for e in bytes[middle + 2..size].chunks_exact(6) {
         let (v, u, w) = (usize::from(e[0]), usize::from(e[1]), i64::from(four(e, 2)));
@@ -322,17 +348,18 @@ fn flow(model: &Model, related: &Related, file: &[u8], challenger: &Transition, 
         left[stays][v] -= w;
         onto[u] += w;
     }
-    if left.as_flattened().iter().any(|&x| x != 0) {
-        let (i, remainder) = first_broken(left.as_flattened());
-        let broken = if !external { Broken::AtState } else if i < 64 { Broken::BeforeMove } else { Broken::AfterMove };
-        return off(20, at, broken, i % 64, remainder);
+    let breaks = |side: &[i64; STATES]| side[..n].iter().any(|&x| x != 0);
+    if let Some(side) = left[..=stays].iter().position(breaks) {
+        let (v, remainder) = first_broken(&left[side]);
+        let broken = if !external { Broken::AtState } else if side == 0 { Broken::BeforeMove } else { Broken::AfterMove };
+        return off(20, at, broken, v, remainder);
     }
-    let mut wanted = [0; 64];
+    onto[..n].iter_mut().for_each(|w| *w *= challenger.d);
     for (u, p) in challenger.weights() {
-        wanted[u] = p * big;
+        onto[u] -= p * big;
     }
-    if onto.iter().zip(&wanted).any(|(w, wanted)| challenger.d * w != *wanted) {
-        let (u, remainder) = first_broken(&std::array::from_fn::<i64, 64, _>(|u| challenger.d * onto[u] - wanted[u]));
+    if onto[..n].iter().any(|&x| x != 0) {
+        let (u, remainder) = first_broken(onto);
         return off(21, at, Broken::AtTarget, u, remainder);
     }
     if paid != challenger.cost * big {
@@ -342,10 +369,10 @@ fn flow(model: &Model, related: &Related, file: &[u8], challenger: &Transition, 
 }
 
 /// Judges a certificate for a sound model, refusals 11 to 22 and 30: the bytes of its blocks, and the pairs left.
-fn certificate<'a>(model: &Model, file: &'a [u8]) -> Result<(&'a [u8], Related), Fault> {
+fn certificate<'a>(limits: &Limits, model: &Model, file: &'a [u8]) -> Result<(&'a [u8], Related), Fault> {
     let n = model.n();
-    let count = two(record(file, 0, model.rule.mark(), 4, 11)?, 2);
-    if count > 2016 {
+    let count = usize::from(two(record(file, 0, model.rule.mark(), 4, 11)?, 2));
+    if count > limits.refutations {
         return fault(13, 0);
     }
     let mut related = Related::new(model.labels);
@@ -373,11 +400,12 @@ fn certificate<'a>(model: &Model, file: &'a [u8]) -> Result<(&'a [u8], Related),
         }
     }
     at += 2 + n;
+    let mut sums = [[0; STATES]; 3];
     for s in 0..n {
         let leaving = model.leaving(s);
         for t in (0..n).filter(|&t| t != s && blocks[t] == blocks[s]) {
             for challenger in leaving {
-                at = flow(model, &related, file, challenger, t, at)?;
+                at = flow(model, &related, &mut sums, file, (challenger, t), at)?;
             }
         }
     }
@@ -412,14 +440,14 @@ fn merged(model: &Model, blocks: &[u8]) -> Vec<u8> {
     let mut written = 0u16;
     for block in 0..count {
         // Of each kept transition of the block: action, d and the weight to each block.
-        let mut kept: Vec<(u8, i64, [i64; 64])> = Vec::new();
+        let mut kept: Vec<(u8, i64, [i64; STATES])> = Vec::new();
         for r in model.transitions.iter().filter(|r| usize::from(blocks[r.source]) == block) {
-            let mut weights = [0; 64];
+            let mut weights = [0; STATES];
             for (v, p) in r.weights() {
                 weights[usize::from(blocks[v])] += p;
             }
-            let same = |(action, d, other): &(u8, i64, [i64; 64])| *action == r.action && (0..count).all(|c| other[c] * r.d == weights[c] * d);
-            if kept.iter().any(same) {
+            let in_terms = |d: i64, other: &[i64; STATES]| (0..count).all(|c| other[c] * r.d == weights[c] * d);
+            if kept.iter().any(|(action, d, other)| *action == r.action && in_terms(*d, other)) {
                 continue;
             }
             append(&mut out, block, r, weights.iter().map(|&p| p as u16).enumerate().filter(|&(_, p)| p > 0));
@@ -432,11 +460,11 @@ fn merged(model: &Model, blocks: &[u8]) -> Vec<u8> {
 }
 
 /// The file of two models written as one; none where it passes a limit.
-fn joined(first: &Model, second: &Model) -> Option<Vec<u8>> {
+fn joined(limits: &Limits, first: &Model, second: &Model) -> Option<Vec<u8>> {
     let labels = [first.labels, second.labels].concat();
     let count = first.transitions.len() + second.transitions.len();
     let entries: usize = [first, second].iter().flat_map(|model| &model.transitions).map(|r| r.entries.len() / 3).sum();
-    if labels.len() > 64 || count > 256 || entries > 1024 {
+    if labels.len() > limits.states || count > TRANSITIONS || entries > limits.entries {
         return None;
     }
     let mut out = head_and_labels(&labels, first.m.max(second.m), count);
@@ -459,23 +487,6 @@ fn numbered(number: u32) -> Answer {
     Answer { number, ..Answer::default() }
 }
 
-/// The transitions that leave a state, as a run of the model's bytes.
-pub fn fetch(model: &[u8], state: u32) -> Answer {
-    let sound = match read(Rule::Plain, model) {
-        Ok(sound) => sound,
-        Err(fault) => return refused(1, model, fault),
-    };
-    if state as usize >= sound.n() {
-        return numbered(24);
-    }
-    let run = sound.leaving(state as usize);
-    let (Some(first), Some(last)) = (run.first(), run.last()) else {
-        return Answer::default();
-    };
-    let end = last.place + 7 + last.entries.len();
-    Answer { stretch_start: first.place, stretch_length: end - first.place, ..Answer::default() }
-}
-
 /// The blocks on paper.
 fn sheet_of(blocks: &[u8], related: &Related) -> String {
     let mut out = String::new();
@@ -493,42 +504,6 @@ fn sheet_of(blocks: &[u8], related: &Related) -> String {
 /// What a pair is judged to be: the model, the blocks of an accepted certificate and the pairs left, or a refusal.
 type Judged<'a> = Result<(Model<'a>, &'a [u8], Related), Answer>;
 
-/// Judges a pair with room for so many blocks.
-fn judged<'a>(rule: Rule, model: &'a [u8], certificate_file: &'a [u8], room: usize) -> Judged<'a> {
-    let sound = read(rule, model).map_err(|fault| refused(1, model, fault))?;
-    if room < sound.n() {
-        return Err(numbered(10));
-    }
-    let (blocks, related) = certificate(&sound, certificate_file).map_err(|fault| refused(2, certificate_file, fault))?;
-    Ok((sound, blocks, related))
-}
-
-/// What breaks in a certificate that is refused with 16, 20 or 21.
-pub fn broken(rule: Rule, model: &[u8], certificate_file: &[u8]) -> Option<Off> {
-    certificate(&read(rule, model).ok()?, certificate_file).err()?.off
-}
-
-/// Judges a certificate for a model by a rule; on acceptance the blocks stand first in the buffer.
-fn judge_by(rule: Rule, model: &[u8], certificate: &[u8], buffer: &mut [u8]) -> Answer {
-    match judged(rule, model, certificate, buffer.len()) {
-        Ok((_, blocks, _)) => {
-            buffer[..blocks.len()].copy_from_slice(blocks);
-            Answer { written: blocks.len(), ..Answer::default() }
-        }
-        Err(answer) => answer,
-    }
-}
-
-/// Judges a certificate for a model; on acceptance the blocks stand first in the buffer.
-pub fn judge(model: &[u8], certificate: &[u8], buffer: &mut [u8]) -> Answer {
-    judge_by(Rule::Plain, model, certificate, buffer)
-}
-
-/// The same of a cost model.
-pub fn judge_costs(model: &[u8], certificate: &[u8], buffer: &mut [u8]) -> Answer {
-    judge_by(Rule::Costs, model, certificate, buffer)
-}
-
 /// Writes a file first into the buffer, or refuses with this number where the buffer is shorter.
 fn write(file: &[u8], buffer: &mut [u8], shorter: u32) -> Answer {
     if buffer.len() < file.len() {
@@ -538,43 +513,99 @@ fn write(file: &[u8], buffer: &mut [u8], shorter: u32) -> Answer {
     Answer { written: file.len(), ..Answer::default() }
 }
 
-/// Judges a certificate for a model; on acceptance the merged model's file stands first in the buffer.
-pub fn reduce(model: &[u8], certificate: &[u8], buffer: &mut [u8]) -> Answer {
-    match judged(Rule::Plain, model, certificate, usize::MAX) {
-        Ok((model, blocks, _)) => write(&merged(&model, blocks), buffer, 23),
-        Err(answer) => answer,
+/// The calls.
+impl Limits {
+    /// The transitions that leave a state, as a run of the model's bytes.
+    pub fn fetch(&self, model: &[u8], state: u32) -> Answer {
+        let sound = match read(self, Rule::Plain, model) {
+            Ok(sound) => sound,
+            Err(fault) => return refused(1, model, fault),
+        };
+        if state as usize >= sound.n() {
+            return numbered(24);
+        }
+        let run = sound.leaving(state as usize);
+        let (Some(first), Some(last)) = (run.first(), run.last()) else {
+            return Answer::default();
+        };
+        let end = last.place + 7 + last.entries.len();
+        Answer { stretch_start: first.place, stretch_length: end - first.place, ..Answer::default() }
     }
-}
 
-/// Judges a certificate for a model; on acceptance the sheet of its blocks stands first in the buffer.
-pub fn sheet(model: &[u8], certificate: &[u8], buffer: &mut [u8]) -> Answer {
-    match judged(Rule::Plain, model, certificate, usize::MAX) {
-        Ok((_, blocks, related)) => write(sheet_of(blocks, &related).as_bytes(), buffer, 28),
-        Err(answer) => answer,
+    /// Judges a pair with room for so many blocks.
+    fn judged<'a>(&self, rule: Rule, model: &'a [u8], certificate_file: &'a [u8], room: usize) -> Judged<'a> {
+        let sound = read(self, rule, model).map_err(|fault| refused(1, model, fault))?;
+        if room < sound.n() {
+            return Err(numbered(10));
+        }
+        let (blocks, related) = certificate(self, &sound, certificate_file).map_err(|fault| refused(2, certificate_file, fault))?;
+        Ok((sound, blocks, related))
     }
-}
 
-/// Reads two models and writes them as one.
-pub fn join(first: &[u8], second: &[u8], buffer: &mut [u8]) -> Answer {
-    let one = match read(Rule::Plain, first) {
-        Ok(model) => model,
-        Err(fault) => return refused(1, first, fault),
-    };
-    match read(Rule::Plain, second) {
-        Ok(other) => joined(&one, &other).map_or(numbered(25), |file| write(&file, buffer, 26)),
-        Err(fault) => refused(3, second, fault),
+    /// What breaks in a certificate that is refused with 16, 20 or 21.
+    pub fn broken(&self, rule: Rule, model: &[u8], certificate_file: &[u8]) -> Option<Off> {
+        certificate(self, &read(self, rule, model).ok()?, certificate_file).err()?.off
     }
-}
 
-/// Judges a certificate for a joined model; on acceptance says whether a state of each part share a block.
-pub fn alike(model: &[u8], first_count: u32, certificate: &[u8], first_state: u32, second_state: u32) -> AlikeAnswer {
-    let blocks = match judged(Rule::Plain, model, certificate, usize::MAX) {
-        Ok((_, blocks, _)) => blocks,
-        Err(answer) => return AlikeAnswer { answer, alike: 0 },
-    };
-    let [count, s, t] = [first_count, first_state, second_state].map(|number| number as usize);
-    if count > blocks.len() || s >= count || t < count || t >= blocks.len() {
-        return AlikeAnswer { answer: numbered(27), alike: 0 };
+    /// Judges a certificate for a model by a rule; on acceptance the blocks stand first in the buffer.
+    fn judge_by(&self, rule: Rule, model: &[u8], certificate: &[u8], buffer: &mut [u8]) -> Answer {
+        match self.judged(rule, model, certificate, buffer.len()) {
+            Ok((_, blocks, _)) => {
+                buffer[..blocks.len()].copy_from_slice(blocks);
+                Answer { written: blocks.len(), ..Answer::default() }
+            }
+            Err(answer) => answer,
+        }
     }
-    AlikeAnswer { answer: Answer::default(), alike: u32::from(blocks[s] == blocks[t]) }
+
+    /// Judges a certificate for a model; on acceptance the blocks stand first in the buffer.
+    pub fn judge(&self, model: &[u8], certificate: &[u8], buffer: &mut [u8]) -> Answer {
+        self.judge_by(Rule::Plain, model, certificate, buffer)
+    }
+
+    /// The same of a cost model.
+    pub fn judge_costs(&self, model: &[u8], certificate: &[u8], buffer: &mut [u8]) -> Answer {
+        self.judge_by(Rule::Costs, model, certificate, buffer)
+    }
+
+    /// Judges a certificate for a model; on acceptance the merged model's file stands first in the buffer.
+    pub fn reduce(&self, model: &[u8], certificate: &[u8], buffer: &mut [u8]) -> Answer {
+        match self.judged(Rule::Plain, model, certificate, usize::MAX) {
+            Ok((model, blocks, _)) => write(&merged(&model, blocks), buffer, 23),
+            Err(answer) => answer,
+        }
+    }
+
+    /// Judges a certificate for a model; on acceptance the sheet of its blocks stands first in the buffer.
+    pub fn sheet(&self, model: &[u8], certificate: &[u8], buffer: &mut [u8]) -> Answer {
+        match self.judged(Rule::Plain, model, certificate, usize::MAX) {
+            Ok((_, blocks, related)) => write(sheet_of(blocks, &related).as_bytes(), buffer, 28),
+            Err(answer) => answer,
+        }
+    }
+
+    /// Reads two models and writes them as one.
+    pub fn join(&self, first: &[u8], second: &[u8], buffer: &mut [u8]) -> Answer {
+        let one = match read(self, Rule::Plain, first) {
+            Ok(model) => model,
+            Err(fault) => return refused(1, first, fault),
+        };
+        match read(self, Rule::Plain, second) {
+            Ok(other) => joined(self, &one, &other).map_or(numbered(25), |file| write(&file, buffer, 26)),
+            Err(fault) => refused(3, second, fault),
+        }
+    }
+
+    /// Judges a certificate for a joined model; on acceptance says whether a state of each part share a block.
+    pub fn alike(&self, model: &[u8], first_count: u32, certificate: &[u8], first_state: u32, second_state: u32) -> AlikeAnswer {
+        let blocks = match self.judged(Rule::Plain, model, certificate, usize::MAX) {
+            Ok((_, blocks, _)) => blocks,
+            Err(answer) => return AlikeAnswer { answer, alike: 0 },
+        };
+        let [count, s, t] = [first_count, first_state, second_state].map(|number| number as usize);
+        if count > blocks.len() || s >= count || t < count || t >= blocks.len() {
+            return AlikeAnswer { answer: numbered(27), alike: 0 };
+        }
+        AlikeAnswer { answer: Answer::default(), alike: u32::from(blocks[s] == blocks[t]) }
+    }
 }

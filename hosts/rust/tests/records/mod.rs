@@ -5,6 +5,7 @@ use crate::compare::{Counts, Numbers};
 use crate::plain::Rule;
 use std::iter::once;
 use std::ops::Range;
+use zolkirta::STATES;
 
 /// The records of two files: a model and its certificate, or two models.
 pub type Records = [Vec<Vec<u8>>; 2];
@@ -133,8 +134,13 @@ fn edge(old: u64, width: usize, n: u64, numbers: &mut Numbers) -> u64 {
     let top = 1u64 << (8 * width - 1);
     let bit = 1 << numbers.below(8 * width);
     let near = [old.wrapping_add(1), old.wrapping_sub(1), old ^ bit, old ^ top, old << 1, old >> 1];
-    let edges = [0, 1, 2, n - 1, n, n + 1, 31, 32, 33, 63, 64, 65, 255, 256, 257, 1024, 2016, 2017, 65535, top - 1, top, top + 1, u64::MAX];
-    if numbers.below(2) == 0 { *numbers.of(&near) } else { *numbers.of(&edges) }
+    let small = [0, 1, 2, n - 1, n, n + 1, 31, 32, 33, 63, 64, 65, 127, 128, 129];
+    let large = [255, 256, 257, 1024, 2016, 2017, 2048, 8128, 8129, 65535, top - 1, top, top + 1, u64::MAX];
+    match numbers.below(4) {
+        0 | 1 => *numbers.of(&near),
+        2 => *numbers.of(&small),
+        _ => *numbers.of(&large),
+    }
 }
 
 /// Spells a record otherwise, so that what is accepted stays so: D, k and w of a flow or the prices of a refutation times a factor, and
@@ -278,20 +284,22 @@ pub fn damaged(pairs: &[(Vec<u8>, Vec<u8>)], times: u64, seed: u64) -> Counts {
     each_damaged(&pairs, times, seed, |model, certificate, n, numbers| {
         let (blocks, out, state) = match numbers.below(4) {
             0 => (numbers.below(n + 2), numbers.below(model.len() + 2), numbers.below(n + 2)),
-            _ => (64, model.len(), numbers.below(n)),
+            _ => (STATES, model.len(), numbers.below(n)),
         };
         counts.pair_with(model, certificate, blocks, out, state as u32);
     });
     counts
 }
 
-/// 64 states, each a block, and 1,024 entries, 40 of them alone in their transition: one of these doubled is one entry too many.
+/// 128 states, those from 63 on one block without transitions and all others a block each, and 2,048 entries, 40 of them alone in their
+/// transition: one of these doubled is one entry too many.
 pub fn crowded() -> (Vec<u8>, Vec<u8>) {
-    let sizes = [vec![1; 40], vec![8; 27], vec![64; 12]].concat();
-    let mut model = [&b"PA\x40\x01\0\x4fLB"[..], &(0..64).collect::<Vec<u8>>()].concat();
+    let sizes = [vec![1; 40], vec![8; 27], vec![128; 14]].concat();
+    let blocks: Vec<u8> = (0..128).map(|v| v.min(63)).collect();
+    let mut model = [&b"PA\x80\x01\0\x51LB"[..], &blocks].concat();
     for (size, source) in sizes.into_iter().zip(0..) {
         model.extend([b'T', b'R', source / 2, 0, 0, size, size]);
         model.extend((0..size).flat_map(|state| [state, 0, 1]));
     }
-    (model, [&b"CT\0\0BK"[..], &(0..64).collect::<Vec<u8>>()].concat())
+    (model, [&b"CT\0\0BK"[..], &blocks].concat())
 }

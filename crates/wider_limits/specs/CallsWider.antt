@@ -1,0 +1,106 @@
+-- Document 02, K7: what the calls answered within the older limits, they answer within the wider ones.
+use Prim.Native.Nat.{ℕ, _<_}
+use mathlib.Core.Path.{_≡_, refl, sym, _∙_, ap, ap₂}
+use mathlib.Core.Logic.{_⊎_, ⊎-elim}
+use mathlib.Core.List.{List}
+use native.Mathlib.Omega.{arith}
+use Rattle.bisimulation.specs.argument.ChoiceLaws.{pastLess, notLess}
+use Rattle.rules.specs.definitions.Limits.{Limits}
+use Rattle.rules.specs.definitions.Model.{Model}
+use Rattle.rules.specs.definitions.SoundModel.{FitsWidths}
+use Rattle.rules.specs.definitions.Faults.{Fault}
+use Rattle.rules.specs.definitions.Reading.{Reading, model, noModel, readWhole}
+use Rattle.rules.specs.definitions.JudgedBy.{JudgedBy}
+use Rattle.rules.specs.definitions.Answers.{Outcome, refusalIn, answerWithoutPlace, fetchReading, fetchAnswer, unwritten, Follows, readOutcome, pairOutcome}
+use Rattle.rules.specs.definitions.Demands.{AcceptedBy, outcomeBy, Accepting}
+use Rattle.rules.specs.argument.AnyRule.{PairRules, RefusalOf, pairsOf}
+use Rattle.rules.specs.argument.PlainRules.{ModelNumber, refusal-told, plainCertificates, wholeRules, plainRules}
+use Rattle.rules.specs.argument.PairOutcome.{FollowsLaws, outcome-found}
+use Rattle.cost_files.specs.argument.CostCertificates.{costCertificates}
+use Rattle.cost_files.specs.argument.CostReadingLaws.{costFiles}
+use Rattle.joined.specs.Joined.{joined}
+use Rattle.joined.specs.JoinAnswer.{joinedOutcome, readingsOutcome, joinOutcome}
+use Rattle.joined.specs.AlikeAnswer.{Named, alikeRead, alikeSays}
+use Rattle.wider_limits.specs.Wider.{Within, Widens}
+use Rattle.wider_limits.specs.ReadingWider.{read-wider}
+use Rattle.wider_limits.specs.JudgingWider.{read-same, judged-same}
+
+-- an accepted pair: whatever follows acceptance, the call answers the same and leaves the same in the lent buffer
+module _ (older newer : JudgedBy) (wider : Widens older newer) (M C blocks : List ℕ) (a : AcceptedBy older M C blocks) where
+  pub outcome-wider : (follows : Follows) (buffer : List ℕ) → outcomeBy newer follows M C buffer ≡ outcomeBy older follows M C buffer
+  unfolding pairOutcome
+  outcome-wider follows buffer = ap₂ (readOutcome follows M C buffer) (read-same older newer wider M C blocks a) (judged-same older newer wider M C blocks a)
+
+  -- and two states compared come to the same
+  pub alike-wider : (x : Named) → alikeSays newer x M C ≡ alikeSays older x M C
+  unfolding alikeSays
+  alike-wider x = ap₂ (alikeRead x) (read-same older newer wider M C blocks a) (judged-same older newer wider M C blocks a)
+
+-- where the number of a call tells of acceptance, the pair is accepted
+pub told-accepted : (by : PairRules) (follows : Follows) → FollowsLaws by follows → (M C buffer : List ℕ) → Accepting follows (outcomeBy (pairsOf by) follows M C buffer .answer .number) → (blocks : List ℕ) × AcceptedBy (pairsOf by) M C blocks
+told-accepted by follows laws M C buffer z =
+    let f = outcome-found by follows laws M C buffer z .found in
+    (f .blocks, record { answers = f .judged })
+
+-- so the call answers the same
+pub outcome-stays : (by : PairRules) (newer : JudgedBy) → Widens (pairsOf by) newer → (follows : Follows) → FollowsLaws by follows → (M C buffer : List ℕ) → Accepting follows (outcomeBy (pairsOf by) follows M C buffer .answer .number) → outcomeBy newer follows M C buffer ≡ outcomeBy (pairsOf by) follows M C buffer
+outcome-stays by newer wider follows laws M C buffer z =
+    let a = told-accepted by follows laws M C buffer z in
+    outcome-wider (pairsOf by) newer wider M C (a .0) (a .1) follows buffer
+
+-- what must hold of the pairs within given limits
+module _ (L : Limits) (widths : FitsWidths L) (count : L .refutations < 65536) where
+  abbrev pub plainRulesAt : PairRules
+  plainRulesAt = wholeRules L widths count plainCertificates
+
+  abbrev pub costRulesAt : (costs : List ℕ) → PairRules
+  costRulesAt costs = record { limits = L; widths = widths; refutations = count; models = costFiles L widths; rule = costCertificates costs }
+
+  -- what follows acceptance does not depend on the limits
+  pub follow-at : {follows : Follows} → FollowsLaws plainRules follows → FollowsLaws plainRulesAt follows
+  unfolding RefusalOf
+  follow-at laws = record { numbered = laws .numbered; told = laws .told; unwritten = laws .unwritten; late = laws .late; notTen = laws .notTen }
+
+-- the calls that judge nothing
+module _ (L W : Limits) (within : Within L W) where
+  -- a file that is not read is refused with 1 to 9
+  unread : (s : List ℕ) (f : Fault) (place late : ℕ) → readWhole L s ≡ noModel f place → 9 < late → (f .number ≡ 0) ⊎ (f .number ≡ late) → ⊥
+  unfolding ModelNumber
+  unread s f place late e l z =
+      let k = refusal-told L s f place e .1 in
+      ⊎-elim (λ x. omega (arith, k, x)) (λ x. omega (arith, k, x)) z
+
+  -- the call that fetches: 0, or 24 after the model
+  pub fetch-wider : (s : List ℕ) (state : ℕ) → (fetchAnswer L s state .number ≡ 0) ⊎ (fetchAnswer L s state .number ≡ 24) → fetchAnswer W s state ≡ fetchAnswer L s state
+  unfolding fetchAnswer fetchReading refusalIn
+  fetch-wider s state z = go (readWhole L s) refl z
+    where
+      go : (r : Reading) → readWhole L s ≡ r → (fetchReading s state r .number ≡ 0) ⊎ (fetchReading s state r .number ≡ 24) → fetchReading s state (readWhole W s) ≡ fetchReading s state (readWhole L s)
+      go (model M end) e z = ap (fetchReading s state) (read-wider L W within s M end e ∙ sym e)
+      go (noModel f place) e z = absurd (unread s f place 24 e (omega arith) z)
+
+  -- the call that joins: 0, or 26 after the limits
+  joined-wider : (J : Model) (buffer : List ℕ) → (joinedOutcome L J buffer .answer .number ≡ 0) ⊎ (joinedOutcome L J buffer .answer .number ≡ 26) → joinedOutcome W J buffer ≡ joinedOutcome L J buffer
+  unfolding joinedOutcome
+  joined-wider J buffer z =
+      let a = pastLess _ _ _ _ over refl in
+      let b = pastLess _ _ _ _ over (a .1) in
+      let c = pastLess _ _ _ _ over (b .1) in
+      sym (notLess _ (omega (arith, a .0, within .states)) (notLess _ (omega (arith, b .0, within .transitions)) (notLess _ (omega (arith, c .0, within .entries)) (c .1))))
+    where
+      over : joinedOutcome L J buffer ≡ unwritten (answerWithoutPlace 25 0) buffer → ⊥
+      over e =
+          let k : joinedOutcome L J buffer .answer .number ≡ 25 = unfold unwritten answerWithoutPlace in ap (λ (o : Outcome). o .answer .number) e in
+          ⊎-elim (λ x. omega (arith, k, x)) (λ x. omega (arith, k, x)) z
+
+  pub join-wider : (first second buffer : List ℕ) → (joinOutcome L (readWhole L) first second buffer .answer .number ≡ 0) ⊎ (joinOutcome L (readWhole L) first second buffer .answer .number ≡ 26) → joinOutcome W (readWhole W) first second buffer ≡ joinOutcome L (readWhole L) first second buffer
+  unfolding joinOutcome readingsOutcome unwritten refusalIn
+  join-wider first second buffer z = go (readWhole L first) (readWhole L second) refl refl z
+    where
+      go : (r q : Reading) → readWhole L first ≡ r → readWhole L second ≡ q → (readingsOutcome L first second buffer r q .answer .number ≡ 0) ⊎ (readingsOutcome L first second buffer r q .answer .number ≡ 26) → readingsOutcome W first second buffer (readWhole W first) (readWhole W second) ≡ readingsOutcome L first second buffer (readWhole L first) (readWhole L second)
+      go (model M end) (model N last) e f z =
+          ap₂ (readingsOutcome W first second buffer) (read-wider L W within first M end e) (read-wider L W within second N last f)
+          ∙ joined-wider (joined M N) buffer z
+          ∙ sym (ap₂ (readingsOutcome L first second buffer) e f)
+      go (model M end) (noModel g place) e f z = absurd (unread second g place 26 f (omega arith) z)
+      go (noModel g place) q e f z = absurd (unread first g place 26 e (omega arith) z)

@@ -1,0 +1,131 @@
+-- Document 02, K7, of the limits of document 01 and those that K7 gives: 'Stored files are read as they are, and a pair accepted before is
+-- accepted with the same blocks. An older part meets a larger sound model with 3 or 8.'
+use Prim.Native.Nat.{ℕ, _≤_, _<_}
+use mathlib.Core.Path.{_≡_}
+use mathlib.Core.Logic.{_↔_, _⊎_, inl}
+use mathlib.Core.List.{List}
+use lib.ListN.{length}
+use native.Mathlib.Omega.{arith}
+use Rattle.rules.specs.definitions.Limits.{limits, olderLimits}
+use Rattle.rules.specs.definitions.Model.{Model}
+use Rattle.rules.specs.definitions.SoundModel.{entryCount, FitsWidths}
+use Rattle.rules.specs.argument.SoundModelLaws.{limits-fit}
+use Rattle.rules.specs.definitions.Faults.{fault}
+use Rattle.rules.specs.definitions.Reading.{model, readWhole}
+use Rattle.rules.specs.definitions.PlainRule.{plainRule}
+use Rattle.rules.specs.definitions.Accepted.{FileOf}
+use Rattle.rules.specs.definitions.JudgedBy.{JudgedBy, plainPairs}
+use Rattle.rules.specs.definitions.Answers.{refusalIn, fetchAnswer, unwritten, Follows, writesBlocks, writesMerged}
+use Rattle.rules.specs.definitions.Demands.{AcceptedBy, outcomeBy, Accepting}
+use Rattle.rules.specs.argument.PlainRules.{plainRules}
+use Rattle.rules.specs.argument.PairOutcome.{FollowsLaws}
+use Rattle.rules.specs.argument.DemandsHold.{blocks-follow, merged-follow}
+use Rattle.block_sheet.specs.SheetAnswer.{writesSheet}
+use Rattle.block_sheet.specs.SheetJudgedLaws.{sheet-follow}
+use Rattle.joined.specs.JoinAnswer.{joinOutcome}
+use Rattle.joined.specs.AlikeAnswer.{Named, testsParts, alikeSays}
+use Rattle.joined.specs.AlikeAnswerLaws.{parts-follow}
+use Rattle.cost_files.specs.definitions.CostModel.{CostFileOf, costsIn}
+use Rattle.cost_files.specs.definitions.CostReading.{readCosts}
+use Rattle.cost_files.specs.definitions.CostPairs.{costPairs, AcceptedWithCosts}
+use Rattle.cost_files.specs.definitions.CostAnswer.{costOutcome}
+use Rattle.wider_limits.specs.Wider.{within-older, others-stay, Widens, plainPairsAt, costPairsAt, Meets, Larger, ThreeOrEight}
+use Rattle.wider_limits.specs.ReadingWider.{read-wider, cost-read-wider}
+use Rattle.wider_limits.specs.JudgingWider.{accepted-wider, plain-widens, cost-widens}
+use Rattle.wider_limits.specs.CallsWider.{outcome-wider, alike-wider, told-accepted, outcome-stays, plainRulesAt, costRulesAt, follow-at, fetch-wider, join-wider}
+use Rattle.wider_limits.specs.MeetsLaws.{whole-meets, cost-meets, three-or-eight, reads-exactly, call-refuses}
+
+-- what an older part judges pairs and cost pairs by
+abbrev pub olderPairs : JudgedBy
+olderPairs = plainPairsAt olderLimits
+
+abbrev pub olderCostPairs : (costs : List ℕ) → JudgedBy
+olderCostPairs costs = costPairsAt olderLimits costs
+
+older-widens : Widens olderPairs plainPairs
+older-widens = plain-widens olderLimits limits within-older
+
+older-cost-widens : (costs : List ℕ) → Widens (olderCostPairs costs) (costPairs costs)
+older-cost-widens = cost-widens olderLimits limits within-older
+
+older-fit : FitsWidths olderLimits
+older-fit = omega arith
+
+older-count : olderLimits .refutations < 65536
+older-count = omega arith
+
+-- 'Stored files are read as they are'
+pub older-read-stays : (s : List ℕ) (M : Model) (end : ℕ) → readWhole olderLimits s ≡ model M end → readWhole limits s ≡ model M end
+older-read-stays = read-wider olderLimits limits within-older
+
+pub older-cost-read-stays : (s : List ℕ) (M : Model) (end : ℕ) → readCosts olderLimits s ≡ model M end → readCosts limits s ≡ model M end
+older-cost-read-stays = cost-read-wider olderLimits limits within-older
+
+-- 'a pair accepted before is accepted with the same blocks', without costs and with them
+pub older-accepted-stays : (M C blocks : List ℕ) → AcceptedBy olderPairs M C blocks → AcceptedBy plainPairs M C blocks
+older-accepted-stays = accepted-wider olderPairs plainPairs older-widens
+
+pub older-cost-accepted-stays : (M C blocks : List ℕ) → AcceptedBy (olderCostPairs (costsIn M)) M C blocks → AcceptedWithCosts M C blocks
+older-cost-accepted-stays M = accepted-wider (olderCostPairs (costsIn M)) (costPairs (costsIn M)) (older-cost-widens (costsIn M)) M
+
+-- every call that judges an accepted pair answers the same, and leaves the same in the lent buffer
+pub older-outcome-stays : (M C blocks : List ℕ) → AcceptedBy olderPairs M C blocks → (follows : Follows) (buffer : List ℕ) → outcomeBy plainPairs follows M C buffer ≡ outcomeBy olderPairs follows M C buffer
+older-outcome-stays = outcome-wider olderPairs plainPairs older-widens
+
+-- so too where all that is known is a number that tells of acceptance
+pub older-stays : (follows : Follows) → FollowsLaws plainRules follows → (M C buffer : List ℕ) → Accepting follows (outcomeBy olderPairs follows M C buffer .answer .number) → outcomeBy plainPairs follows M C buffer ≡ outcomeBy olderPairs follows M C buffer
+older-stays follows laws = outcome-stays (plainRulesAt olderLimits older-fit older-count) plainPairs older-widens follows (follow-at olderLimits older-fit older-count laws)
+
+module _ (M C : List ℕ) where
+  -- the blocks in the lent buffer
+  pub older-blocks-stay : (buffer : List ℕ) → outcomeBy olderPairs writesBlocks M C buffer .answer .number ≡ 0 → outcomeBy plainPairs writesBlocks M C buffer ≡ outcomeBy olderPairs writesBlocks M C buffer
+  unfolding Accepting
+  older-blocks-stay buffer z = older-stays writesBlocks blocks-follow M C buffer (inl z)
+
+  -- with costs
+  pub older-cost-blocks-stay : (buffer : List ℕ) → outcomeBy (olderCostPairs (costsIn M)) writesBlocks M C buffer .answer .number ≡ 0 → costOutcome M C buffer ≡ outcomeBy (olderCostPairs (costsIn M)) writesBlocks M C buffer
+  unfolding Accepting
+  older-cost-blocks-stay buffer z =
+      outcome-stays (costRulesAt olderLimits older-fit older-count (costsIn M)) (costPairs (costsIn M)) (older-cost-widens (costsIn M)) writesBlocks blocks-follow M C buffer (inl z)
+
+  -- the merged file: 0 or 23
+  pub older-merged-stays : (buffer : List ℕ) → Accepting writesMerged (outcomeBy olderPairs writesMerged M C buffer .answer .number) → outcomeBy plainPairs writesMerged M C buffer ≡ outcomeBy olderPairs writesMerged M C buffer
+  older-merged-stays = older-stays writesMerged merged-follow M C
+
+  -- the sheet: 0 or 28
+  pub older-sheet-stays : (buffer : List ℕ) → Accepting (writesSheet plainRule C) (outcomeBy olderPairs (writesSheet plainRule C) M C buffer .answer .number) → outcomeBy plainPairs (writesSheet plainRule C) M C buffer ≡ outcomeBy olderPairs (writesSheet plainRule C) M C buffer
+  older-sheet-stays = older-stays (writesSheet plainRule C) (sheet-follow C) M C
+
+  -- two states compared: 0 or 27, and yes or no
+  pub older-alike-stays : (x : Named) (buffer : List ℕ) → Accepting (testsParts x) (outcomeBy olderPairs (testsParts x) M C buffer .answer .number) → (outcomeBy plainPairs (testsParts x) M C buffer ≡ outcomeBy olderPairs (testsParts x) M C buffer) × (alikeSays plainPairs x M C ≡ alikeSays olderPairs x M C)
+  older-alike-stays x buffer z =
+      let a = told-accepted (plainRulesAt olderLimits older-fit older-count) (testsParts x) (follow-at olderLimits older-fit older-count (parts-follow x)) M C buffer z in
+      (older-outcome-stays M C (a .0) (a .1) (testsParts x) buffer, alike-wider olderPairs plainPairs older-widens M C (a .0) (a .1) x)
+
+-- the call that fetches: 0 or 24
+pub older-fetch-stays : (s : List ℕ) (state : ℕ) → (fetchAnswer olderLimits s state .number ≡ 0) ⊎ (fetchAnswer olderLimits s state .number ≡ 24) → fetchAnswer limits s state ≡ fetchAnswer olderLimits s state
+older-fetch-stays = fetch-wider olderLimits limits within-older
+
+-- the call that joins: 0 or 26
+pub older-joined-stays : (first second buffer : List ℕ) → (joinOutcome olderLimits (readWhole olderLimits) first second buffer .answer .number ≡ 0) ⊎ (joinOutcome olderLimits (readWhole olderLimits) first second buffer .answer .number ≡ 26) → joinOutcome limits (readWhole limits) first second buffer ≡ joinOutcome olderLimits (readWhole olderLimits) first second buffer
+older-joined-stays = join-wider olderLimits limits within-older
+
+-- 'An older part meets a larger sound model with 3 or 8': 3 at 0, or 8 at the transition with which the entries pass 1,024, or it is read
+pub older-meets : (file : List ℕ) (M : Model) → FileOf limits file M → Meets olderLimits (readWhole olderLimits) file M
+older-meets = whole-meets olderLimits limits within-older others-stay limits-fit
+
+pub older-cost-meets : (file : List ℕ) (M : Model) → CostFileOf limits file M → Meets olderLimits (readCosts olderLimits) file M
+older-cost-meets = cost-meets olderLimits limits within-older others-stay limits-fit
+
+pub older-refuses-larger : (file : List ℕ) (M : Model) → FileOf limits file M → Larger olderLimits M → ThreeOrEight (readWhole olderLimits) file
+older-refuses-larger file M f = three-or-eight olderLimits (readWhole olderLimits) file M (older-meets file M f)
+
+-- so every call that judges answers 3 or 8 there, and leaves the lent buffer as it was
+pub older-calls-refuse-larger : (file : List ℕ) (M : Model) → FileOf limits file M → Larger olderLimits M → (follows : Follows) (C buffer : List ℕ) → (number place : ℕ) × ((number ≡ 3) ⊎ (number ≡ 8)) × (outcomeBy olderPairs follows file C buffer ≡ unwritten (refusalIn (fault number) 1 place (length file)) buffer)
+older-calls-refuse-larger file M f large follows C buffer =
+    let x = older-refuses-larger file M f large in
+    (x .number, x .place, x .either, call-refuses olderLimits (readWhole olderLimits) file x plainRule follows C buffer)
+
+-- and it reads the others
+pub older-reads-exactly : (file : List ℕ) (M : Model) → FileOf limits file M → (readWhole olderLimits file ≡ model M (length file)) ↔ ((length (M .labels) ≤ 64) × (entryCount M ≤ 1024))
+older-reads-exactly file M f = reads-exactly olderLimits (readWhole olderLimits) file M (older-meets file M f)

@@ -1,0 +1,1 @@
+// Wider limits against those of an older part, in definitions and laws: no code.

@@ -1,0 +1,1 @@
+// A merged model beside its original, in definitions and laws: no code.

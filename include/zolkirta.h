@@ -19,8 +19,8 @@
 #include <stddef.h>
 #include <stdint.h>
 
-#define ZOLKIRTA_VERSION "0.7.0"
-#define ZOLKIRTA_VERSION_NUMBER 700 /* major * 10000 + minor * 100 + patch */
+#define ZOLKIRTA_VERSION "0.8.0"
+#define ZOLKIRTA_VERSION_NUMBER 800 /* major * 10000 + minor * 100 + patch */
 
 /* The most states that a model has: a block buffer of this length is always long enough. */
 #define ZOLKIRTA_STATES 128
@@ -136,7 +136,10 @@ zolkirta_answer zolkirta_judge_costs(const uint8_t *model, size_t model_length, 
  * action and the same probabilities, in whatever terms, the first is kept, in its own terms. Number 0: accepted, and the first
  * `written` bytes of `out` are the merged model's file, which is no longer than the model's; its later bytes stay. Else a refusal,
  * which writes nothing: 1 to 9 in the model (file 1), 11 to 22 in the certificate (file 2), and 23 where the certificate is accepted
- * and `out` is shorter than the file (no file, no place). */
+ * and `out` is shorter than the file (no file, no place).
+ *
+ * The merged model may be used for the model: each state behaves as the merged state that has its block's number. So where the two are
+ * joined and certified, zolkirta_alike says yes of the states s and n + block of s. */
 zolkirta_answer zolkirta_reduce(const uint8_t *model, size_t model_length, const uint8_t *certificate, size_t certificate_length,
                                 uint8_t *out, size_t out_length);
 

@@ -18,3 +18,9 @@ pub mod Duality
 pub mod Own
 pub mod Respelled
 pub mod Plain
+pub mod Parts
+pub mod PartsLaws
+pub mod Moves
+pub mod MovesLaws
+pub mod JoinedMoves
+pub mod BesideLaws

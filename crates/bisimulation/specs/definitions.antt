@@ -11,3 +11,5 @@ pub mod PairsLeft
 pub mod Blocks
 pub mod Largest
 pub mod StandsFor
+pub mod Joined
+pub mod Beside

@@ -12,7 +12,8 @@ use Rattle.rules.specs.definitions.Reading.{statesOf, actionsOf, countOf, range
 use Rattle.rules.specs.definitions.SoundModel.{Each, sumOver}
 use Rattle.rules.specs.definitions.Answers.{Outcome, refusalIn, answerWithoutPlace, unwritten, filled, fileOutcome}
 use Rattle.rules.specs.cases.MoreCases.{outcomeOf}
-use Rattle.joined.specs.Joined.{raisedEntry, raisedTransition, larger, joined, joinedFile}
+use Rattle.bisimulation.specs.definitions.Joined.{larger}
+use Rattle.joined.specs.Joined.{raisedEntry, raisedTransition, joined, joinedFile}
 use Rattle.joined.specs.JoinAnswer.{joinedOutcome, readingsOutcome, joinOutcome}
 use Rattle.joined.specs.JoinedCases.{firstModel, secondModel}
 

@@ -3,8 +3,9 @@ ghost use Prim.Native.Nat.{_+_, _≤_};
 ghost use mathlib.Core.Path.{_≡_};
 ghost use mathlib.Core.List.{_++_};
 ghost use lib.ListN.{length, drop};
+ghost use Rattle.bisimulation.specs.definitions.Joined as joined;
 ghost use Rattle.rules.specs.definitions.Reading.{modelAt};
-ghost use Rattle.joined.specs.Joined as joined;
+ghost use Rattle.joined.specs.Joined.{joinedFile};
 ghost use Rattle.writer.specs.Appends.{Appends};
 ghost use Rattle.raised.specs.Raised.{raisedTransitions};
 ghost use Rattle.joined_file.specs.JoinedFile.{labelsOf, CanWriteRecords, CanWriteJoined};
@@ -60,7 +61,7 @@ pub fn write_joined(
     out: &mut [u8],
 ) -> usize
     requires { ⌜ CanWriteJoined (now first) m (now second) n (now places) (now out) ⌝ }
-    ensures { λ r. ⌜ Appends (joined.joinedFile (modelAt (now (first .entry))) (modelAt (now (second .entry)))) 0 (now (out .entry)) (now (out .exit)) r ⌝ }
+    ensures { λ r. ⌜ Appends (joinedFile (modelAt (now (first .entry))) (modelAt (now (second .entry)))) 0 (now (out .entry)) (now (out .exit)) r ⌝ }
 {
     let actions = larger(m.actions, n.actions);
     let labels = writer::head(

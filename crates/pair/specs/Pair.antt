@@ -2,8 +2,9 @@
 use Prim.Native.Nat.{ℕ}
 use mathlib.Core.List.{List, [], _∷_}
 use Rattle.rules.specs.definitions.JudgedBy.{plainPairs}
-use Rattle.rules.specs.definitions.Answers.{Outcome, Follows, writesBlocks, writesMerged, JudgeNumber, ReduceNumber}
+use Rattle.rules.specs.definitions.Answers.{Outcome, Follows, writesBlocks, writesMerged, JudgeNumber}
 use Rattle.rules.specs.definitions.Demands.{outcomeBy, Demands}
+use Rattle.replacement.specs.Replacement.{ReduceDemands}
 use Rattle.cost_files.specs.definitions.CostAnswer.{costOutcome, CostDemands}
 use Rattle.rule_kind.specs.Kinds.{pairsBy}
 use Rattle.answer.specs.declared.Answer.{Answer}
@@ -23,6 +24,11 @@ abbrev pub PairAnswered : (follows : Follows) (numbers : ℕ → Type 0) (model 
 PairAnswered follows numbers model certificate before after r =
     JudgeAnswered (outcomeBy plainPairs follows model certificate before) (Demands plainPairs follows numbers model certificate before after) model certificate after r
 
+-- the call that reduces, document 02, K8
+abbrev pub ReduceAnswered : (model certificate before after : List ℕ) → Answer → Type 0
+ReduceAnswered model certificate before after r =
+    JudgeAnswered (outcomeBy plainPairs writesMerged model certificate before) (ReduceDemands model certificate before after) model certificate after r
+
 -- the call that judges cost pairs, document 02, K6
 abbrev pub CostAnswered : (model certificate before after : List ℕ) → Answer → Type 0
 CostAnswered model certificate before after r =
@@ -31,7 +37,7 @@ CostAnswered model certificate before after r =
 -- the demands of a call by its task
 abbrev pub demandsOf : Task → (model certificate before after : List ℕ) → ℕ → Type 0
 demandsOf Blocks = Demands plainPairs writesBlocks JudgeNumber
-demandsOf Merged = Demands plainPairs writesMerged ReduceNumber
+demandsOf Merged = ReduceDemands
 demandsOf CostBlocks = CostDemands
 
 -- what it answers

@@ -19,6 +19,7 @@ use Rattle.rules.specs.argument.Demand3Holds.{holds-read}
 use Rattle.rules.specs.argument.DemandsHold.{demands-hold, blocks-follow, merged-follow, judge-numbered, reduce-numbered}
 use Rattle.rules.specs.argument.QuotientLaws.{NumberedBlocks}
 use Rattle.rules.specs.argument.QuotientHolds.{accepted-numbered}
+use Rattle.replacement.specs.ReplacementLaws.{reduce-demands}
 use Rattle.cost_files.specs.definitions.CostModel.{costsIn}
 use Rattle.cost_files.specs.argument.CostRules.{costRules}
 use Rattle.cost_files.specs.argument.CostAnswerLaws.{cost-demands-hold}
@@ -59,7 +60,8 @@ module _ (M C before after : List ℕ) {r : Answer} (b : Bytes M) (c : Bytes C) 
 
   task-demands : (task : Task) → OutcomeIs (outcomeOf task M C before) (M ∷ C ∷ []) after r → demandsOf task M C before after (r .number)
   task-demands Blocks o = plain-demands writesBlocks blocks-follow JudgeNumber (judge-numbered M C before) o
-  task-demands Merged o = plain-demands writesMerged merged-follow ReduceNumber (reduce-numbered M C before) o
+  task-demands Merged o =
+      reduce-demands M C before after (r .number) b c (ap (λ (x : rules.Answer). x .number) (o .answer)) (plain-demands writesMerged merged-follow ReduceNumber (reduce-numbered M C before) o)
   task-demands CostBlocks o = cost-demands-hold M C before after (r .number) b c (ap (λ (x : rules.Answer). x .number) (o .answer)) (o .buffer)
 
   pub with-demands : (task : Task) → OutcomeIs (outcomeOf task M C before) (M ∷ C ∷ []) after r → TaskAnswered task M C before after r

@@ -6,12 +6,13 @@ use mathlib.Core.List.{List, [], _∷_}
 use lib.IntN.{ℤ}
 use Rattle.rules.specs.definitions.Limits.{limits}
 use Rattle.rules.specs.definitions.JudgedBy.{plainPairs}
-use Rattle.rules.specs.definitions.Answers.{fetchAnswer, stretchIn, FetchNumber, Follows, Outcome}
+use Rattle.rules.specs.definitions.Answers.{fetchAnswer, stretchIn, FetchNumber, Follows, Outcome, writesMerged}
 use Rattle.rules.specs.definitions.Demands.{outcomeBy, Demands}
 use Rattle.rules.specs.definitions.Reading.{readWhole}
 use Rattle.rules.specs.definitions.Accepted.{FileOf}
 use Rattle.joined.specs.JoinAnswer.{joinOutcome, joinFiles, JoinDemands}
 use Rattle.joined.specs.AlikeAnswer.{Named, testsParts, AlikeNumber, SaysAlike}
+use Rattle.replacement.specs.Replacement.{ReduceDemands}
 use Rattle.cost_files.specs.definitions.CostAnswer.{costOutcome, CostDemands}
 use Rattle.acceptance.specs.declared.Task.{Task}
 use Rattle.pair.specs.Pair.{outcomeOf, demandsOf}
@@ -43,6 +44,11 @@ pub record JudgeHandedBack (o : Outcome) (kept : ℕ → Type 0) (model certific
 abbrev pub PairHandedBack : (follows : Follows) (numbers : ℕ → Type 0) (model certificate before after : List ℕ) (modelSlice certificateSlice : ℕ × ℕ) (number file place state : ℕ) (remainder : ℤ) (written : ℕ) (part : List ℕ) (lying : ℕ × ℕ) → Type 0
 PairHandedBack follows numbers model certificate before after =
     JudgeHandedBack (outcomeBy plainPairs follows model certificate before) (Demands plainPairs follows numbers model certificate before after) model certificate after
+
+-- that reduces (`ReduceAnswered`)
+abbrev pub ReduceHandedBack : (model certificate before after : List ℕ) (modelSlice certificateSlice : ℕ × ℕ) (number file place state : ℕ) (remainder : ℤ) (written : ℕ) (part : List ℕ) (lying : ℕ × ℕ) → Type 0
+ReduceHandedBack model certificate before after =
+    JudgeHandedBack (outcomeBy plainPairs writesMerged model certificate before) (ReduceDemands model certificate before after) model certificate after
 
 -- of cost pairs (`CostAnswered`)
 abbrev pub CostHandedBack : (model certificate before after : List ℕ) (modelSlice certificateSlice : ℕ × ℕ) (number file place state : ℕ) (remainder : ℤ) (written : ℕ) (part : List ℕ) (lying : ℕ × ℕ) → Type 0

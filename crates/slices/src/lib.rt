@@ -2,12 +2,12 @@
 // file, place, state and remainder stand beside it. No public entry has a `requires`.
 ghost use mathlib.Core.List.{[], _∷_};
 ghost use denote.Ref.{ptr};
-ghost use Rattle.rules.specs.definitions.Answers.{writesBlocks, writesMerged, JudgeNumber, ReduceNumber};
+ghost use Rattle.rules.specs.definitions.Answers.{writesBlocks, JudgeNumber};
 ghost use Rattle.rules.specs.definitions.PlainRule.{plainRule};
 ghost use Rattle.block_sheet.specs.SheetAnswer.{writesSheet, SheetNumber};
 ghost use Rattle.answer.specs.Answered.{StretchInside};
 ghost use Rattle.alike.specs.Alike.{named};
-ghost use Rattle.slices.specs.Slices.{FetchHandedBack, AnswerHandedBack, PairHandedBack, CostHandedBack, TaskHandedBack, JoinHandedBack, AlikeHandedBack};
+ghost use Rattle.slices.specs.Slices.{FetchHandedBack, AnswerHandedBack, PairHandedBack, ReduceHandedBack, CostHandedBack, TaskHandedBack, JoinHandedBack, AlikeHandedBack};
 use acceptance::Task;
 use answer::Answer;
 
@@ -163,7 +163,7 @@ pub fn reduce<'a>(
     remainder: &mut i64,
     written: &mut usize,
 ) -> &'a [u8]
-    ensures { λ r. ⌜ PairHandedBack writesMerged ReduceNumber (now (model .entry)) (now (certificate .entry)) (now (out .entry)) (now (out .exit)) (ptr (model .entry)) (ptr (certificate .entry)) (now (number .exit)) (now (file .exit)) (now (place .exit)) (now (state .exit)) (now (remainder .exit)) (now (written .exit)) (now r) (ptr r) ⌝ }
+    ensures { λ r. ⌜ ReduceHandedBack (now (model .entry)) (now (certificate .entry)) (now (out .entry)) (now (out .exit)) (ptr (model .entry)) (ptr (certificate .entry)) (now (number .exit)) (now (file .exit)) (now (place .exit)) (now (state .exit)) (now (remainder .exit)) (now (written .exit)) (now r) (ptr r) ⌝ }
 {
     hand_back_pair(
         Task::Merged,

@@ -1,9 +1,9 @@
 // The product: the calls for C and Rust, over byte slices and plain numbers; a stretch by where it starts in its file and how long it is.
 // No public entry has a `requires`.
-ghost use Rattle.rules.specs.definitions.Answers.{writesBlocks, writesMerged, JudgeNumber, ReduceNumber};
+ghost use Rattle.rules.specs.definitions.Answers.{writesBlocks, JudgeNumber};
 ghost use Rattle.rules.specs.definitions.PlainRule.{plainRule};
 ghost use Rattle.block_sheet.specs.SheetAnswer.{writesSheet, SheetNumber};
-ghost use Rattle.pair.specs.Pair.{PairAnswered, CostAnswered};
+ghost use Rattle.pair.specs.Pair.{PairAnswered, ReduceAnswered, CostAnswered};
 ghost use Rattle.join.specs.Join.{JoinAnswered};
 ghost use Rattle.alike.specs.Alike.{named, AlikeAnswered};
 ghost use Rattle.zolkirta.specs.Calls.{FetchAnswered};
@@ -38,7 +38,7 @@ pub extern "C" fn zolkirta_judge(model: &[u8], certificate: &[u8], blocks: &mut 
 // Judges a certificate for a model and writes the model with each block merged into one state.
 #[no_mangle]
 pub extern "C" fn zolkirta_reduce(model: &[u8], certificate: &[u8], out: &mut [u8]) -> Answer
-    ensures { λ r. ⌜ PairAnswered writesMerged ReduceNumber (now (model .entry)) (now (certificate .entry)) (now (out .entry)) (now (out .exit)) r ⌝ }
+    ensures { λ r. ⌜ ReduceAnswered (now (model .entry)) (now (certificate .entry)) (now (out .entry)) (now (out .exit)) r ⌝ }
 {
     let head = model_head::head_fault(model);
     if head.number != 0 {

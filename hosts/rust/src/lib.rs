@@ -327,6 +327,9 @@ pub fn judge_costs<'a, 'b>(model: &'a [u8], certificate: &'a [u8], buffer: &'b m
 /// are the merged model's file, and they are what is handed back; the buffer's later bytes stay. Of the transitions of a block with one
 /// action and the same probabilities, in whatever terms, the first is kept, in its own terms.
 ///
+/// The merged model may be used for the model: each state behaves as the merged state that has its block's number, and [`alike`] says yes
+/// of the two wherever model and merged model are joined and certified.
+///
 /// Refusals: 1 to 9 in the model, 11 to 22 in the certificate, and 23 where the certificate is accepted and the buffer is shorter
 /// than the file. A buffer as long as the model is always enough, and so is one of [`MODEL`] bytes.
 ///

@@ -6,7 +6,7 @@ mod plain;
 mod records;
 
 use compare::{accepted, alike, changes, every_kind, join, judge, kind, reduce, rounds, Numbers};
-use maker::families::half;
+use maker::families::{half, in_any_order, internal_chain, refutation_heavy, still};
 use maker::files::{Certificate, Model, Transition};
 use maker::random::random_model;
 use records::{crowded, each_damaged, split, split_models, Records};
@@ -65,25 +65,54 @@ fn states_are_alike_in_either_order_of_joining() {
     assert!(yes > rounds(50) && no > rounds(500));
 }
 
+/// Asks for every state of a model and of a second one, each with its blocks: yes for two of one block, no for all others. False where the
+/// maker finds no certificate.
+fn alike_by_blocks(first: (&Model, &[u8]), second: (&Model, &[u8]), numbers: &mut Numbers) -> bool {
+    let Some(joined) = Joined::new(first.0, second.0, numbers) else { return false };
+    let expected: Vec<Vec<bool>> = first.1.iter().map(|s| second.1.iter().map(|t| s == t).collect()).collect();
+    assert_eq!(joined.asked(), expected, "{:?} {:?}", first.0, second.0);
+    true
+}
+
 #[test]
-fn a_model_is_alike_to_itself_as_its_blocks_say() {
+fn a_model_is_alike_to_itself_in_other_terms_as_its_blocks_say() {
     let mut numbers = Numbers::new(32);
     let mut split = 0;
     for _ in 0..rounds(100) {
         let model = random_model(&mut numbers, 5);
         let Some(own) = maker::certificate(&model, &mut numbers) else { continue };
-        let merged = Model::read(&reduce(&model.bytes(), &own.bytes(), MODEL).1);
-        // The same automaton in other terms, and the one that has a state for each block.
-        let respelled = (model.respelled(3), own.blocks.clone());
-        for (second, blocks) in [respelled, (merged.clone(), (0..merged.n() as u8).collect())] {
-            let Some(joined) = Joined::new(&model, &second, &mut numbers) else { continue };
-            let expected: Vec<Vec<bool>> = own.blocks.iter().map(|s| blocks.iter().map(|t| s == t).collect()).collect();
-            assert_eq!(joined.asked(), expected, "{model:?}");
-            split += u64::from(merged.n() > 1);
-        }
+        let asked = alike_by_blocks((&model, &own.blocks), (&model.respelled(3), &own.blocks), &mut numbers);
+        split += u64::from(asked && own.blocks.iter().any(|&block| block > 0));
     }
     println!("{split} joined models whose first has more blocks than one");
-    assert!(split > rounds(100));
+    assert!(split > rounds(50));
+}
+
+/// Document 02, K8, 'The small model for the large one': a state is alike to the merged state of its block and to no other.
+#[test]
+fn a_merged_model_stands_for_its_original() {
+    let mut numbers = Numbers::new(37);
+    let mut made: Vec<(Model, Certificate)> = Vec::new();
+    for n in [2, 3, 5, 6] {
+        made.extend([refutation_heavy(n), internal_chain(n), still(&vec![0; n])]);
+    }
+    for _ in 0..rounds(400) {
+        let model = random_model(&mut numbers, 6);
+        made.extend(maker::certificate(&model, &mut numbers).map(|own| in_any_order((model, own), &mut numbers)));
+    }
+    let (mut smaller, mut fewer) = (0, 0);
+    for (model, own) in &made {
+        let (answer, merged) = reduce(&model.bytes(), &own.bytes(), MODEL);
+        assert_eq!(answer.number, 0);
+        let merged = Model::read(&merged);
+        let blocks: Vec<u8> = (0..merged.n() as u8).collect();
+        if alike_by_blocks((model, &own.blocks), (&merged, &blocks), &mut numbers) {
+            smaller += u64::from((2..model.n()).contains(&merged.n()));
+            fewer += u64::from(merged.transitions.len() < model.transitions.len());
+        }
+    }
+    println!("{smaller} merged models of fewer states and more than one, {fewer} of fewer transitions");
+    assert!(smaller > rounds(100) && fewer > rounds(200));
 }
 
 #[test]

@@ -2,7 +2,7 @@
 use mathlib.Core.Path.{refl}
 use native.Mathlib.Omega.{arith}
 use Rattle.bisimulation.specs.argument.ChoiceLaws.{less, notLess}
-use Rattle.joined.specs.Joined as joined
+use Rattle.bisimulation.specs.definitions.Joined as joined
 use Rattle.joined_file.proofs.larger.Statement.{statement}
 use Rattle.joined_file.proofs.larger.Tie as tie
 

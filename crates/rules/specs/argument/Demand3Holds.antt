@@ -3,15 +3,11 @@ use Prim.Native.Nat.{ℕ}
 use mathlib.Core.Path.{_≡_, refl, sym, _∙_, ap, subst}
 use mathlib.Core.Logic.{_↔_}
 use mathlib.Core.List.{List}
-use lib.Dec.{ltb, eqb}
 use lib.ListN.{length, getD}
-use borrow.Author.Tests.{lt-ltb, ltb-true, eq-eqb, eqb-true}
 use native.Mathlib.Omega.{arith}
-use Rattle.bisimulation.specs.definitions.Choice.{both}
-use Rattle.bisimulation.specs.argument.ChoiceLaws.{both-true, true-both}
 use Rattle.bisimulation.specs.definitions.Pairs.{Pairs}
 use Rattle.bisimulation.specs.definitions.Largest.{LargestBisimulation, Links}
-use Rattle.bisimulation.specs.argument.LargestPairs.{largest-pairs}
+use Rattle.bisimulation.specs.argument.LargestPairs.{shared, shared-links, largest-pairs}
 use Rattle.bisimulation.specs.argument.Spelling.{oneAnswer}
 use Rattle.rules.specs.argument.AnyRule.{PairRules, pairsOf}
 use Rattle.rules.specs.definitions.Model.{Model, automatonOf, HoldOneAutomaton}
@@ -40,17 +36,12 @@ itself M =
 
 -- lying in one block as a set of pairs
 abbrev inOneBlock : List ℕ → Pairs
-inOneBlock blocks s t = both (both (ltb s (length blocks)) (ltb t (length blocks))) (eqb (getD blocks s 0) (getD blocks t 0))
+inOneBlock blocks = shared (length blocks) (λ v. getD blocks v 0)
 
 in-one-block : (blocks : List ℕ) (s t : ℕ) → Links (inOneBlock blocks) s t ↔ InOneBlock blocks s t
-in-one-block blocks s t = (
-  λ h.
-      let a = both-true _ _ (h .linked) in
-      let b = both-true _ _ (a .0) in
-      record { first = ltb-true s (length blocks) (b .0); second = ltb-true t (length blocks) (b .1); same = eqb-true _ _ (a .1) },
-  λ h.
-      record { linked = true-both (true-both (lt-ltb s (length blocks) (h .first)) (lt-ltb t (length blocks) (h .second))) (eq-eqb _ _ (h .same)) },
-)
+in-one-block blocks s t =
+    let links = shared-links (length blocks) (λ v. getD blocks v 0) s t in
+    (λ h. let x = links .0 h in record { first = x .0; second = x .1; same = x .2 }, λ h. links .1 (h .first, h .second, h .same))
 
 module _ (by : PairRules) where
   -- an accepted certificate's blocks are numbered and whole, and the largest relation

@@ -25,15 +25,15 @@ use Rattle.rules.specs.argument.PlainRules.{PlainNumber, ModelNumber, pl
 
 module _ (by : PairRules) (model certificate blocks : List ℕ) (b : Bytes model) where
   -- the two ways to say that the rules are kept
-  accepted-of : (M : Model) → KeepsRulesOn (pairsOf by) model certificate M blocks → AcceptedAs by model certificate blocks
+  pub accepted-of : (M : Model) → KeepsRulesOn (pairsOf by) model certificate M blocks → AcceptedAs by model certificate blocks
   accepted-of M k = record { M = M; file = k .file; kept = k .kept }
 
-  kept-of : (M : Model) → HoldsModel (by .models .read) model M → AcceptedAs by model certificate blocks → KeepsRulesOn (pairsOf by) model certificate M blocks
+  pub kept-of : (M : Model) → HoldsModel (by .models .read) model M → AcceptedAs by model certificate blocks → KeepsRulesOn (pairsOf by) model certificate M blocks
   kept-of M h a =
       subst (λ (N : Model). KeepsRulesOn (pairsOf by) model certificate N blocks) (one-model by model (a .M) M (holds by model certificate blocks b a) h)
       (record { file = a .file; kept = a .kept })
 
-  holds-of : (M : Model) → KeepsRulesOn (pairsOf by) model certificate M blocks → HoldsModel (by .models .read) model M
+  pub holds-of : (M : Model) → KeepsRulesOn (pairsOf by) model certificate M blocks → HoldsModel (by .models .read) model M
   holds-of M k = record { reads = by .models .exactly model M b .1 (k .file) }
 
 module _ (by : PairRules) (follows : Follows) (laws : FollowsLaws by follows) (model certificate before after : List ℕ) (number : ℕ) (b : Bytes model) (c : Bytes certificate) (e : number ≡ outcomeBy (pairsOf by) follows model certificate before .answer .number) (left : after ≡ outcomeBy (pairsOf by) follows model certificate before .buffer) where

@@ -2,18 +2,18 @@
 use Prim.Native.Nat.{ℕ, _+_, _*_, _≤_, _<_}
 use mathlib.Core.Path.{_≡_, refl, sym, _∙_, ap, ap₂}
 use native.Mathlib.Omega.{arith}
 use Rattle.bisimulation.specs.definitions.Choice.{ifSame}
 use Rattle.bisimulation.specs.argument.ChoiceLaws.{notSame}
 use Rattle.bisimulation.specs.definitions.Sum.{sum}
 use Rattle.bisimulation.specs.argument.SumLaws.{sumCong, sumZero}
 use Rattle.bisimulation.specs.argument.Own.{none}
 use Rattle.bisimulation.specs.definitions.Automaton.{Automaton, SoundAutomaton}
 use Rattle.bisimulation.specs.definitions.StepRule.{arriving, leaving, overTargets, overSources, Met}
-use Rattle.joined.specs.Joined.{IsJoined}
-use Rattle.beside.specs.Parts.{parts, nothing, square}
-use Rattle.beside.specs.PartsLaws.{byParts, inFirst, inSecond, partsCong, raisedSame, sumSplit, atFirsts, atOver, atBack, atSeconds}
-use Rattle.beside.specs.Moves.{start, Uses, Internally, Moves, Relates, Couples, Answers}
-use Rattle.beside.specs.MovesLaws.{metAnswers, answersMet, internallyCong, movesCong, still, nothingCouples, couplesCong}
+use Rattle.bisimulation.specs.definitions.Joined.{IsJoined}
+use Rattle.bisimulation.specs.argument.Parts.{parts, nothing, square}
+use Rattle.bisimulation.specs.argument.PartsLaws.{byParts, inFirst, inSecond, partsCong, raisedSame, sumSplit, atFirsts, atOver, atBack, atSeconds}
+use Rattle.bisimulation.specs.argument.Moves.{start, Uses, Internally, Moves, Relates, Couples, Answers}
+use Rattle.bisimulation.specs.argument.MovesLaws.{metAnswers, answersMet, internallyCong, movesCong, still, nothingCouples, couplesCong}
 
 -- nothing is linked
 pub nothingFor : (A : Automaton) (v : ℕ) → overTargets A nothing v ≡ 0

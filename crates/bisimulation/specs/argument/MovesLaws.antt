@@ -5,15 +5,15 @@ use mathlib.Core.Logic.{_⊎_, inl, inr}
 use native.Mathlib.Decide.{ℕ-discrete}
 use native.Mathlib.Nat.{eq-zero-or-pos, mul-comm}
 use native.Mathlib.Omega.{arith}
 use Rattle.bisimulation.specs.definitions.Choice.{ifSame}
 use Rattle.bisimulation.specs.argument.ChoiceLaws.{turned, timesSame}
 use Rattle.bisimulation.specs.definitions.Sum.{sum}
 use Rattle.bisimulation.specs.argument.SumLaws.{sumCong, sumZero, sumTimes}
 use Rattle.bisimulation.specs.argument.Own.{once, none, onceUsed, arrivingNone, leavingNone, arrivingOnce, leavingOnce}
 use Rattle.bisimulation.specs.definitions.Automaton.{Automaton}
 use Rattle.bisimulation.specs.definitions.StepRule.{arriving, leaving, overSources, beforeMove, afterMove, internalMove, atTarget, MetExternal, MetInternal, Met}
-use Rattle.beside.specs.Parts.{nothing}
-use Rattle.beside.specs.Moves.{start, Uses, Internally, Moves, Couples, Answers}
+use Rattle.bisimulation.specs.argument.Parts.{nothing}
+use Rattle.bisimulation.specs.argument.Moves.{start, Uses, Internally, Moves, Couples, Answers}
 
 -- to answer is to meet the question
 module _ (A : Automaton) (W : ℕ → ℕ → Type 0) (q t : ℕ) where

@@ -1,26 +1,39 @@
 -- 'That relation is symmetric, keeps labels and meets the step rule': by who asks whom.
 use Prim.Native.Nat.{ℕ, _+_, _*_, _<_}
 use mathlib.Core.Path.{_≡_, refl, sym, _∙_, ap, subst}
-use mathlib.Core.Logic.{_⊎_, inl, inr}
+use mathlib.Core.Logic.{_↔_, _⊎_, inl, inr}
 use native.Mathlib.Decide.{ℕ-discrete}
 use native.Mathlib.Nat.{eq-zero-or-pos, mul-comm, mul-pos, eq-of-mul-eq-mul-left}
 use native.Mathlib.Omega.{arith}
 use Rattle.bisimulation.specs.definitions.Choice.{ifSame}
 use Rattle.bisimulation.specs.argument.ChoiceLaws.{same, notSame, turned, timesSame, eitherSame, keptSame}
 use Rattle.bisimulation.specs.definitions.Sum.{sum}
 use Rattle.bisimulation.specs.argument.SumLaws.{sumCong, sumZero, sumTimesRight, sumExchange, sumSame}
 use Rattle.bisimulation.specs.argument.Own.{plainOwn}
 use Rattle.bisimulation.specs.definitions.Automaton.{Automaton, SoundAutomaton}
 use Rattle.bisimulation.specs.definitions.StepRule.{overTargets, Met, MeetsStepRule}
 use Rattle.bisimulation.specs.definitions.StandsFor.{weightInto, StandsFor}
-use Rattle.bisimulation.specs.definitions.Largest.{Bisimulation}
-use Rattle.joined.specs.Joined.{IsJoined}
-use Rattle.beside.specs.Beside.{blockOf, Linked, IsMerged, SharesBlocks}
-use Rattle.beside.specs.Parts.{parts, nothing}
-use Rattle.beside.specs.PartsLaws.{byParts, inFirst, inSecond}
-use Rattle.beside.specs.Moves.{start, Moves, Couples, Answers}
-use Rattle.beside.specs.MovesLaws.{metAnswers, answersMet, movesCong, nothingCouples, couplesCong, movesTimes, startTimes, ownMoves}
-use Rattle.beside.specs.JoinedMoves.{eachTransition, nothingFor, firstAnswers, secondAnswers, firstMet, secondMet}
+use Rattle.bisimulation.specs.definitions.Pairs.{Pairs}
+use Rattle.bisimulation.specs.definitions.Largest.{Bisimulation, BisimilarByPairs, Links}
+use Rattle.bisimulation.specs.argument.LargestPairs.{shared, shared-links, as-pairs}
+use Rattle.bisimulation.specs.argument.Plain.{plain}
+use Rattle.bisimulation.specs.definitions.Joined.{IsJoined}
+use Rattle.bisimulation.specs.definitions.Beside.{blockOf, Linked, IsMerged, SharesBlocks}
+use Rattle.bisimulation.specs.argument.Parts.{parts, nothing}
+use Rattle.bisimulation.specs.argument.PartsLaws.{byParts, inFirst, inSecond}
+use Rattle.bisimulation.specs.argument.Moves.{start, Moves, Couples, Answers}
+use Rattle.bisimulation.specs.argument.MovesLaws.{metAnswers, answersMet, movesCong, nothingCouples, couplesCong, movesTimes, startTimes, ownMoves}
+use Rattle.bisimulation.specs.argument.JoinedMoves.{eachTransition, nothingFor, firstAnswers, secondAnswers, firstMet, secondMet}
+
+-- being linked as a set of pairs
+module _ (A Q : Automaton) (block : ℕ → ℕ) where
+  abbrev linkedPairs : Pairs
+  linkedPairs = shared (A .states + Q .states) (blockOf A block)
+
+  asPairs : (v u : ℕ) → Links linkedPairs v u ↔ Linked A Q block v u
+  asPairs v u =
+      let links = shared-links (A .states + Q .states) (blockOf A block) v u in
+      (λ h. let x = links .0 h in record { first = x .0; second = x .1; same = x .2 }, λ h. links .1 (h .first, h .second, h .same))
 
 -- a choice that is the same for all terms
 sumChosen : (n b c : ℕ) (f : ℕ → ℕ) → sum n (λ v. ifSame b c (f v) 0) ≡ ifSame b c (sum n f) 0
@@ -228,4 +241,13 @@ module _ (A Q J : Automaton) (block : ℕ → ℕ) (soundA : SoundAutomaton A) (
             symmetric = linkedSymmetric;
             keepsLabels = linkedLabels;
             meets = linkedMeets;
+          }
+
+      -- an original state and the one that stands for its block are linked by it, which is a set of pairs
+      pub standInBisimilar : (v : ℕ) → v < A .states → BisimilarByPairs Met J v (A .states + block v)
+      standInBisimilar v l =
+          record {
+            W = linkedPairs A Q block;
+            bisimulation = as-pairs plain (linkedPairs A Q block) (asPairs A Q block) linkedBisimulation;
+            linked = asPairs A Q block v (n + block v) .1 (link (block v) v (n + block v) (omega arith) (omega (arith, merged .below v l)) (blockFirst v l) (blockSecond (block v)));
           }

@@ -4,10 +4,10 @@ use mathlib.Core.Path.{_≡_, refl, sym, _∙_, ap, ap₂, subst}
 use native.Mathlib.Nat.{add-sub-cancel-left}
 use native.Mathlib.Decide.{ℕ-discrete, decLt}
 use native.Mathlib.Omega.{arith}
 use Rattle.bisimulation.specs.definitions.Choice.{ifLess, ifSame}
 use Rattle.bisimulation.specs.definitions.Sum.{sum}
 use Rattle.bisimulation.specs.argument.ChoiceLaws.{less, notLess, same, notSame}
-use Rattle.beside.specs.Parts.{parts, square}
+use Rattle.bisimulation.specs.argument.Parts.{parts, square}
 
 -- each number is in one of the two
 pub byParts {ℓ} : (n m : ℕ) (P : ℕ → Type ℓ) → ((v : ℕ) → v < n → P v) → ((v : ℕ) → v < m → P (n + v)) → (v : ℕ) → v < n + m → P v

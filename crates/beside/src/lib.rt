@@ -1,1 +1,0 @@
-// A merged model beside its original, in definitions and laws: no code.

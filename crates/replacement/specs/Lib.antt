@@ -1,0 +1,4 @@
+-- The small model for the large one, of files: request K8 of document 02.
+pub mod Replacement
+pub mod ReplacementLaws
+pub mod ReplacementCases

@@ -139,7 +139,7 @@ zolkirta_answer zolkirta_judge_costs(const uint8_t *model, size_t model_length, 
  * and `out` is shorter than the file (no file, no place).
  *
  * The merged model may be used for the model: each state behaves as the merged state that has its block's number. So where the two are
- * joined and certified, zolkirta_alike says yes of the states s and n + block of s. */
+ * joined and certified, zolkirta_alike says yes of a state s and n + the block of s, n being the model's state count. */
 zolkirta_answer zolkirta_reduce(const uint8_t *model, size_t model_length, const uint8_t *certificate, size_t certificate_length,
                                 uint8_t *out, size_t out_length);
 

@@ -5,3 +5,4 @@ pub mod CostReadingLaws
 pub mod CostRules
 pub mod CostAnswerLaws
 pub mod OtherCalls
+pub mod FreePrices

@@ -5,9 +5,9 @@ ghost use Rattle.rules.specs.definitions.Faults as rules;
 ghost use Rattle.fault.specs.Faults.{faultOf, Placed};
 
 pub struct Fault {
-    // Document 01's number of the refusal, 0 for nothing.
+    // The number of the refusal, 0 for nothing.
     pub number: u32,
-    // The byte of its file where the record at fault begins.
+    // The byte of its file where the record at fault begins; for 29, the cost.
     pub place: usize,
     // The state at which an equation or the last price condition breaks, and its left side less its right; 0 for every other refusal.
     pub state: u32,

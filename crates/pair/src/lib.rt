@@ -47,8 +47,8 @@ pub fn answer_headed(
     }
 }
 
-// The head, and the rest of the pair. Only a call that lends a block buffer limits the blocks. The
-// rest has a large frame and is called from two places, so that the compiler keeps it out of line: a refusal at the head needs no such frame.
+// The head, and the rest of the pair. Only a call that lends a block buffer limits the blocks. The rest has a large frame and is called from
+// several places, so that the compiler keeps it out of line: a refusal at the head needs no such frame.
 pub fn answer_pair(task: Task, model: &[u8], certificate: &[u8], out: &mut [u8]) -> Answer
     ensures { λ r. ⌜ TaskAnswered task (now (model .entry)) (now (certificate .entry)) (now (out .entry)) (now (out .exit)) r ⌝ }
 {

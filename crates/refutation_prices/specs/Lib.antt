@@ -1,4 +1,3 @@
 -- The prices of a refutation judged.
 pub mod PricesJudged
-pub mod FreePrices
 pub mod RulePrices

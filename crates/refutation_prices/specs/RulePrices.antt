@@ -35,7 +35,7 @@ use Rattle.prices.specs.PricesLaws.{price-back}
 use Rattle.conditions.specs.Conditions.{fairTwice, fairTo, allFair, conditionsFault, AllPriced, LastAsked}
 use Rattle.conditions.specs.ConditionsLaws.{fair-internal, fair-external}
 use Rattle.refutation_prices.specs.PricesJudged.{Asked, furtherAt, IsFurther}
-use Rattle.refutation_prices.specs.FreePrices.{free-internal, free-external}
+use Rattle.cost_files.specs.argument.FreePrices.{free-internal, free-external}
 
 -- the states are those of the file
 module _ {s places : List ℕ} {n count : ℕ} (k : Known s n count places) where

@@ -44,7 +44,7 @@ module _ (by : JudgedBy) where
     pub alike : SoundModel (by .limits) (joined M N) → (certificate shared : List ℕ) → Bytes certificate → AcceptedBy by (joinedFile M N) certificate shared → (s : ℕ) → s < length (M .labels) → alikeSays by (withStandIn M blocks s) (joinedFile M N) certificate ≡ 1
 
   -- the theorem of files: the merged model of every accepted certificate may be used for its original. It holds for document 01's step rule at
-  -- any limits (`merged-replaces`)
+  -- any limits that the files' fields have room for (`merged-replaces`)
   abbrev pub MergedReplaces : Type 0
   MergedReplaces = (bytes C blocks : List ℕ) → Bytes bytes → Bytes C → AcceptedBy by bytes C blocks → (M : Model) → HoldsModel (by .read) bytes M → Replaces M (quotient M blocks) blocks
 

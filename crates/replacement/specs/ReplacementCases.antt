@@ -1,4 +1,4 @@
--- Five wrong merged models of the small pair S, labels 0 0 1 and blocks 0 0 1, that may not be used for it.
+-- Five wrong merged models of the small pair S with label 1 for state 2, blocks 0 0 1: none may be used for it.
 use Prim.Native.Nat.{ℕ, _+_, _-_, _*_, _<_}
 use mathlib.Core.Path.{_≡_, refl}
 use mathlib.Core.Logic.{_⊎_, inl, inr}

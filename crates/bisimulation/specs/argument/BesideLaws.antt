@@ -97,7 +97,7 @@ module _ (A Q J : Automaton) (block : ℕ → ℕ) (soundA : SoundAutomaton A) (
     abbrev d : ℕ
     d = A .denominator r
 
-    -- 'w(n+c,u) = p(u)·d' for u in c'
+    -- w from the merged state c to u: p(u) times the merged denominator, for u in c
     back : ℕ → ℕ → ℕ
     back c u = ifSame (block u) c (A .weight r u * Q .denominator q) 0
 
@@ -136,7 +136,7 @@ module _ (A Q J : Automaton) (block : ℕ → ℕ) (soundA : SoundAutomaton A) (
       abbrev x : Answers A Same r t
       x = metAnswers A Same r t m
 
-      -- 'w(v,n+c) the sum of w(v,u) over u in c'
+      -- w from v to the merged state c: the sum of w(v,u) over u in c
       over : ℕ → ℕ → ℕ
       over v c = sum n (λ u. ifSame (block u) c (x .w v u) 0)
 

@@ -11,7 +11,7 @@ use Rattle.bisimulation.specs.definitions.StepRule.{arriving, leaving, o
 unfoldable pub start : (t D : ℕ) → ℕ → ℕ
 start t D v = ifSame v t D 0
 
--- 'A k of another transition .. is 0': a layer uses only transitions with the action a
+-- a layer uses only transitions with the action a: a k of another is 0
 abbrev pub Uses : Automaton → (a : ℕ) → (ℕ → ℕ) → Type 0
 Uses A a k = (r : ℕ) → r < A .transitions → 0 < k r → A .action r ≡ a
 
@@ -33,7 +33,7 @@ pub record Moves (A : Automaton) (a : ℕ) (x y : ℕ → ℕ) : Type 0 where
   pub internal : a ≡ 0 → Internally A x y
   pub external : a ≢ 0 → Externally A a x y
 
--- 'a w of unrelated states, is 0', for w from n states to m states
+-- a w of unrelated states is 0, for w from n states to m states
 abbrev pub Relates : (W : ℕ → ℕ → Type 0) → (n m : ℕ) → (ℕ → ℕ → ℕ) → Type 0
 Relates W n m w = (v u : ℕ) → v < n → u < m → 0 < w v u → W v u
 

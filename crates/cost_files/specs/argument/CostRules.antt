@@ -25,7 +25,7 @@ use Rattle.cost_files.specs.definitions.CostPairs.{costPairs, AcceptedWi
 use Rattle.cost_files.specs.argument.CostCertificates.{costCertificates}
 use Rattle.cost_files.specs.argument.CostReadingLaws.{costs-in, without-costs, costFiles}
 
--- document 01's limits, cost models, and the step rule with these costs
+-- today's limits, cost models, and the step rule with these costs
 abbrev pub costRules : (costs : List ℕ) → PairRules
 costRules costs = record { limits = limits; widths = limits-fit; refutations = omega arith; models = costFiles limits limits-fit; rule = costCertificates costs }
 

@@ -16,7 +16,7 @@ use Rattle.cost_files.specs.definitions.CostReading.{readCosts}
 use Rattle.cost_files.specs.definitions.CostFile.{costFile}
 use Rattle.cost_files.specs.definitions.CostSays.{costSays}
 
--- document 01's limits; cost models; the step rule with these costs
+-- today's limits; cost models; the step rule with these costs
 abbrev pub costPairs : (costs : List ℕ) → JudgedBy
 costPairs costs =
     record {

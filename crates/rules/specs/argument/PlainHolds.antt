@@ -1,4 +1,4 @@
--- Demands 2 and 3, and the merged model, for document 01's limits, model files and step rule.
+-- Demands 2 and 3, and the merged model, for today's limits, document 01's model files and step rule.
 use Prim.Native.Nat.{ℕ}
 use mathlib.Core.Logic.{_↔_}
 use mathlib.Core.List.{List}

@@ -149,6 +149,6 @@ wholeFiles L widths =
 abbrev pub wholeRules : (L : Limits) → FitsWidths L → L .refutations < 65536 → CertificateRule → PairRules
 wholeRules L widths few rule = record { limits = L; widths = widths; refutations = few; models = wholeFiles L widths; rule = rule }
 
--- document 01's limits, model files and step rule
+-- today's limits, document 01's model files and step rule
 abbrev pub plainRules : PairRules
 plainRules = wholeRules limits limits-fit (omega arith) plainCertificates

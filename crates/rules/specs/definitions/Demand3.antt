@@ -36,7 +36,7 @@ pub record Demand3 (L : Limits) (read : Reader) (file : FileRule) (rule : StepRu
   pub largest : (bytes C blocks : List ℕ) → Bytes bytes → Bytes C → AcceptedFor L read file bytes C blocks → LargestBlocks read rule bytes blocks
   pub oneAnswer : (bytes₁ C₁ blocks₁ bytes₂ C₂ blocks₂ : List ℕ) → Bytes bytes₁ → Bytes C₁ → Bytes bytes₂ → Bytes C₂ → AcceptedFor L read file bytes₁ C₁ blocks₁ → AcceptedFor L read file bytes₂ C₂ blocks₂ → (M₁ M₂ : Model) → HoldsModel read bytes₁ M₁ → HoldsModel read bytes₂ M₂ → HoldOneAutomaton M₁ M₂ → NameSameBlocks blocks₁ blocks₂
 
--- for document 01's limits and step rule
+-- for today's limits and document 01's step rule
 abbrev pub PlainDemand3 : Type 1
 PlainDemand3 = Demand3 limits (readWhole limits) plainRule Met
 

@@ -18,6 +18,6 @@ pub record JudgedBy : Type 1 where
   pub says : RuleSays
   pub met : StepRule
 
--- document 01's limits, model files and step rule
+-- today's limits, document 01's model files and step rule
 abbrev pub plainPairs : JudgedBy
 plainPairs = record { limits = limits; read = readWhole limits; isFile = FileOf limits; file = plainRule; says = plainSays; met = Met }

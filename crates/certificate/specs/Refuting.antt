@@ -1,6 +1,6 @@
 -- What is known before each refutation record, and before the blocks record, for any step rule.
 use Prim.Native.Nat.{ℕ, zero, suc, _+_, _-_, _≤_, _<_}
-use mathlib.Core.Path.{_≡_, refl, sym, _∙_, ap, ap₂}
+use mathlib.Core.Path.{_≡_, refl, sym, _∙_, ap, ap₂, subst}
 use mathlib.Core.List.{List}
 use lib.ListN.{length, take, drop}
 use lib.IntN.{ℤ}
@@ -13,6 +13,7 @@ use Rattle.rules.specs.definitions.Faults.{certificateRecord}
 use Rattle.rules.specs.definitions.Certificate.{FileRule, refutationCount, certificateHeadFault, challengerAt, defenderAt, afterRefutation, refutationFault, pairsAfter, blocksAt}
 use Rattle.rules.specs.definitions.Judging.{Judgement, rejected, rejectAt, questions, judgeFlows, judgeBlocks, judgeRefutations, judgeCertificate}
 use Rattle.rules.specs.argument.FaultLaws.{none-first, certificate-refuses, opened}
+use Rattle.field.specs.declared.Cursor.{Cursor}
 use Rattle.fault.specs.declared.Fault.{Fault}
 use Rattle.fault.specs.Faults.{faultOf, Placed}
 use Rattle.fault.specs.FaultsLaws.{none-is}
@@ -27,6 +28,7 @@ use Rattle.flows.specs.declared.Judged.{Judged}
 use Rattle.flows.specs.declared.Judged.the-variants.{Rejected}
 use Rattle.flows.specs.FlowsJudged.{Judges, judges, JudgesFlows}
 use Rattle.flows.specs.Going.{reject-stops, reject-passes}
+use Rattle.certificate.specs.declared.Passed.{Passed}
 use Rattle.certificate.specs.CertificateJudged.{JudgesBlocks}
 
 -- a record's fault rejects at its place
@@ -62,6 +64,11 @@ pub record Refuting (rule : FileRule) (s C : List ℕ) (n : ℕ) (rows : List �
   pub held : HoldsPairs n pairs rows
   pub judged : judgeRefutations limits rule (automatonIn s) C left pairs at ≡ judgeCertificate limits rule (automatonIn s) C
   pub inside : at ≤ length C
+
+-- one of the refutations is refused, or none is: then none is left
+pub record RefutationsJudged (rule : FileRule) (s C : List ℕ) (n : ℕ) (rows : List ℕ) (r : Passed) : Type 0 where
+  pub stops : (r .fault .number ≡ 0 → ⊥) → Judges C n (judgeCertificate limits rule (automatonIn s) C) (Rejected (r .fault))
+  pub passes : r .fault .number ≡ 0 → Refuting rule s C n rows 0 (r .next .at)
 
 module _ (rule : FileRule) (A : Automaton) (C : List ℕ) (R : Pairs) where
   some-left : (left at : ℕ) → 0 < left → judgeRefutations limits rule A C left R at ≡ rejectAt (refutationFault rule A C R at) at (judgeRefutations limits rule A C (left - 1) (pairsAfter A C R at) (afterRefutation rule A C at))
@@ -127,3 +134,17 @@ module _ (rule : FileRule) (s C : List ℕ) (n : ℕ) where
     pub refuting-ends : left ≤ 0 → {r : Judged} → JudgesBlocks rule s C n rows at r → Judges C n (judgeCertificate limits rule (automatonIn s) C) r
     refuting-ends none {r} b =
         judges r (b .answer (going .pairs) (going .held) ∙ sym (none-left rule (automatonIn s) C (going .pairs) left at none) ∙ going .judged) (b .inside)
+
+-- what the judge of all refutations hands up, where one is refused and where none is
+module _ {rule : FileRule} {s C : List ℕ} {n : ℕ} {rows : List ℕ} where
+  pub refuting-from : {left at first : ℕ} → Refuting rule s C n rows left first → at ≡ first → Refuting rule s C n rows left at
+  refuting-from {left} going e = subst (Refuting rule s C n rows left) (sym e) going
+
+  pub refutations-stop : {r : Passed} → ((r .fault .number ≡ 0 → ⊥) → Judges C n (judgeCertificate limits rule (automatonIn s) C) (Rejected (r .fault))) → (r .fault .number ≡ 0 → ⊥) → RefutationsJudged rule s C n rows r
+  refutations-stop j some = record { stops = j; passes = λ good. absurd (some good) }
+
+  pub refutations-pass : (f : Fault) {left : ℕ} {next : Cursor} → faultOf f ≡ rules.noFault → Refuting rule s C n rows left (next .at) → left ≤ 0 → RefutationsJudged rule s C n rows (record { fault = f; next = next })
+  refutations-pass f {left} {next} e going none =
+      let good = ap (λ (x : rules.Fault). x .number) e in
+      let last : left ≡ 0 = omega arith in
+      record { stops = λ o. absurd (o good); passes = λ z. subst (λ (k : ℕ). Refuting rule s C n rows k (next .at)) last going }

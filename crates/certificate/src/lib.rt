@@ -8,6 +8,7 @@ ghost use Rattle.rules.specs.definitions.Judging.{judgeCertificate};
 ghost use Rattle.transition.specs.Known.{automatonIn, Known};
 ghost use Rattle.flows.specs.FlowsJudged.{Judges};
 ghost use Rattle.certificate.specs.CertificateJudged.{HeadJudged, JudgesBlocks};
+ghost use Rattle.certificate.specs.Refuting.{Refuting, RefutationsJudged};
 use fault::Fault;
 use field::Cursor;
 use flows::Judged;
@@ -16,6 +17,12 @@ use limits::STATES;
 use model::Places;
 use pairs::Rows;
 use rule_kind::Kind;
+
+// What the refutations come to: the fault of one, and where there is none the cursor past them.
+struct Passed {
+    fault: Fault,
+    next: Cursor,
+}
 
 // Refusals 11 to 13 of the head, which begins the file.
 fn head_fault(kind: Kind, cert: &[u8]) -> Fault
@@ -32,7 +39,8 @@ fn head_fault(kind: Kind, cert: &[u8]) -> Fault
     fault::none().at(0)
 }
 
-// The blocks record at a place, and the flows.
+// The blocks record at a place, and the flows. Those are judged by two calls, so that the compiler keeps their loops out of line: fewer values
+// live through them.
 fn judge_blocks(
     kind: Kind,
     s: &[u8],
@@ -50,7 +58,61 @@ fn judge_blocks(
     if blocks.number != 0 {
         return Judged::Rejected(blocks);
     }
-    flows::judge_flows(kind, s, n, count, places, rows, cert, at + 2)
+    let start = at + 2;
+    match kind {
+        Kind::Plain => flows::judge_flows(Kind::Plain, s, n, count, places, rows, cert, start),
+        Kind::Costs => flows::judge_flows(Kind::Costs, s, n, count, places, rows, cert, start),
+    }
+}
+
+// Judges so many refutations, and removes the pair of each. Their prices need no stack once the flows are judged.
+fn judge_refutations(
+    kind: Kind,
+    s: &[u8],
+    n: usize,
+    count: usize,
+    places: &Places,
+    cert: &[u8],
+    refutations: usize,
+    rows: &mut Rows,
+) -> Passed
+    requires { ⌜ Known (now s) n count (now places) × KindStands kind (now s) × Refuting (ruleOf kind (now s)) (now s) (now cert) n (now rows) refutations 4 ⌝ }
+    ensures { λ r. ⌜ RefutationsJudged (ruleOf kind (now (s .entry))) (now (s .entry)) (now (cert .entry)) n (now (rows .exit)) r ⌝ }
+{
+    let mut x = [0; STATES];
+    let mut y = [0; STATES];
+    let mut g = [0; STATES];
+    let mut left = refutations;
+    let mut place = Cursor::new(4);
+    while 0 < left {
+        let refuted = refutation::judge_refutation(
+            kind,
+            s,
+            n,
+            count,
+            places,
+            rows,
+            cert,
+            place,
+            &mut x,
+            &mut y,
+            &mut g,
+        );
+        let wrong = refuted.fault;
+        if wrong.number != 0 {
+            return Passed {
+                fault: wrong,
+                next: place,
+            };
+        }
+        pairs::remove(rows, refuted.source, refuted.defender);
+        place = refuted.next;
+        left -= 1;
+    }
+    Passed {
+        fault: fault::none(),
+        next: place,
+    }
 }
 
 // Judges a certificate for a sound model of n states, whose transitions have their places in the table.
@@ -71,32 +133,11 @@ pub fn judge_certificate(
     }
     let mut rows = pairs::no_rows();
     classes::start(&s[8..8 + n], n, &mut rows);
-    let mut x = [0; STATES];
-    let mut y = [0; STATES];
-    let mut g = [0; STATES];
-    let mut left = Cursor::new(2).pair(cert).value;
-    let mut place = Cursor::new(4);
-    while 0 < left {
-        let refuted = refutation::judge_refutation(
-            kind,
-            s,
-            n,
-            count,
-            places,
-            &rows,
-            cert,
-            place,
-            &mut x,
-            &mut y,
-            &mut g,
-        );
-        let wrong = refuted.fault;
-        if wrong.number != 0 {
-            return Judged::Rejected(wrong);
-        }
-        pairs::remove(&mut rows, refuted.source, refuted.defender);
-        place = refuted.next;
-        left -= 1;
+    let refutations = Cursor::new(2).pair(cert).value;
+    let passed = judge_refutations(kind, s, n, count, places, cert, refutations, &mut rows);
+    let refused = passed.fault;
+    if refused.number != 0 {
+        return Judged::Rejected(refused);
     }
-    judge_blocks(kind, s, n, count, places, &rows, cert, place.at)
+    judge_blocks(kind, s, n, count, places, &rows, cert, passed.next.at)
 }

@@ -4,7 +4,7 @@ ghost use lib.ListN.{length, getD};
 ghost use mathlib.Core.Path.{_≡_};
 ghost use Rattle.rules.specs.definitions.Limits.{limits};
 ghost use Rattle.limits.specs.Sizes.{rowWords};
-ghost use Rattle.pairs.specs.Rows.{HoldsPairs};
+ghost use Rattle.pairs.specs.Rows.{NoRows, HoldsPairs};
 ghost use Rattle.classes.specs.Classes.{sameLabels, SmallBytes, AreClasses, Agrees};
 use pairs::Rows;
 
@@ -16,19 +16,17 @@ fn byte_of(bytes: &[u8], n: usize, u: usize) -> usize
     bytes[u] as usize
 }
 
-// Row b is that of a state with byte b.
-fn classes(bytes: &[u8], n: usize) -> Rows
-    requires { ⌜ (n ≤ limits .states) × (n ≤ length (now bytes)) × SmallBytes n (now bytes) ⌝ }
-    ensures { λ r. ⌜ AreClasses (now (bytes .entry)) n r ⌝ }
+// Makes row b that of a state with byte b, in rows that hold nothing yet.
+fn classes(bytes: &[u8], n: usize, rows: &mut Rows)
+    requires { ⌜ (n ≤ limits .states) × (n ≤ length (now bytes)) × SmallBytes n (now bytes) × NoRows (now rows) ⌝ }
+    ensures { λ r. ⌜ AreClasses (now (bytes .entry)) n (now (rows .exit)) ⌝ }
 {
-    let mut rows = pairs::no_rows();
     let mut u = 0;
     while u < n {
         let byte = byte_of(bytes, n, u);
-        pairs::relate(&mut rows, byte, u);
+        pairs::relate(rows, byte, u);
         u += 1;
     }
-    rows
 }
 
 // Relates every pair of the n states with equal labels.
@@ -36,7 +34,8 @@ pub fn start(labels: &[u8], n: usize, rows: &mut Rows)
     requires { ⌜ (n ≤ limits .states) × (n ≤ length (now labels)) × SmallBytes n (now labels) × (length (now rows) ≡ rowWords) ⌝ }
     ensures { λ r. ⌜ HoldsPairs n (sameLabels (now (labels .entry))) (now (rows .exit)) ⌝ }
 {
-    let members = classes(labels, n);
+    let mut members = pairs::no_rows();
+    classes(labels, n, &mut members);
     let mut v = 0;
     while v < n {
         let byte = byte_of(labels, n, v);
@@ -50,7 +49,8 @@ pub fn agrees(blocks: &[u8], n: usize, rows: &Rows) -> bool
     requires { ⌜ (n ≤ limits .states) × (n ≤ length (now blocks)) × SmallBytes n (now blocks) ⌝ }
     ensures { λ r. ⌜ Agrees (now (blocks .entry)) n (now (rows .entry)) r ⌝ }
 {
-    let members = classes(blocks, n);
+    let mut members = pairs::no_rows();
+    classes(blocks, n, &mut members);
     let mut v = 0;
     while v < n {
         if !pairs::same_in(rows, v, &members, byte_of(blocks, n, v)) {

@@ -20,7 +20,7 @@ fn at_least(d: usize, x: &Prices, v: usize, sum: i64) -> bool
     requires { ⌜ (d < 65536) × (v < limits .states) × (mag (priceIn (now x) v) < 2 ^ 31) ⌝ }
     ensures { λ r. ⌜ r ≡ leZ sum (pos d *ℤ priceIn (now (x .entry)) v) ⌝ }
 {
-    let price = x[v];
+    let price = prices::price_of(x, v);
     sum <= d as i64 * price
 }
 
@@ -29,7 +29,7 @@ fn excess(d: usize, x: &Prices, v: usize, sum: i64) -> i64
     requires { ⌜ ((d < 65536) × (v < limits .states) × (mag (priceIn (now x) v) < 2 ^ 31)) × (natAbs sum ≤ 2 ^ 31 * 65535 * (1 + highestCost)) ⌝ }
     ensures { λ r. ⌜ r ≡ pos d *ℤ priceIn (now (x .entry)) v -ℤ sum ⌝ }
 {
-    let price = x[v];
+    let price = prices::price_of(x, v);
     d as i64 * price - sum
 }
 

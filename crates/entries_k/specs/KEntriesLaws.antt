@@ -26,7 +26,7 @@ use Rattle.transition.specs.KnownLaws.{few-transitions, known-own, known-transi
 use Rattle.entries_k.specs.declared.Taken.{Taken}
 use Rattle.remainders.specs.Nonzero.{nonzeroIn, Counted, Became}
 use Rattle.remainders.specs.Moving.{arrived, departed, Room, CanMove}
-use Rattle.entries_k.specs.Taking.{arrivalOf, departureOf, Tests, WrongK, unordered, absent, unasked, nothing, RightK, TellsK, tookK, tookKs, CanTake, kSum, costOfK, mostCostOfK, PriceAsked, PriceIs, mostKs, CanTakeKs, TookKs}
+use Rattle.entries_k.specs.Taking.{arrivalOf, departureOf, Tests, WrongK, unordered, absent, unasked, nothing, RightK, TellsK, tookK, tookKs, CanTake, kSum, costOfK, mostCostOfK, PayAsked, PaidIs, mostKs, CanTakeKs, TookKs}
 use Rattle.signed.specs.TermsLaws.{minus-small}
 use Rattle.remainders.specs.MovingLaws.{room-fewer, arrived-length, arrived-room, departed-room}
 
@@ -75,10 +75,10 @@ module _ {s places : List ℕ} {r k : ℕ} {remainders : List ℤ} {nonzero : �
       middle : List ℤ
       middle = arrived (entriesOf s r) (pos k) (arrivalOf layer) remainders
 
--- what k of a transition costs, where its cost is 0 and where it is not
+-- what is paid with k of a transition, where its cost is 0 and where it is not
 module _ {kind : Kind} {s : List ℕ} {r cost : ℕ} (c : CostIs kind s r cost) (k : ℕ) where
-  pub price-none : cost ≡ 0 → PriceIs (costIn kind s) s r k 0
-  price-none z =
+  pub pays-none : cost ≡ 0 → (paid : ℕ) → PaidIs (costIn kind s) s r k paid paid
+  pays-none z paid =
       let none = ap (λ (x : ℕ). k * automatonIn s .denominator r * x) (sym (c .is) ∙ z) in
       record { is = λ layer. omega (arith, none); low = omega arith }
 
@@ -86,11 +86,14 @@ module _ {kind : Kind} {s : List ℕ} {r cost : ℕ} (c : CostIs kind s r cost) 
     pub k-times-d : k * f .denominator ≤ 4294967295 * 65535
     k-times-d = mul-le-mul {n₂ = 4294967295} {m₂ = 65535} (omega arith) (omega (arith, d .small))
 
-    pub price-is : PriceIs (costIn kind s) s r k (k * f .denominator * cost)
-    price-is =
+    pub price-low : k * f .denominator * cost ≤ mostCostOfK
+    price-low = mul-le-mul {n₂ = 4294967295 * 65535} {m₂ = highestCost} k-times-d (c .low)
+
+    pub pays : (paid : ℕ) → PaidIs (costIn kind s) s r k paid (paid + k * f .denominator * cost)
+    pays paid =
         record {
-          is = λ layer. ap (λ (x : ℕ). k * x * cost) (d .denominator) ∙ ap (λ (x : ℕ). k * automatonIn s .denominator r * x) (c .is);
-          low = mul-le-mul {n₂ = 4294967295 * 65535} {m₂ = highestCost} k-times-d (c .low);
+          is = λ layer. ap (λ (x : ℕ). paid + k * x * cost) (d .denominator) ∙ ap (λ (x : ℕ). paid + k * automatonIn s .denominator r * x) (c .is);
+          low = omega (arith, price-low);
         }
 
 -- a k entry as it was read at a place
@@ -120,12 +123,11 @@ module _ (s C : List ℕ) (left : ℕ) {at layer r k : ℕ} (e : KRead C at laye
       ∙ ap (λ (i : ℕ). tookK s (byteAt C at) i k remainders) (e .transition-is)
       ∙ ap (λ (m : ℕ). tookK s (byteAt C at) (twoAt C (at + 1)) m remainders) (e .k-is))
 
-  paid-next : (cost : ℕ → ℕ) {price : ℕ} → ((layer : ℕ) → price ≡ costOfK cost (automatonIn s) layer r k) → price + kSum C (costOfK cost (automatonIn s)) left (at + 7) ≡ kSum C (costOfK cost (automatonIn s)) (suc left) at
+  paid-next : (cost : ℕ → ℕ) → costOfK cost (automatonIn s) layer r k + kSum C (costOfK cost (automatonIn s)) left (at + 7) ≡ kSum C (costOfK cost (automatonIn s)) (suc left) at
   unfolding kSum
-  paid-next cost p =
+  paid-next cost =
       ap (λ (x : ℕ). x + kSum C (costOfK cost (automatonIn s)) left (at + 7))
-      (p layer
-      ∙ ap (λ (i : ℕ). costOfK cost (automatonIn s) layer i k) (e .transition-is)
+      (ap (λ (i : ℕ). costOfK cost (automatonIn s) layer i k) (e .transition-is)
       ∙ ap (costOfK cost (automatonIn s) layer (twoAt C (at + 1))) (e .k-is))
 
 -- the test's two answers
@@ -258,16 +260,18 @@ module _ {test : ℕ → ℕ → ℕ → Bool} {rule : FileRule} {cost : ℕ →
         room = room-fewer (omega (arith, one-fewer)) (g .turn .room 0 (room-fewer (omega arith) (g .turn .enough)));
       }
 
-  pub ks-prices : (kind : Kind) → KindStands kind s → PriceAsked kind s count places r k
-  ks-prices kind stands = record { cost = record { known = known-own (g .known); stands = stands; below = g .right .present }; small = g .read .small }
+  pub ks-pays : (kind : Kind) → KindStands kind s → PayAsked kind s count places r k paid
+  ks-pays kind stands =
+      record {
+        cost = record { known = known-own (g .known); stands = stands; below = g .right .present };
+        small = g .read .small;
+        fits = omega (arith, one-fewer, g .turn .fits);
+      }
 
-  pub ks-fits : {price : ℕ} → PriceIs cost s r k price → paid + price < 2 ^ 64
-  ks-fits p = omega (arith, one-fewer, g .turn .fits, p .low)
-
-  pub ks-turn : {next above price now : ℕ} {after : List ℤ} → Became (tookK s layer r k remainders) after now → PriceIs cost s r k price → next ≡ at + 7 → above ≡ layer * 65536 + r + 1 → TakingKs rule cost s C action start entries before after (left - 1) next above now (paid + price)
-  ks-turn {next} {above} {price} {now} {after} b p n o = go left (g .turn) (g .some) one-fewer
+  pub ks-turn : {next above paid' now : ℕ} {after : List ℤ} → Became (tookK s layer r k remainders) after now → PaidIs cost s r k paid paid' → next ≡ at + 7 → above ≡ layer * 65536 + r + 1 → TakingKs rule cost s C action start entries before after (left - 1) next above now paid'
+  ks-turn {next} {above} {paid'} {now} {after} b p n o = go left (g .turn) (g .some) one-fewer
     where
-      one-k : (left : ℕ) (h : TakingKs rule cost s C action start entries before remainders (suc left) at lowest nonzero paid) → following + 1 ≤ h .ahead → TakingKs rule cost s C action start entries before after left (at + 7) (layer * 65536 + r + 1) now (paid + price)
+      one-k : (left : ℕ) (h : TakingKs rule cost s C action start entries before remainders (suc left) at lowest nonzero paid) → following + 1 ≤ h .ahead → TakingKs rule cost s C action start entries before after left (at + 7) (layer * 65536 + r + 1) now paid'
       one-k left h fewer =
           record {
             layer = layer;
@@ -284,16 +288,16 @@ module _ {test : ℕ → ℕ → ℕ → Bool} {rule : FileRule} {cost : ℕ →
             room = λ more room. subst (λ (x : List ℤ). Room x (2 * following + more)) (sym (b .same)) (took-room ks-asks layer (room-fewer (omega (arith, fewer)) (h .room more room)));
             number = λ q t a. right-k (g .tests) s C left (known-transitions (g .known)) (g .read) q t a (g .right) ∙ h .number q t a;
             makesUp = took-next s C left (g .read) remainders (b .same) ∙ h .makesUp;
-            pays = omega (arith, paid-next s C left (g .read) cost (p .is), h .pays);
+            pays = omega (arith, paid-next s C left (g .read) cost, p .is layer, h .pays);
             fits = omega (arith, fewer, h .fits, p .low);
           }
 
-      go : (left : ℕ) (h : TakingKs rule cost s C action start entries before remainders left at lowest nonzero paid) → 0 < left → following + 1 ≤ h .ahead → TakingKs rule cost s C action start entries before after (left - 1) next above now (paid + price)
+      go : (left : ℕ) (h : TakingKs rule cost s C action start entries before remainders left at lowest nonzero paid) → 0 < left → following + 1 ≤ h .ahead → TakingKs rule cost s C action start entries before after (left - 1) next above now paid'
       go zero h some fewer = absurd (omega arith)
       go (suc left) h some fewer =
           let one : left ≡ suc left - 1 = omega arith in
-          subst (λ (j : ℕ). TakingKs rule cost s C action start entries before after j next above now (paid + price)) one
-          (subst₂ (λ (i l : ℕ). TakingKs rule cost s C action start entries before after left i l now (paid + price)) (sym n) (sym o) (one-k left h fewer))
+          subst (λ (j : ℕ). TakingKs rule cost s C action start entries before after j next above now paid') one
+          (subst₂ (λ (i l : ℕ). TakingKs rule cost s C action start entries before after left i l now paid') (sym n) (sym o) (one-k left h fewer))
 
 pub ks-end : {rule : FileRule} {cost : ℕ → ℕ} {s C : List ℕ} {action start entries : ℕ} {before remainders : List ℤ} (left : ℕ) {at lowest nonzero paid : ℕ} {x : Taken} → TakingKs rule cost s C action start entries before remainders left at lowest nonzero paid → left ≤ 0 → x .good ≡ true → x .nonzero ≡ nonzero → x .paid ≡ paid → x .next .at ≡ at → TookKs rule cost s C action start entries before remainders x
 unfolding kFault tookKs kSum

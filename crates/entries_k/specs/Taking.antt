@@ -94,15 +94,16 @@ costOfK cost A layer r k = k * A .denominator r * cost r
 abbrev pub mostCostOfK : ℕ
 mostCostOfK = 4294967295 * 65535 * highestCost
 
--- what k of the transition r costs is asked for
-pub record PriceAsked (kind : Kind) (s : List ℕ) (count : ℕ) (places : List ℕ) (r k : ℕ) : Type 0 where
+-- what is paid with k of the transition r is asked for
+pub record PayAsked (kind : Kind) (s : List ℕ) (count : ℕ) (places : List ℕ) (r k paid : ℕ) : Type 0 where
   pub cost : CostAsked kind s count places r
   pub small : k < 2 ^ 32
+  pub fits : paid + mostCostOfK < 2 ^ 64
 
 -- it is this
-pub record PriceIs (cost : ℕ → ℕ) (s : List ℕ) (r k price : ℕ) : Type 0 where
-  pub is : (layer : ℕ) → price ≡ costOfK cost (automatonIn s) layer r k
-  pub low : price ≤ mostCostOfK
+pub record PaidIs (cost : ℕ → ℕ) (s : List ℕ) (r k paid after : ℕ) : Type 0 where
+  pub is : (layer : ℕ) → after ≡ paid + costOfK cost (automatonIn s) layer r k
+  pub low : after ≤ paid + mostCostOfK
 
 -- so many k entries can ascend: one for each layer and transition
 abbrev pub mostKs : ℕ

@@ -4,7 +4,7 @@ ghost use Rattle.rules.specs.definitions.PlainRule.{plainInQuestion};
 ghost use Rattle.rule_kind.specs.Kinds.{ruleOf, costIn};
 ghost use Rattle.transition.specs.Known.{automatonIn};
 ghost use Rattle.remainders.specs.Nonzero.{Became};
-ghost use Rattle.entries_k.specs.Taking.{arrivalOf, departureOf, TellsLayer, CanTest, TellsK, tookK, CanTake, PriceAsked, PriceIs, CanTakeKs, TookKs};
+ghost use Rattle.entries_k.specs.Taking.{arrivalOf, departureOf, TellsLayer, CanTest, TellsK, tookK, CanTake, PayAsked, PaidIs, CanTakeKs, TookKs};
 use field::Cursor;
 use limits::STATES;
 use model::Places;
@@ -89,16 +89,24 @@ fn take_k(
     )
 }
 
-// What k of the transition r costs: k times d times its cost.
-fn price_of(kind: Kind, s: &[u8], count: usize, places: &Places, r: usize, k: usize) -> usize
-    requires { ⌜ PriceAsked kind (now s) count (now places) r k ⌝ }
-    ensures { λ x. ⌜ PriceIs (costIn kind (now (s .entry))) (now (s .entry)) r k x ⌝ }
+// What is paid with k of the transition r: k times d times its cost more.
+fn pay(
+    kind: Kind,
+    s: &[u8],
+    count: usize,
+    places: &Places,
+    r: usize,
+    k: usize,
+    paid: usize,
+) -> usize
+    requires { ⌜ PayAsked kind (now s) count (now places) r k paid ⌝ }
+    ensures { λ x. ⌜ PaidIs (costIn kind (now (s .entry))) (now (s .entry)) r k paid x ⌝ }
 {
     let cost = rule_kind::cost_of(kind, s, count, places, r);
     if cost == 0 {
-        return 0;
+        return paid;
     }
-    k * transition::fields_of(s, places, r).denominator * cost
+    paid + k * transition::fields_of(s, places, r).denominator * cost
 }
 
 // A k entry is in order, its transition is there and in the question, and it is not zero.
@@ -168,7 +176,7 @@ pub fn take_ks(
             };
         }
         nonzero = take_k(s, places, l, r, k, remainders, nonzero);
-        paid += price_of(kind, s, count, places, r, k);
+        paid = pay(kind, s, count, places, r, k, paid);
         lowest = l * 65536 + r + 1;
         place = amount.next;
         left -= 1;

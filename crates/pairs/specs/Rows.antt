@@ -27,6 +27,10 @@ bitIn u = ifLess u wordBits u (u - wordBits)
 unfoldable pub rowBit : List ℕ → Pairs
 rowBit rows v u = bitOf (getD rows (wordOf v u) 0) (bitIn u)
 
+-- the bits of row v from a state on, as a word
+pub record IsPart (rows : List ℕ) (v from word : ℕ) : Type 0 where
+  pub bits : (i : ℕ) → i < wordBits → bitOf word i ≡ rowBit rows v (from + i)
+
 -- no pair is related
 pub record NoRows (rows : List ℕ) : Type 0 where
   pub whole : length rows ≡ rowWords

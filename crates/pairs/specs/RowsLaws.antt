@@ -17,7 +17,7 @@ use Rattle.rules.specs.definitions.Limits.{limits}
 use Rattle.limits.specs.Sizes.{rowWords}
 use Rattle.word.specs.Bits.{wordBits, bitOf, putBit, AreSame, IsNextBelow}
 use Rattle.word.specs.BitsLaws.{bitOf-none, bitOf-put, bitOf-other}
-use Rattle.pairs.specs.Rows.{rowBits, wordOf, bitIn, rowBit, NoRows, HoldsPairs, putRows, clearedRows, relatedRows, removedRows, copiedRows, IsNext}
+use Rattle.pairs.specs.Rows.{rowBits, wordOf, bitIn, rowBit, IsPart, NoRows, HoldsPairs, putRows, clearedRows, relatedRows, removedRows, copiedRows, IsNext}
 
 -- the bit of u stands in the first word of a row, or in the second
 in-first : (v u : ℕ) → u < wordBits → (wordOf v u ≡ 2 * v) × (bitIn u ≡ u)
@@ -77,6 +77,17 @@ module _ (rows : List ℕ) (v : ℕ) where
 
   on-is : {x : ℕ} → x ≡ getD rows (2 * v + 1) 0 → (i : ℕ) → rowBit rows v (wordBits + i) ≡ bitOf x i
   on-is {x} e i = let f : (wordBits + i) - wordBits ≡ i = omega arith in second-is e (wordBits + i) (omega arith) ∙ ap (bitOf x) f
+
+  pub part-is : (k : ℕ) {x : ℕ} → k < 2 → x ≡ getD rows (2 * v + k) 0 → IsPart rows v (k * wordBits) x
+  part-is k {x} h e = go (ℕ-discrete k 0)
+    where
+      go : Dec (k ≡ 0) → IsPart rows v (k * wordBits) x
+      go (yes p) =
+          let here : 2 * v + k ≡ 2 * v = omega arith in
+          record { bits = λ i l. let j : i ≡ k * wordBits + i = omega arith in sym (first-is (e ∙ ap (λ (m : ℕ). getD rows m 0) here) i l) ∙ ap (rowBit rows v) j }
+      go (no o) =
+          let here : 2 * v + k ≡ 2 * v + 1 = omega arith in
+          record { bits = λ i l. let j : wordBits + i ≡ k * wordBits + i = omega arith in sym (on-is (e ∙ ap (λ (m : ℕ). getD rows m 0) here) i) ∙ ap (rowBit rows v) j }
 
 -- no pair is related where every word is 0
 pub none-related : NoRows (replicate rowWords 0)

@@ -1,4 +1,4 @@
-// The related pairs, as a row of one bit for each state. Nothing outside this crate knows the words of a row.
+// The related pairs, as a row of one bit for each state. Nothing outside this crate knows where the words of a row stand.
 ghost use Prim.Native.Nat.{_+_, _*_, _≤_, _<_};
 ghost use lib.ListN.{getD};
 ghost use mathlib.Core.Path.{_≡_};
@@ -6,7 +6,7 @@ ghost use Rattle.bisimulation.specs.definitions.Choice.{countBelow};
 ghost use Rattle.rules.specs.definitions.Limits.{limits};
 ghost use Rattle.limits.specs.Sizes.{rowWords};
 ghost use Rattle.word.specs.Bits.{wordBits, AreSame};
-ghost use Rattle.pairs.specs.Rows.{rowBits, wordOf, bitIn, rowBit, NoRows, clearedRows, removedRows, relatedRows, copiedRows, IsNext, AreAlike};
+ghost use Rattle.pairs.specs.Rows.{rowBits, wordOf, bitIn, rowBit, IsPart, NoRows, clearedRows, removedRows, relatedRows, copiedRows, IsNext, AreAlike};
 use limits::ROW_WORDS;
 use limits::STATES;
 use word::BITS;
@@ -51,6 +51,14 @@ fn second_word(rows: &Rows, v: usize) -> Word
 {
     let second = 2 * v + 1;
     rows[second]
+}
+
+// Word k of row v: its bit i is that of (v, k * BITS + i).
+pub fn part(rows: &Rows, v: usize, k: usize) -> Word
+    requires { ⌜ (v < limits .states) × (k < 2) ⌝ }
+    ensures { λ r. ⌜ IsPart (now (rows .entry)) v (k * wordBits) r ⌝ }
+{
+    rows[2 * v + k]
 }
 
 // The pair (v,u) is related.

@@ -26,6 +26,10 @@ pub record SmallPrices (n : ℕ) (table : List ℤ) : Type 0 where
   pub size : length table ≡ limits .states
   pub small : (i : ℕ) → i < n → mag (priceIn table i) < 2 ^ 31
 
+-- r is the price of a state in a table, where that is a number of four bytes
+pub record IsPrice (table : List ℤ) (v : ℕ) (r : ℤ) : Type 0 where
+  pub is : mag (priceIn table v) < 2 ^ 31 → r ≡ priceIn table v
+
 -- an entry whose state has a price in the table
 pub record HasPrice (table : List ℤ) (e : Entry) : Type 0 where
   pub state : e .state < limits .states

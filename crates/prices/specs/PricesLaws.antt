@@ -1,13 +1,15 @@
 -- Laws of the tables of prices and of the sums over entries.
 use Prim.Native.Nat.{ℕ, zero, suc, _+_, _*_, _-_, _^_, _≤_, _<_}
 use mathlib.Core.Path.{_≡_, sym, _∙_, ap, ap₂, subst}
+use mathlib.Core.Bool.{Bool, true, false, not}
 use mathlib.Core.List.{List, [], _∷_}
 use lib.ListN.{length, set, length-set}
 use lib.Seq.{getD-set-same, getD-set-other}
-use lib.IntN.{ℤ, pos, _+ℤ_, _*ℤ_, natAbs, +ℤ-assoc, +ℤ-idl, +ℤ-idr}
+use lib.IntN.{ℤ, pos, negsuc, _+ℤ_, _*ℤ_, natAbs, +ℤ-assoc, +ℤ-idl, +ℤ-idr}
 use lib.Signed.{mag}
-use mir.Syntax.{w64}
-use mir.Val.{SFits, toZ, ofZ}
+use lib.Dec.{T, ltb, ltb→lt, nltb→le}
+use mir.Syntax.{w32, w64}
+use mir.Val.{SFits, toZ, ofZ, sel}
 use mir.Facts.{toZ-ofZ}
 use native.Mathlib.Decide.{ℕ-discrete}
 use native.Mathlib.Omega.{arith}
@@ -24,7 +26,7 @@ use Rattle.transition.specs.KnownLaws.{few-states, entries-known, price-known}
 use Rattle.transition.specs.Entries.{EntryTaken}
 use Rattle.signed.specs.Terms.{Addable, WithTerm}
 use Rattle.signed.specs.TermsLaws.{abs-add, abs-term, mag-abs, term-is, term-fits}
-use Rattle.prices.specs.Prices.{HoldsPrices, SmallPrices, priceIn, HasPrice, Summable, IsSum}
+use Rattle.prices.specs.Prices.{HoldsPrices, SmallPrices, priceIn, IsPrice, HasPrice, Summable, IsSum}
 
 -- a table holds no price at first
 pub none-held : (X : ℕ → ℤ) (table : List ℤ) → length table ≡ limits .states → HoldsPrices 0 X table
@@ -52,21 +54,32 @@ one-more-held X table n z h room e small =
 pub prices-small : {n : ℕ} {X : ℕ → ℤ} {table : List ℤ} → HoldsPrices n X table → SmallPrices n table
 prices-small h = record { size = h .size; small = h .small }
 
+-- four bytes are a number that fits, whatever they are
+four-bytes : (n : ℕ) (b : Bool) → (T b → n < 2 ^ 31) → (T (not b) → 2 ^ 31 ≤ n) → mag (sel b (pos n) (negsuc (2 ^ 32 - suc n))) < 2 ^ 31
+four-bytes n true y o = y tt
+four-bytes n false y o = omega (arith, o tt)
+
+pub four-fit : (n : ℕ) → SFits w64 (toZ w32 n)
+four-fit n = record { sfits = omega (arith, four-bytes n (ltb n (2 ^ 31)) (ltb→lt n (2 ^ 31)) (nltb→le n (2 ^ 31))) }
+
 -- a price that the machine reads back from its bits
 pub price-back : (z : ℤ) → mag z < 2 ^ 31 → toZ w64 (ofZ w64 z) ≡ z
 price-back z h = toZ-ofZ (record { sfits = omega arith })
+
+pub price-read : {table : List ℤ} {v : ℕ} {r : ℤ} → IsPrice table v r → mag (priceIn table v) < 2 ^ 31 → toZ w64 (ofZ w64 r) ≡ priceIn table v
+price-read p h = ap (λ (z : ℤ). toZ w64 (ofZ w64 z)) (p .is h) ∙ price-back _ h
 
 -- and so is a sum
 pub sum-back : {es : List Entry} {table : List ℤ} {z : ℤ} → IsSum es table z → toZ w64 (ofZ w64 z) ≡ z
 sum-back {z = z} h = toZ-ofZ (record { sfits = omega (arith, h .small, mag-abs z) })
 
 -- d times a price, as the machine multiplies them, fits
-module _ (d : ℕ) (price : ℤ) (light : d < 65536) (small : mag price < 2 ^ 31) where
-  product : Addable (pos 0) d price
+module _ {table : List ℤ} {v : ℕ} {price : ℤ} (d : ℕ) (p : IsPrice table v price) (light : d < 65536) (small : mag (priceIn table v) < 2 ^ 31) where
+  product : Addable (pos 0) d (priceIn table v)
   product = record { room = omega arith; small = omega (arith, small) }
 
-  pub product-is : toZ w64 d *ℤ toZ w64 (ofZ w64 price) ≡ pos d *ℤ price
-  product-is = rw (price-back price small) (term-is product)
+  pub product-is : toZ w64 d *ℤ toZ w64 (ofZ w64 price) ≡ pos d *ℤ priceIn table v
+  product-is = rw (price-read p small) (term-is product)
 
   pub product-fits : SFits w64 (toZ w64 d *ℤ toZ w64 (ofZ w64 price))
   product-fits = rw product-is (term-fits product)
@@ -107,10 +120,10 @@ module _ {s : List ℕ} {table : List ℤ} where
     summing-price (suc left) h some t = rw (t .state, t .weight) (h .prices .0)
 
     -- and can be added, as the machine reads its price back from its bits
-    pub summing-asks : (left : ℕ) {at : ℕ} {sum : ℤ} {r : read.Entry} → Summing s table all left at sum → 0 < left → EntryTaken s at r → Addable sum (r .weight) (toZ w64 (ofZ w64 (priceIn table (r .state))))
-    summing-asks left h some t =
+    pub summing-asks : (left : ℕ) {at : ℕ} {sum price : ℤ} {r : read.Entry} → Summing s table all left at sum → 0 < left → EntryTaken s at r → IsPrice table (r .state) price → Addable sum (r .weight) (toZ w64 (ofZ w64 price))
+    summing-asks left h some t p =
         let small = summing-price left h some t .small in
-        record { room = omega (arith, h .small, t .small); small = rw (price-back _ small) (omega (arith, small)) }
+        record { room = omega (arith, h .small, t .small); small = rw (price-read p small) (omega (arith, small)) }
 
     one-turn : (left at : ℕ) (sum : ℤ) → Summing s table all (suc left) at sum → (r : read.Entry) → EntryTaken s at r → mag (priceIn table (r .state)) < 2 ^ 31 → (z : ℤ) → WithTerm sum (r .weight) (priceIn table (r .state)) z → Summing s table all left (at + 3) z
     unfolding Each entriesAt sumOver priceOfEntries
@@ -127,13 +140,12 @@ module _ {s : List ℕ} {table : List ℤ} where
         }
 
     -- the next sum, which the machine reads back from its bits too
-    pub summing-turn : (left : ℕ) {at : ℕ} {sum z : ℤ} {r : read.Entry} → Summing s table all left at sum → 0 < left → EntryTaken s at r → WithTerm sum (r .weight) (toZ w64 (ofZ w64 (priceIn table (r .state)))) z → Summing s table all (left - 1) (r .next .at) (toZ w64 (ofZ w64 z))
-    summing-turn zero h some t w = absurd (omega arith)
-    summing-turn (suc left) {at} {sum} {z} {r} h some t w =
+    pub summing-turn : (left : ℕ) {at : ℕ} {sum z price : ℤ} {r : read.Entry} → Summing s table all left at sum → 0 < left → EntryTaken s at r → IsPrice table (r .state) price → WithTerm sum (r .weight) (toZ w64 (ofZ w64 price)) z → Summing s table all (left - 1) (r .next .at) (toZ w64 (ofZ w64 z))
+    summing-turn zero h some t p w = absurd (omega arith)
+    summing-turn (suc left) {at} {sum} {z} {r = r} h some t p w =
         let one : left ≡ suc left - 1 = omega arith in
         let light = summing-price _ h some t .small in
-        let price = price-back _ light in
-        let turned = one-turn left at sum h r t light z (subst (λ (p : ℤ). WithTerm sum (r .weight) p z) price w) in
+        let turned = one-turn left at sum h r t light z (subst (λ (y : ℤ). WithTerm sum (r .weight) y z) (price-read p light) w) in
         let fits : SFits w64 z = record { sfits = omega (arith, mag-abs z, turned .small) } in
         subst (λ (k : ℕ). Summing s table all k (r .next .at) (toZ w64 (ofZ w64 z))) one
         (subst (λ (k : ℕ). Summing s table all left k (toZ w64 (ofZ w64 z))) (sym (t .next))

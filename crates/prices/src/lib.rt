@@ -5,11 +5,12 @@ ghost use mathlib.Core.Path.{_≡_};
 ghost use Rattle.rules.specs.definitions.Limits.{limits};
 ghost use Rattle.rules.specs.definitions.Bytes.{signedAt};
 ghost use Rattle.rules.specs.definitions.Reading.{entriesAt};
-ghost use Rattle.prices.specs.Prices.{HoldsPrices, Summable, IsSum};
+ghost use Rattle.prices.specs.Prices.{HoldsPrices, IsPrice, Summable, IsSum};
 use field::Cursor;
 use limits::STATES;
 
-pub type Prices = [i64; STATES];
+// A price has four bytes in its file, and in a table.
+pub type Prices = [i32; STATES];
 
 pub struct Sums {
     pub first: i64,
@@ -25,11 +26,20 @@ pub fn prices_at(s: &[u8], at: usize, n: usize, out: &mut Prices)
     let mut place = Cursor::new(at);
     while i < n {
         let field = place.price(s);
-        let value = field.value;
+        let value = field.value as i32;
         out[i] = value;
         place = field.next;
         i += 1;
     }
+}
+
+// The price of a state in a table.
+pub fn price_of(prices: &Prices, v: usize) -> i64
+    requires { ⌜ v < limits .states ⌝ }
+    ensures { λ r. ⌜ IsPrice (now (prices .entry)) v r ⌝ }
+{
+    let price = prices[v];
+    price as i64
 }
 
 // The sum of weight times price over the entries from a place on.
@@ -42,8 +52,7 @@ pub fn sum_of(s: &[u8], at: usize, count: usize, prices: &Prices) -> i64
     let mut sum = 0;
     while 0 < unread {
         let entry = transition::entry_at(s, place);
-        let v = entry.state;
-        let price = prices[v];
+        let price = price_of(prices, entry.state);
         sum = signed::with_term(sum, entry.weight, price);
         place = entry.next;
         unread -= 1;
@@ -62,9 +71,8 @@ pub fn sums_of(s: &[u8], at: usize, count: usize, first: &Prices, second: &Price
     let mut other = 0;
     while 0 < left {
         let entry = transition::entry_at(s, place);
-        let v = entry.state;
-        let price = first[v];
-        let other_price = second[v];
+        let price = price_of(first, entry.state);
+        let other_price = price_of(second, entry.state);
         one = signed::with_term(one, entry.weight, price);
         other = signed::with_term(other, entry.weight, other_price);
         place = entry.next;

@@ -19,17 +19,24 @@ use Rattle.bisimulation.specs.definitions.Pairs.{Pairs}
 use Rattle.rules.specs.definitions.Limits.{limits}
 use Rattle.rules.specs.definitions.PlainRule.{allRelated}
 use Rattle.rules.specs.argument.PlainDecides.{holds-T, T-holds}
-use Rattle.pairs.specs.Rows.{rowBit, HoldsPairs, IsNext, AreAlike}
-use Rattle.prices.specs.Prices.{priceIn, SmallPrices}
-use Rattle.prices.specs.PricesLaws.{price-back}
+use Rattle.word.specs.Bits.{wordBits, bitOf, clearBit, IsNextBelow}
+use Rattle.word.specs.BitsLaws.{bitOf-put, bitOf-other}
+use Rattle.pairs.specs.Rows.{rowBit, IsPart, HoldsPairs, AreAlike}
+use Rattle.prices.specs.Prices.{priceIn, IsPrice, SmallPrices}
+use Rattle.prices.specs.PricesLaws.{price-back, price-read}
 use Rattle.signed.specs.Larger.{IsLarger}
 use Rattle.signed.specs.LargerLaws.{≤ℤ-trans}
 use Rattle.related_prices.specs.Highest.{Inside, Bounds, HighestBelow, IsHighest, AreRelated}
 
--- what is known before each related state: u is one, and the highest price below it
-pub record Seeking (rows : List ℕ) (v u : ℕ) (table : List ℤ) (most : ℤ) : Type 0 where
-  pub here : u < limits .states → rowBit rows v u ≡ true
-  pub highest : HighestBelow rows v u table most
+-- what is known before each related state of a word of a row: the bits left are those from m on, u is the first of them, and the highest price
+-- below m
+pub record Seeking (rows : List ℕ) (v from rest u : ℕ) (table : List ℤ) (most : ℤ) : Type 0 where
+  pub m : ℕ
+  pub near : m ≤ wordBits
+  pub later : (i : ℕ) → m ≤ i → i < wordBits → bitOf rest i ≡ rowBit rows v (from + i)
+  pub gone : (i : ℕ) → i < m → bitOf rest i ≡ false
+  pub next : IsNextBelow wordBits (bitOf rest) 0 u
+  pub highest : HighestBelow rows v (from + m) table most
 
 -- the price that is below every other
 lowest : (x : ℤ) → mag x < 2 ^ 31 → negsuc (2 ^ 31 - 1) ≤ℤ x
@@ -37,69 +44,123 @@ lowest (pos a) h = leZ-yes tt
 lowest (negsuc a) h = leZ-yes (le→leb a (2 ^ 31 - 1) (omega arith))
 
 module _ {rows : List ℕ} {v : ℕ} {table : List ℤ} where
-  pub seek-start : {u : ℕ} → IsNext (rowBit rows v) 0 u → Seeking rows v u table (negsuc (2 ^ 31 - 1))
-  seek-start next =
+  pub highest-none : HighestBelow rows v 0 table (negsuc (2 ^ 31 - 1))
+  highest-none =
       record {
-        here = next .some;
-        highest = record {
-          bounds = λ n small inside.
-              record {
-                above = λ u less e. absurd (false-not (sym (next .none u (omega arith) less) ∙ e));
-                least = λ x fits all. lowest x fits;
-                small = omega arith;
-              };
-        };
+        bounds = λ n prices inside.
+            record { above = λ u less e. absurd (omega arith); least = λ x fits all. lowest x fits; small = omega arith };
       }
 
   pub highest-back : {m : ℕ} {z : ℤ} → HighestBelow rows v m table z → HighestBelow rows v m table (toZ w64 (ofZ w64 z))
   highest-back {m} {z} h =
       record { bounds = λ n small inside. let b = h .bounds n small inside in subst (Bounds rows v m table) (sym (price-back z (b .small))) b }
 
-  -- one more related state, whose price the machine reads back from its bits
-  one-more : {u next : ℕ} {most z : ℤ} → Seeking rows v u table most → u < limits .states → IsLarger most (toZ w64 (ofZ w64 (priceIn table u))) z → IsNext (rowBit rows v) (u + 1) next → (n : ℕ) → SmallPrices n table → Inside n rows v → Bounds rows v next table z
-  one-more {u} {next} {most} {z} s less l later n prices inside =
+  -- states that are not related change nothing
+  highest-past : {m next : ℕ} {most : ℤ} → HighestBelow rows v m table most → ((i : ℕ) → m ≤ i → i < next → rowBit rows v i ≡ false) → HighestBelow rows v next table most
+  highest-past {m} {next} {most} h none =
       record {
-        above = λ i below e. from i below e (ℕ-discrete i u);
-        least = λ x fits all. least x fits all (l .one);
-        small = small (l .one);
+        bounds = λ n prices inside.
+            let b = h .bounds n prices inside in
+            record { above = λ i less e. go b i less e (decLt i m); least = b .least; small = b .small };
       }
     where
-      before : Bounds rows v u table most
-      before = s .highest .bounds n prices inside
+      go : Bounds rows v m table most → (i : ℕ) → i < next → rowBit rows v i ≡ true → Dec (i < m) → priceIn table i ≤ℤ most
+      go b i less e (yes q) = b .above i q e
+      go b i less e (no q) = absurd (false-not (sym (none i (omega arith) less) ∙ e))
 
-      fits-here : mag (priceIn table u) < 2 ^ 31
-      fits-here = prices .small u (inside .inside u (s .here less))
-
-      back : toZ w64 (ofZ w64 (priceIn table u)) ≡ priceIn table u
-      back = price-back (priceIn table u) fits-here
-
-      from : (i : ℕ) → i < next → rowBit rows v i ≡ true → Dec (i ≡ u) → priceIn table i ≤ℤ z
-      from i below e (yes p) = subst (λ (y : ℤ). y ≤ℤ z) (back ∙ ap (priceIn table) (sym p)) (l .second)
-      from i below e (no p) = go (decLt i u)
+  -- one more related state, whose price the machine reads back from its bits
+  highest-more : {u : ℕ} {most price z : ℤ} → HighestBelow rows v u table most → rowBit rows v u ≡ true → IsPrice table u price → IsLarger most (toZ w64 (ofZ w64 price)) z → HighestBelow rows v (u + 1) table z
+  highest-more {u} {most} {price} {z} h here p l = record { bounds = bounds }
+    where
+      bounds : (n : ℕ) → SmallPrices n table → Inside n rows v → Bounds rows v (u + 1) table z
+      bounds n prices inside =
+          record {
+            above = λ i below e. from i below e (ℕ-discrete i u);
+            least = λ x fits all. least x fits all (l .one);
+            small = small (l .one);
+          }
         where
-          go : Dec (i < u) → priceIn table i ≤ℤ z
-          go (yes q) = ≤ℤ-trans (before .above i q e) (l .first)
-          go (no q) = absurd (false-not (sym (later .none i (omega arith) below) ∙ e))
+          before : Bounds rows v u table most
+          before = h .bounds n prices inside
 
-      least : (x : ℤ) → mag x < 2 ^ 31 → ((i : ℕ) → rowBit rows v i ≡ true → priceIn table i ≤ℤ x) → (z ≡ most) ⊎ (z ≡ toZ w64 (ofZ w64 (priceIn table u))) → z ≤ℤ x
-      least x fits all (inl e) = subst (λ (y : ℤ). y ≤ℤ x) (sym e) (before .least x fits all)
-      least x fits all (inr e) = subst (λ (y : ℤ). y ≤ℤ x) (sym (e ∙ back)) (all u (s .here less))
+          fits-here : mag (priceIn table u) < 2 ^ 31
+          fits-here = prices .small u (inside .inside u here)
 
-      small : (z ≡ most) ⊎ (z ≡ toZ w64 (ofZ w64 (priceIn table u))) → mag z < 2 ^ 31
-      small (inl e) = subst (λ (y : ℤ). mag y < 2 ^ 31) (sym e) (before .small)
-      small (inr e) = subst (λ (y : ℤ). mag y < 2 ^ 31) (sym (e ∙ back)) fits-here
+          back : toZ w64 (ofZ w64 price) ≡ priceIn table u
+          back = price-read p fits-here
 
-  pub seek-turn : {u next : ℕ} {most z : ℤ} → Seeking rows v u table most → u < limits .states → IsLarger most (toZ w64 (ofZ w64 (priceIn table u))) z → IsNext (rowBit rows v) (u + 1) next → Seeking rows v next table (toZ w64 (ofZ w64 z))
-  seek-turn s less l later =
-      record { here = later .some; highest = highest-back (record { bounds = one-more s less l later }) }
+          from : (i : ℕ) → i < u + 1 → rowBit rows v i ≡ true → Dec (i ≡ u) → priceIn table i ≤ℤ z
+          from i below e (yes q) = subst (λ (y : ℤ). y ≤ℤ z) (back ∙ ap (priceIn table) (sym q)) (l .second)
+          from i below e (no q) = ≤ℤ-trans (before .above i (omega arith) e) (l .first)
 
-  pub seek-end : {u : ℕ} {most : ℤ} → Seeking rows v u table most → limits .states ≤ u → IsHighest rows v table most
-  seek-end s past =
-      record {
-        bounds = λ n small inside.
-            let b = s .highest .bounds n small inside in
-            record { above = λ u less. b .above u (omega arith); least = b .least; small = b .small };
-      }
+          least : (x : ℤ) → mag x < 2 ^ 31 → ((i : ℕ) → rowBit rows v i ≡ true → priceIn table i ≤ℤ x) → (z ≡ most) ⊎ (z ≡ toZ w64 (ofZ w64 price)) → z ≤ℤ x
+          least x fits all (inl e) = subst (λ (y : ℤ). y ≤ℤ x) (sym e) (before .least x fits all)
+          least x fits all (inr e) = subst (λ (y : ℤ). y ≤ℤ x) (sym (e ∙ back)) (all u here)
+
+          small : (z ≡ most) ⊎ (z ≡ toZ w64 (ofZ w64 price)) → mag z < 2 ^ 31
+          small (inl e) = subst (λ (y : ℤ). mag y < 2 ^ 31) (sym e) (before .small)
+          small (inr e) = subst (λ (y : ℤ). mag y < 2 ^ 31) (sym (e ∙ back)) fits-here
+
+  -- a word of the row, bit by bit
+  module _ {from : ℕ} where
+    pub seek-start : {word u : ℕ} {known : ℤ} → IsPart rows v from word → IsNextBelow wordBits (bitOf word) 0 u → HighestBelow rows v from table known → Seeking rows v from word u table known
+    seek-start {known = known} part next h =
+        let start : from ≡ from + 0 = omega arith in
+        record {
+          m = 0;
+          near = omega arith;
+          later = λ i above less. part .bits i less;
+          gone = λ i less. absurd (omega arith);
+          next = next;
+          highest = subst (λ (j : ℕ). HighestBelow rows v j table known) start h;
+        }
+
+    -- no state between is related
+    between : {rest u : ℕ} {most : ℤ} (s : Seeking rows v from rest u table most) (stop : ℕ) → stop ≤ u → stop ≤ wordBits → (i : ℕ) → from + s .m ≤ i → i < from + stop → rowBit rows v i ≡ false
+    between s stop before near i above less =
+        let place : from + (i - from) ≡ i = omega arith in
+        ap (rowBit rows v) (sym place) ∙ sym (s .later (i - from) (omega arith) (omega arith)) ∙ s .next .none (i - from) (omega arith) (omega arith)
+
+    module _ {rest u later : ℕ} {most : ℤ} (s : Seeking rows v from rest u table most) (less : u < wordBits) (e : later ≡ clearBit rest u) where
+      cleared : (i : ℕ) → i < u + 1 → bitOf later i ≡ false
+      cleared i below = ap (λ (x : ℕ). bitOf x i) e ∙ go (ℕ-discrete i u)
+        where
+          go : Dec (i ≡ u) → bitOf (clearBit rest u) i ≡ false
+          go (yes q) = rw q (bitOf-put 0 rest u (omega arith))
+          go (no q) = bitOf-other 0 rest u i (omega arith) q ∙ s .next .none i (omega arith) (omega arith)
+
+      -- the next one comes later
+      pub seek-further : {next : ℕ} → IsNextBelow wordBits (bitOf later) 0 next → u < next
+      seek-further {next} n = go (decLt u next)
+        where
+          go : Dec (u < next) → u < next
+          go (yes q) = q
+          go (no q) = absurd (false-not (sym (cleared next (omega arith)) ∙ n .some (omega arith)))
+
+      pub seek-turn : {next : ℕ} {price z : ℤ} → IsPrice table (from + u) price → IsLarger most (toZ w64 (ofZ w64 price)) z → IsNextBelow wordBits (bitOf later) 0 next → Seeking rows v from later next table (toZ w64 (ofZ w64 z))
+      seek-turn {z = z} p l n =
+          let one : from + u + 1 ≡ from + (u + 1) = omega arith in
+          record {
+            m = u + 1;
+            near = omega arith;
+            later = λ i above below. ap (λ (x : ℕ). bitOf x i) e ∙ bitOf-other 0 rest u i (omega arith) (λ q. omega arith) ∙ s .later i (omega (arith, reached)) below;
+            gone = cleared;
+            next = n;
+            highest = highest-back (subst (λ (j : ℕ). HighestBelow rows v j table z) one (highest-more (highest-past (s .highest) (between s u (omega arith) (omega arith))) here p l));
+          }
+        where
+          reached : s .m ≤ u
+          reached = go (decLt u (s .m))
+            where
+              go : Dec (u < s .m) → s .m ≤ u
+              go (yes q) = absurd (false-not (sym (s .gone u q) ∙ s .next .some less))
+              go (no q) = omega arith
+
+          here : rowBit rows v (from + u) ≡ true
+          here = sym (s .later u reached less) ∙ s .next .some less
+
+    pub seek-end : {rest u : ℕ} {most : ℤ} → Seeking rows v from rest u table most → wordBits ≤ u → HighestBelow rows v (from + wordBits) table most
+    seek-end s past = highest-past (s .highest) (between s wordBits past (omega arith))
 
   -- states with equal rows have it in common
   pub highest-alike : {known : ℕ} {answer : Bool} {z : ℤ} → AreAlike rows v known answer → answer ≡ true → IsHighest rows known table z → IsHighest rows v table z
@@ -137,11 +198,11 @@ module _ {rows : List ℕ} {x g : List ℤ} where
   pub cover-start : {z : ℤ} → IsHighest rows 0 g z → Covering rows x g 0 0 (toZ w64 (ofZ w64 z))
   cover-start h = record { below = omega arith; highest = highest-back h; covered = λ w less. absurd (omega arith) }
 
-  module _ {n v : ℕ} {z : ℤ} (h : IsHighest rows v g z) (first : SmallPrices n x) (few : n ≤ limits .states) (less : v < n) where
-    price : toZ w64 (ofZ w64 (priceIn x v)) ≡ priceIn x v
-    price = price-back (priceIn x v) (first .small v less)
+  module _ {n v : ℕ} {z price : ℤ} (h : IsHighest rows v g z) (first : SmallPrices n x) (few : n ≤ limits .states) (less : v < n) (p : IsPrice x v price) where
+    back : toZ w64 (ofZ w64 price) ≡ priceIn x v
+    back = price-read p (first .small v less)
 
-    pub cover-turn : {known : ℕ} {before : ℤ} → Covering rows x g v known before → ltZ (toZ w64 (ofZ w64 (priceIn x v))) (toZ w64 (ofZ w64 z)) ≡ false → Covering rows x g (v + 1) v (toZ w64 (ofZ w64 z))
+    pub cover-turn : {known : ℕ} {before : ℤ} → Covering rows x g v known before → ltZ (toZ w64 (ofZ w64 price)) (toZ w64 (ofZ w64 z)) ≡ false → Covering rows x g (v + 1) v (toZ w64 (ofZ w64 z))
     cover-turn c e =
         record {
           below = omega arith;
@@ -149,18 +210,18 @@ module _ {rows : List ℕ} {x g : List ℤ} where
           covered = below-more (Covered rows x g) v (c .covered) (record {
             covers = λ m prices inside u related.
                 ≤ℤ-trans (highest-back h .bounds m prices inside .above u (omega (arith, inside .few, inside .inside u related)) related)
-                (subst (λ (y : ℤ). toZ w64 (ofZ w64 z) ≤ℤ y) price (ltZ-no (holds-T (ap not e))));
+                (subst (λ (y : ℤ). toZ w64 (ofZ w64 z) ≤ℤ y) back (ltZ-no (holds-T (ap not e))));
           });
         }
 
-    pub cover-not : SmallPrices n g → ltZ (toZ w64 (ofZ w64 (priceIn x v))) (toZ w64 (ofZ w64 z)) ≡ true → AreRelated n rows x g false
+    pub cover-not : SmallPrices n g → ltZ (toZ w64 (ofZ w64 price)) (toZ w64 (ofZ w64 z)) ≡ true → AreRelated n rows x g false
     unfolding allRelated
     cover-not second e = record { tells = λ A R states held. go A R states held (allRelated A R (priceIn x) (priceIn g)) refl }
       where
         go : (A : Automaton) (R : Pairs) → A .states ≡ n → HoldsPairs n R rows → (t : Bool) → allRelated A R (priceIn x) (priceIn g) ≡ t → false ≡ t
         go A R states held false q = refl
         go A R states held true q =
-            clashℤ {a = priceIn x v} (subst (λ (y : ℤ). y <ℤ toZ w64 (ofZ w64 z)) price (ltZ-yes (holds-T e)))
+            clashℤ {a = priceIn x v} (subst (λ (y : ℤ). y <ℤ toZ w64 (ofZ w64 z)) back (ltZ-yes (holds-T e)))
             (highest-back h .bounds n second (held-inside held few v less) .least (priceIn x v) (first .small v less)
             (λ u related.
             let below : u < n = held-inside held few v less .inside u related in

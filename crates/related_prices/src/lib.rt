@@ -1,25 +1,37 @@
 // The price condition of related states.
-ghost use Prim.Native.Nat.{_≤_, _<_};
+ghost use Prim.Native.Nat.{_+_, _*_, _≤_, _<_};
 ghost use Rattle.rules.specs.definitions.Limits.{limits};
+ghost use Rattle.word.specs.Bits.{wordBits};
 ghost use Rattle.prices.specs.Prices.{SmallPrices};
-ghost use Rattle.related_prices.specs.Highest.{IsHighest, AreRelated};
-use limits::STATES;
+ghost use Rattle.related_prices.specs.Highest.{HighestBelow, IsHighest, AreRelated};
 use pairs::Rows;
 use prices::Prices;
+use word::BITS;
+
+// The highest of a price and of the prices g of the states that are related to v by word k of its row.
+fn highest_in(rows: &Rows, v: usize, k: usize, known: i64, g: &Prices) -> i64
+    requires { ⌜ (v < limits .states) × (k < 2) × HighestBelow (now rows) v (k * wordBits) (now g) known ⌝ }
+    ensures { λ r. ⌜ HighestBelow (now (rows .entry)) v (k * wordBits + wordBits) (now (g .entry)) r ⌝ }
+{
+    let mut most = known;
+    let mut rest = pairs::part(rows, v, k);
+    let mut u = word::next_bit(rest, 0);
+    while u < BITS {
+        let price = prices::price_of(g, k * BITS + u);
+        most = signed::larger(most, price);
+        rest = word::without(rest, u);
+        u = word::next_bit(rest, 0);
+    }
+    most
+}
 
 // The highest of the prices g of the states that are related to v.
 fn highest(rows: &Rows, v: usize, g: &Prices) -> i64
     requires { ⌜ v < limits .states ⌝ }
     ensures { λ r. ⌜ IsHighest (now (rows .entry)) v (now (g .entry)) r ⌝ }
 {
-    let mut most = -0x8000_0000;
-    let mut u = pairs::next_related(rows, v, 0);
-    while u < STATES {
-        let price = g[u];
-        most = signed::larger(most, price);
-        u = pairs::next_related(rows, v, u + 1);
-    }
-    most
+    let most = highest_in(rows, v, 0, -0x8000_0000, g);
+    highest_in(rows, v, 1, most, g)
 }
 
 // The same, where that of another state is known: states with equal rows have it in common.
@@ -43,7 +55,7 @@ pub fn all_related(rows: &Rows, n: usize, x: &Prices, g: &Prices) -> bool
     let mut most = highest(rows, 0, g);
     while v < n {
         most = highest_after(rows, v, known, most, g);
-        let price = x[v];
+        let price = prices::price_of(x, v);
         if price < most {
             return false;
         }

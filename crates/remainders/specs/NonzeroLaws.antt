@@ -42,12 +42,16 @@ nonzero-set [] i new h = absurd (omega arith)
 nonzero-set (z ∷ zs) zero new h = omega arith
 nonzero-set (z ∷ zs) (suc i) new h = omega (arith, nonzero-set zs i new (omega arith))
 
+pub at-most-one : (z : ℤ) → isNonzero z ≤ 1
+unfolding isNonzero
+at-most-one (pos zero) = omega arith
+at-most-one (pos (suc a)) = omega arith
+at-most-one (negsuc a) = omega arith
+
 nonzero-most : (remainders : List ℤ) → nonzeroIn remainders ≤ length remainders
-unfolding nonzeroIn isNonzero
+unfolding nonzeroIn
 nonzero-most [] = omega arith
-nonzero-most (pos zero ∷ zs) = omega (arith, nonzero-most zs)
-nonzero-most (pos (suc a) ∷ zs) = omega (arith, nonzero-most zs)
-nonzero-most (negsuc a ∷ zs) = omega (arith, nonzero-most zs)
+nonzero-most (z ∷ zs) = omega (arith, at-most-one z, nonzero-most zs)
 
 nonzero-one : (remainders : List ℤ) (i : ℕ) → i < length remainders → isNonzero (remainderAt remainders i) ≤ nonzeroIn remainders
 unfolding nonzeroIn

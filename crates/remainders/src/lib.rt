@@ -20,21 +20,22 @@ pub fn no_remainders() -> Remainders
     [0; REMAINDERS]
 }
 
-// How many remainders are not zero, after one of them changed.
+// 1 where the number is not zero, else 0.
+fn is_nonzero(number: i64) -> usize
+    ensures { λ r. ⌜ r ≡ isNonzero number ⌝ }
+{
+    if number == 0 {
+        return 0;
+    }
+    1
+}
+
+// How many remainders are not zero, after one of them changed. A sum takes fewer instructions than cases.
 fn nonzero_after(nonzero: usize, old: i64, new: i64) -> usize
     requires { ⌜ CanChange nonzero old ⌝ }
     ensures { λ r. ⌜ r + isNonzero old ≡ nonzero + isNonzero new ⌝ }
 {
-    if old == 0 {
-        if new == 0 {
-            return nonzero;
-        }
-        return nonzero + 1;
-    }
-    if new == 0 {
-        return nonzero - 1;
-    }
-    nonzero
+    nonzero + is_nonzero(new) - is_nonzero(old)
 }
 
 // A remainder with one more term, weight times factor; answers how many remainders are not zero then.

@@ -1,5 +1,10 @@
 -- `judge_blocks` meets its contract.
 use native.Mathlib.Omega.{arith}
+use mathlib.Core.Path.{subst}
+use denote.Ref.{now}
+use Rattle.rule_kind.specs.declared.Kind.{Kind}
+use Rattle.rule_kind.specs.Kinds.{KindStands}
+use borrow.Author.Needs.{needs}
 use Rattle.transition.specs.KnownLaws.{few-states}
 use Rattle.certificate.specs.Refuting.{blocks-stops, blocks-passes}
 use Rattle.certificate.proofs.judge_blocks.Statement.{statement}
@@ -14,18 +19,53 @@ returns c =
     let p = c .before .before .before .before .before .pre in
     blocks-stops _ (p .0) (judged .result) (judged .ensures) (c .if1 .taken) (p .1)
 
-add-judge-flows : tie.Need-add-judge-flows
-add-judge-flows c = omega (arith, c .before .before .blocks-fault .ensures .inside (c .if1 .left))
+add-start : tie.Need-add-start
+add-start c = omega (arith, c .before .before .blocks-fault .ensures .inside (c .if1 .left))
+
+enum-told : tie.Need-enum-told
+enum-told c = search needs
 
 judge-flows-requires : tie.Need-judge-flows-requires
-judge-flows-requires c κs = (c .before .before .before .before .before .pre .0, c .before .before .blocks-fault .ensures .inside (c .if1 .left), c .before .before .before .before .before .pre .2)
+judge-flows-requires c κs =
+    let passed = c .before .before in
+    let start = passed .before .before .before .before .before in
+    let stands = subst (λ (k : Kind). KindStands k (now (start .args .s))) (c .enum-told .given .1) (start .pre .2) in
+    (start .pre .0, passed .before .before .blocks-fault .ensures .inside (passed .if1 .left), stands)
+
+enum-told-2 : tie.Need-enum-told-2
+enum-told-2 c = search needs
+
+judge-flows-requires-2 : tie.Need-judge-flows-requires-2
+judge-flows-requires-2 c κs =
+    let passed = c .before .before in
+    let start = passed .before .before .before .before .before in
+    let stands = subst (λ (k : Kind). KindStands k (now (start .args .s))) (c .enum-told2 .given .1) (start .pre .2) in
+    (start .pre .0, passed .before .before .blocks-fault .ensures .inside (passed .if1 .left), stands)
 
 returns-2 : tie.Need-returns-2
 returns-2 c =
-    let judged = c .before .before .before .blocks-fault in
-    blocks-passes _ (c .before .before .before .before .before .before .pre .0) (judged .result) (judged .ensures) (c .before .if1 .left) (c .judge-flows .ensures)
+    let passed = c .before .before .before in
+    let judged = passed .before .before .blocks-fault in
+    rw (c .before .enum-told .given .1)
+    (blocks-passes _ (passed .before .before .before .before .before .pre .0) (judged .result) (judged .ensures) (passed .if1 .left) (c .judge-flows .ensures))
+
+returns-3 : tie.Need-returns-3
+returns-3 c =
+    let passed = c .before .before .before in
+    let judged = passed .before .before .blocks-fault in
+    rw (c .before .enum-told2 .given .1)
+    (blocks-passes _ (passed .before .before .before .before .before .pre .0) (judged .result) (judged .ensures) (passed .if1 .left) (c .judge-flows2 .ensures))
 
 pub judge-blocks-spec : {M : Type 1} → statement M
 judge-blocks-spec =
     tie.close
-    (tie.spec blocks-fault-requires returns add-judge-flows judge-flows-requires returns-2)
+    (tie.spec
+    blocks-fault-requires
+    returns
+    add-start
+    enum-told
+    judge-flows-requires
+    enum-told-2
+    judge-flows-requires-2
+    returns-2
+    returns-3)

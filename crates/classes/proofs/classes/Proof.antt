@@ -13,14 +13,11 @@ Inv-loop bytes n rows₀ u₀ rows u = (u ≤ n) × AreClasses bytes u rows
 abbrev μ-loop : tie.MeasureT-loop
 μ-loop bytes n rows₀ u₀ rows u = n - u
 
-no-rows-requires : tie.Need-no-rows-requires Inv-loop μ-loop
-no-rows-requires c κs = tt
-
 loop-holds : tie.Need-loop-holds Inv-loop μ-loop
-loop-holds c = (omega arith, classes-none _ _ (c .no-rows .ensures))
+loop-holds c = (omega arith, classes-none _ _ (c .before .pre .3))
 
 byte-of-requires : tie.Need-byte-of-requires Inv-loop μ-loop
-byte-of-requires c κs = (omega arith, omega arith, c .before .before .before .before .pre .2)
+byte-of-requires c κs = (omega arith, omega arith, c .before .before .before .pre .2)
 
 relate-requires : tie.Need-relate-requires Inv-loop μ-loop
 relate-requires c κs = omega arith
@@ -39,7 +36,7 @@ loop-again c =
 
 returns : tie.Need-returns Inv-loop μ-loop
 returns c =
-    let e : c .before .loop .u ≡ c .before .before .before .before .args .n = omega arith in
+    let e : c .before .loop .u ≡ c .before .before .before .args .n = omega arith in
     rw e at (c .before .loop .inv .1)
 
 pub classes-spec : {M : Type 1} → statement M
@@ -48,7 +45,6 @@ classes-spec =
     (tie.spec
     Inv-loop
     μ-loop
-    no-rows-requires
     loop-holds
     byte-of-requires
     relate-requires

@@ -14,14 +14,17 @@ Inv-loop labels n rows₀ members v₀ rows v = (v ≤ n) × HoldsRows v n (same
 abbrev μ-loop : tie.MeasureT-loop
 μ-loop labels n rows₀ members v₀ rows v = n - v
 
+no-rows-requires : tie.Need-no-rows-requires Inv-loop μ-loop
+no-rows-requires c κs = tt
+
 classes-requires : tie.Need-classes-requires Inv-loop μ-loop
-classes-requires c κs = (omega arith, omega arith, c .before .pre .2)
+classes-requires c κs = (omega arith, omega arith, c .before .before .before .pre .2, c .before .no-rows .ensures)
 
 loop-holds : tie.Need-loop-holds Inv-loop μ-loop
 loop-holds c = (omega arith, rows-none _ _ _ (omega arith))
 
 byte-of-requires : tie.Need-byte-of-requires Inv-loop μ-loop
-byte-of-requires c κs = (omega arith, omega arith, c .before .before .before .before .pre .2)
+byte-of-requires c κs = (omega arith, omega arith, c .before .before .before .before .before .before .pre .2)
 
 copy-row-requires : tie.Need-copy-row-requires Inv-loop μ-loop
 copy-row-requires c κs = omega arith
@@ -40,7 +43,7 @@ loop-again c =
 
 returns : tie.Need-returns Inv-loop μ-loop
 returns c =
-    let e : c .before .loop .v ≡ c .before .before .before .before .args .n = omega arith in
+    let e : c .before .loop .v ≡ c .before .before .before .before .before .before .args .n = omega arith in
     rw e at (c .before .loop .inv .1)
 
 pub start-spec : {M : Type 1} → statement M
@@ -49,6 +52,7 @@ start-spec =
     (tie.spec
     Inv-loop
     μ-loop
+    no-rows-requires
     classes-requires
     loop-holds
     byte-of-requires

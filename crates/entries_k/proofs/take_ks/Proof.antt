@@ -8,7 +8,7 @@ use borrow.Author.Needs.{needs}
 use Rattle.rules.specs.definitions.PlainRule.{plainInQuestion}
 use Rattle.rule_kind.specs.Kinds.{ruleOf, costIn}
 use Rattle.entries_k.specs.PlainAsked.{tests-of}
-use Rattle.entries_k.specs.KEntriesLaws.{TakingKs, ks-start, ks-refused, ks-asks, ks-prices, ks-fits, ks-turn, ks-end, KRead, k-read, StandingK}
+use Rattle.entries_k.specs.KEntriesLaws.{TakingKs, ks-start, ks-refused, ks-asks, ks-pays, ks-turn, ks-end, KRead, k-read, StandingK}
 use Rattle.entries_k.proofs.take_ks.Statement.{statement}
 use Rattle.entries_k.proofs.take_ks.Tie as tie
 
@@ -79,11 +79,8 @@ standing c =
 take-k-requires : tie.Need-take-k-requires Inv-loop μ-loop
 take-k-requires c κs = ks-asks (standing (c .before))
 
-price-of-requires : tie.Need-price-of-requires Inv-loop μ-loop
-price-of-requires c κs = ks-prices (standing (c .before .before)) _ (start-of (c .before .before .before .before) .pre .stands)
-
-add-paid : tie.Need-add-paid Inv-loop μ-loop
-add-paid c = record { fits = ks-fits (standing (c .before .before .before)) (c .price-of .ensures) }
+pay-requires : tie.Need-pay-requires Inv-loop μ-loop
+pay-requires c κs = ks-pays (standing (c .before .before)) _ (start-of (c .before .before .before .before) .pre .stands)
 
 mul-lowest : tie.Need-mul-lowest Inv-loop μ-loop
 mul-lowest c = search needs
@@ -102,11 +99,11 @@ loop-less c = omega arith
 
 loop-again : tie.Need-loop-again Inv-loop μ-loop
 loop-again c =
-    let at-price = c .before in
-    let stood = at-price .before .before .before in
+    let at-pay = c .before in
+    let stood = at-pay .before .before .before in
     let at-quad = stood .before .before in
     let at-pair = at-quad .before in
-    ks-turn (standing stood) (at-price .before .take-k .ensures) (at-price .price-of .ensures) (omega (arith, at-quad .quad .ensures .next, at-pair .pair .ensures .next, at-pair .before .byte .ensures .next)) (omega arith)
+    ks-turn (standing stood) (at-pay .before .take-k .ensures) (at-pay .pay .ensures) (omega (arith, at-quad .quad .ensures .next, at-pair .pair .ensures .next, at-pair .before .byte .ensures .next)) (omega arith)
 
 returns-2 : tie.Need-returns-2 Inv-loop μ-loop
 returns-2 c = ks-end _ (c .before .loop .inv) (omega arith) refl refl refl refl
@@ -124,8 +121,7 @@ take-ks-spec =
     stands-requires
     returns
     take-k-requires
-    price-of-requires
-    add-paid
+    pay-requires
     mul-lowest
     add-lowest
     add-lowest-2

@@ -2,12 +2,12 @@
 use native.Mathlib.Omega.{arith}
 use Prim.Native.Nat.{ℕ, _+_, _*_, _-_, _≤_}
 use mathlib.Core.Path.{_≡_, _∙_, ap, subst}
-use mir.Syntax.{w64}
+use mir.Syntax.{w32}
 use mir.Facts.{toZ-ofZ}
 use denote.Ref.{now}
 use Rattle.rules.specs.definitions.Bytes.{signedAt}
 use Rattle.prices.specs.Prices.{HoldsPrices}
-use Rattle.prices.specs.PricesLaws.{none-held, one-more-held}
+use Rattle.prices.specs.PricesLaws.{price-back, none-held, one-more-held}
 use borrow.Author.Needs.{needs}
 use Rattle.prices.proofs.prices_at.Statement.{statement}
 use Rattle.prices.proofs.prices_at.Tie as tie
@@ -28,6 +28,11 @@ loop-holds c = (omega arith, omega arith, none-held _ _ (omega arith))
 price-requires : tie.Need-price-requires Inv-loop μ-loop
 price-requires c κs = omega arith
 
+cast-value : tie.Need-cast-value Inv-loop μ-loop
+cast-value c =
+    let p = c .before .before .price in
+    rw (price-back (p .result .value) (p .ensures .small)) (record { sfits = omega arith })
+
 mul-value : tie.Need-mul-value Inv-loop μ-loop
 mul-value c = omega arith
 
@@ -42,12 +47,12 @@ loop-less c = omega arith
 
 loop-again : tie.Need-loop-again Inv-loop μ-loop
 loop-again c =
-    let l = c .before .before .before .before .loop in
-    let p = c .before .before .price in
-    let a = c .before .before .before .before .before .before .before .args in (
+    let l = c .before .before .before .before .before .loop in
+    let p = c .before .before .before .price in
+    let a = c .before .before .before .before .before .before .before .before .args in (
       omega arith,
       omega arith,
-      rw (toZ-ofZ {w = w64} {z = p .result .value} (record { sfits = omega arith }))
+      rw (price-back (p .result .value) (p .ensures .small), toZ-ofZ {w = w32} {z = p .result .value} (record { sfits = omega arith }))
           (one-more-held _ (l .out) (l .i) (p .result .value) (l .inv .2) (omega arith) (p .ensures .value ∙ ap (signedAt (now (a .s))) (l .inv .0)) (p .ensures .small)),
     )
 
@@ -67,6 +72,7 @@ prices-at-spec =
     new-requires
     loop-holds
     price-requires
+    cast-value
     mul-value
     element-set-from-value
     add-i

@@ -24,15 +24,12 @@ loop-holds c = summing-start (c .before .before .pre) (c .new .ensures)
 entry-at-requires : tie.Need-entry-at-requires Inv-loop μ-loop
 entry-at-requires c κs = omega arith
 
-element-copy-out-price : tie.Need-element-copy-out-price Inv-loop μ-loop
-element-copy-out-price c = summing-price _ (c .before .before .loop .inv) (omega arith) (c .entry-at .ensures) .state
-
-mul-price : tie.Need-mul-price Inv-loop μ-loop
-mul-price c = omega (arith, element-copy-out-price c)
+price-of-requires : tie.Need-price-of-requires Inv-loop μ-loop
+price-of-requires c κs = summing-price _ (c .before .before .loop .inv) (omega arith) (c .entry-at .ensures) .state
 
 with-term-requires : tie.Need-with-term-requires Inv-loop μ-loop
 with-term-requires c κs =
-    summing-asks _ (c .before .before .before .loop .inv) (omega arith) (c .before .entry-at .ensures)
+    summing-asks _ (c .before .before .before .loop .inv) (omega arith) (c .before .entry-at .ensures) (c .price-of .ensures)
 
 sub-unread : tie.Need-sub-unread Inv-loop μ-loop
 sub-unread c = omega arith
@@ -42,7 +39,7 @@ loop-less c = omega arith
 
 loop-again : tie.Need-loop-again Inv-loop μ-loop
 loop-again c =
-    summing-turn _ (c .before .before .before .before .before .loop .inv) (omega arith) (c .before .before .before .entry-at .ensures) (c .before .with-term .ensures)
+    summing-turn _ (c .before .before .before .before .before .loop .inv) (omega arith) (c .before .before .before .entry-at .ensures) (c .before .before .price-of .ensures) (c .before .with-term .ensures)
 
 returns : tie.Need-returns Inv-loop μ-loop
 returns c = summing-end _ (c .before .loop .inv) (omega arith)
@@ -56,8 +53,7 @@ sum-of-spec =
     new-requires
     loop-holds
     entry-at-requires
-    mul-price
-    element-copy-out-price
+    price-of-requires
     with-term-requires
     sub-unread
     loop-less

@@ -26,25 +26,19 @@ loop-holds c =
 entry-at-requires : tie.Need-entry-at-requires Inv-loop μ-loop
 entry-at-requires c κs = omega arith
 
-element-copy-out-price : tie.Need-element-copy-out-price Inv-loop μ-loop
-element-copy-out-price c = summing-price _ (c .before .before .loop .inv .0) (omega arith) (c .entry-at .ensures) .state
+price-of-requires : tie.Need-price-of-requires Inv-loop μ-loop
+price-of-requires c κs = summing-price _ (c .before .before .loop .inv .0) (omega arith) (c .entry-at .ensures) .state
 
-mul-price : tie.Need-mul-price Inv-loop μ-loop
-mul-price c = omega (arith, element-copy-out-price c)
-
-mul-other-price : tie.Need-mul-other-price Inv-loop μ-loop
-mul-other-price c = mul-price (c .before)
-
-element-copy-out-other-price : tie.Need-element-copy-out-other-price Inv-loop μ-loop
-element-copy-out-other-price c = element-copy-out-price (c .before)
+price-of-requires-2 : tie.Need-price-of-requires-2 Inv-loop μ-loop
+price-of-requires-2 c κs = price-of-requires (c .before) κs
 
 with-term-requires : tie.Need-with-term-requires Inv-loop μ-loop
 with-term-requires c κs =
-    summing-asks _ (c .before .before .before .before .loop .inv .0) (omega arith) (c .before .before .entry-at .ensures)
+    summing-asks _ (c .before .before .before .before .loop .inv .0) (omega arith) (c .before .before .entry-at .ensures) (c .before .price-of .ensures)
 
 with-term-requires-2 : tie.Need-with-term-requires-2 Inv-loop μ-loop
 with-term-requires-2 c κs =
-    summing-asks _ (c .before .before .before .before .before .loop .inv .1) (omega arith) (c .before .before .before .entry-at .ensures)
+    summing-asks _ (c .before .before .before .before .before .loop .inv .1) (omega arith) (c .before .before .before .entry-at .ensures) (c .before .price-of2 .ensures)
 
 sub-left : tie.Need-sub-left Inv-loop μ-loop
 sub-left c = omega arith
@@ -56,8 +50,8 @@ loop-again : tie.Need-loop-again Inv-loop μ-loop
 loop-again c =
     let inv = c .before .before .before .before .before .before .before .loop .inv in
     let entry = c .before .before .before .before .before .entry-at .ensures in (
-      summing-turn _ (inv .0) (omega arith) entry (c .before .before .with-term .ensures),
-      summing-turn _ (inv .1) (omega arith) entry (c .before .with-term2 .ensures),
+      summing-turn _ (inv .0) (omega arith) entry (c .before .before .before .before .price-of .ensures) (c .before .before .with-term .ensures),
+      summing-turn _ (inv .1) (omega arith) entry (c .before .before .before .price-of2 .ensures) (c .before .with-term2 .ensures),
     )
 
 returns : tie.Need-returns Inv-loop μ-loop
@@ -72,10 +66,8 @@ sums-of-spec =
     new-requires
     loop-holds
     entry-at-requires
-    mul-price
-    element-copy-out-price
-    mul-other-price
-    element-copy-out-other-price
+    price-of-requires
+    price-of-requires-2
     with-term-requires
     with-term-requires-2
     sub-left

@@ -25,16 +25,13 @@ highest-after-requires c κs =
     let inv = c .before .loop .inv .1 in
     (omega arith, inv .below, inv .highest)
 
-mul-price : tie.Need-mul-price Inv-loop μ-loop
-mul-price c = omega arith
-
-element-copy-out-price : tie.Need-element-copy-out-price Inv-loop μ-loop
-element-copy-out-price c = omega arith
+price-of-requires : tie.Need-price-of-requires Inv-loop μ-loop
+price-of-requires c κs = omega arith
 
 returns : tie.Need-returns Inv-loop μ-loop
 returns c =
     let pre = c .before .before .before .before .before .before .pre in
-    cover-not (c .before .before .highest-after .ensures) (pre .1) (omega arith) (omega arith) (pre .2) (c .if1 .taken)
+    cover-not (c .before .before .highest-after .ensures) (pre .1) (omega arith) (omega arith) (c .before .price-of .ensures) (pre .2) (c .if1 .taken)
 
 add-v : tie.Need-add-v Inv-loop μ-loop
 add-v c = omega arith
@@ -46,7 +43,7 @@ loop-again : tie.Need-loop-again Inv-loop μ-loop
 loop-again c =
     let l = c .before .before .before .before .loop in
     let pre = c .before .before .before .before .before .before .pre in
-    (omega arith, cover-turn (c .before .before .highest-after .ensures) (pre .1) (omega arith) (omega arith) (l .inv .1) (c .if1 .left))
+    (omega arith, cover-turn (c .before .before .highest-after .ensures) (pre .1) (omega arith) (omega arith) (c .before .price-of .ensures) (l .inv .1) (c .if1 .left))
 
 returns-2 : tie.Need-returns-2 Inv-loop μ-loop
 returns-2 c =
@@ -63,8 +60,7 @@ all-related-spec =
     highest-requires
     loop-holds
     highest-after-requires
-    mul-price
-    element-copy-out-price
+    price-of-requires
     returns
     add-v
     loop-less

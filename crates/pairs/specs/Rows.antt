@@ -27,6 +27,10 @@ bitIn u = ifLess u wordBits u (u - wordBits)
 unfoldable pub rowBit : List ℕ → Pairs
 rowBit rows v u = bitOf (getD rows (wordOf v u) 0) (bitIn u)
 
+-- word k of row v, the first or the second
+unfoldable pub wordAt : List ℕ → (v k : ℕ) → ℕ
+wordAt rows v k = getD rows (2 * v + k) 0
+
 -- the bits of row v from a state on, as a word
 pub record IsPart (rows : List ℕ) (v from word : ℕ) : Type 0 where
   pub bits : (i : ℕ) → i < wordBits → bitOf word i ≡ rowBit rows v (from + i)
@@ -64,7 +68,7 @@ removedRows s t rows = clearedRows s t (clearedRows t s rows)
 
 -- the rows with row v made row u of other rows
 unfoldable pub copiedRows : List ℕ → ℕ → ℕ → List ℕ → List ℕ
-copiedRows from u v rows = set (set rows (2 * v) (getD from (2 * u) 0)) (2 * v + 1) (getD from (2 * u + 1) 0)
+copiedRows from u v rows = set (set rows (2 * v) (wordAt from u 0)) (2 * v + 1) (wordAt from u 1)
 
 -- r is the first state from u on of which f holds; where f holds of none, r is no state
 abbrev pub IsNext : (ℕ → Bool) → ℕ → ℕ → Type 0

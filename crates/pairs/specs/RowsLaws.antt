@@ -17,10 +17,10 @@ use Rattle.rules.specs.definitions.Limits.{limits}
 use Rattle.limits.specs.Sizes.{rowWords}
 use Rattle.word.specs.Bits.{wordBits, bitOf, putBit, AreSame, IsNextBelow}
 use Rattle.word.specs.BitsLaws.{bitOf-none, bitOf-put, bitOf-other}
-use Rattle.pairs.specs.Rows.{rowBits, wordOf, bitIn, rowBit, IsPart, NoRows, HoldsPairs, putRows, clearedRows, relatedRows, removedRows, copiedRows, IsNext}
+use Rattle.pairs.specs.Rows.{rowBits, wordOf, bitIn, rowBit, wordAt, IsPart, NoRows, HoldsPairs, putRows, clearedRows, relatedRows, removedRows, copiedRows, IsNext}
 
 -- the bit of u stands in the first word of a row, or in the second
-in-first : (v u : ℕ) → u < wordBits → (wordOf v u ≡ 2 * v) × (bitIn u ≡ u)
+in-first : (v u : ℕ) → u < wordBits → (wordOf v u ≡ 2 * v + 0) × (bitIn u ≡ u)
 unfolding wordOf bitIn
 in-first v u h = (omega (arith, less {X = ℕ} {z = 0} 1 h refl), sym (less (u - wordBits) h refl))
 
@@ -67,27 +67,26 @@ one-place v u s t e f = go (decLt u wordBits) (decLt t wordBits)
 
 -- the bits of a row, by its words
 module _ (rows : List ℕ) (v : ℕ) where
-  first-is : {x : ℕ} → x ≡ getD rows (2 * v) 0 → (i : ℕ) → i < wordBits → rowBit rows v i ≡ bitOf x i
-  unfolding rowBit
+  first-is : {x : ℕ} → x ≡ wordAt rows v 0 → (i : ℕ) → i < wordBits → rowBit rows v i ≡ bitOf x i
+  unfolding rowBit wordAt
   first-is e i h = ap₂ (λ (k j : ℕ). bitOf (getD rows k 0) j) (in-first v i h .0) (in-first v i h .1) ∙ ap (λ (z : ℕ). bitOf z i) (sym e)
 
-  second-is : {x : ℕ} → x ≡ getD rows (2 * v + 1) 0 → (i : ℕ) → wordBits ≤ i → rowBit rows v i ≡ bitOf x (i - wordBits)
-  unfolding rowBit
+  second-is : {x : ℕ} → x ≡ wordAt rows v 1 → (i : ℕ) → wordBits ≤ i → rowBit rows v i ≡ bitOf x (i - wordBits)
+  unfolding rowBit wordAt
   second-is e i h = ap₂ (λ (k j : ℕ). bitOf (getD rows k 0) j) (in-second v i h .0) (in-second v i h .1) ∙ ap (λ (z : ℕ). bitOf z (i - wordBits)) (sym e)
 
-  on-is : {x : ℕ} → x ≡ getD rows (2 * v + 1) 0 → (i : ℕ) → rowBit rows v (wordBits + i) ≡ bitOf x i
+  on-is : {x : ℕ} → x ≡ wordAt rows v 1 → (i : ℕ) → rowBit rows v (wordBits + i) ≡ bitOf x i
   on-is {x} e i = let f : (wordBits + i) - wordBits ≡ i = omega arith in second-is e (wordBits + i) (omega arith) ∙ ap (bitOf x) f
 
-  pub part-is : (k : ℕ) {x : ℕ} → k < 2 → x ≡ getD rows (2 * v + k) 0 → IsPart rows v (k * wordBits) x
+  pub part-is : (k : ℕ) {x : ℕ} → k < 2 → x ≡ wordAt rows v k → IsPart rows v (k * wordBits) x
   part-is k {x} h e = go (ℕ-discrete k 0)
     where
       go : Dec (k ≡ 0) → IsPart rows v (k * wordBits) x
       go (yes p) =
-          let here : 2 * v + k ≡ 2 * v = omega arith in
-          record { bits = λ i l. let j : i ≡ k * wordBits + i = omega arith in sym (first-is (e ∙ ap (λ (m : ℕ). getD rows m 0) here) i l) ∙ ap (rowBit rows v) j }
+          record { bits = λ i l. let j : i ≡ k * wordBits + i = omega arith in sym (first-is (e ∙ ap (wordAt rows v) p) i l) ∙ ap (rowBit rows v) j }
       go (no o) =
-          let here : 2 * v + k ≡ 2 * v + 1 = omega arith in
-          record { bits = λ i l. let j : wordBits + i ≡ k * wordBits + i = omega arith in sym (on-is (e ∙ ap (λ (m : ℕ). getD rows m 0) here) i) ∙ ap (rowBit rows v) j }
+          let one : k ≡ 1 = omega arith in
+          record { bits = λ i l. let j : wordBits + i ≡ k * wordBits + i = omega arith in sym (on-is (e ∙ ap (wordAt rows v) one) i) ∙ ap (rowBit rows v) j }
 
 -- no pair is related where every word is 0
 pub none-related : NoRows (replicate rowWords 0)
@@ -155,18 +154,27 @@ pub related-length : (v u : ℕ) (rows : List ℕ) → length (relatedRows v u r
 related-length = put-length 1
 
 -- the stores that copy a row
-pub copied-stored : (from : List ℕ) (u v : ℕ) (rows : List ℕ) {x y : ℕ} → x ≡ getD from (2 * u) 0 → y ≡ getD from (2 * u + 1) 0 → set (set rows (2 * v) x) (2 * v + 1) y ≡ copiedRows from u v rows
+pub copied-stored : (from : List ℕ) (u v : ℕ) (rows : List ℕ) {x y : ℕ} → x ≡ wordAt from u 0 → y ≡ wordAt from u 1 → set (set rows (2 * v) x) (2 * v + 1) y ≡ copiedRows from u v rows
 unfolding copiedRows
 copied-stored from u v rows e f = rw (e, f) refl
+
+-- where the words of a row stand
+at-zero : (rows : List ℕ) (v : ℕ) → wordAt rows v 0 ≡ getD rows (2 * v) 0
+unfolding wordAt
+at-zero rows v = let e : 2 * v + 0 ≡ 2 * v = omega arith in ap (λ (k : ℕ). getD rows k 0) e
+
+at-one : (rows : List ℕ) (v : ℕ) → wordAt rows v 1 ≡ getD rows (2 * v + 1) 0
+unfolding wordAt
+at-one rows v = refl
 
 -- one row is copied, and no other
 module _ (from : List ℕ) (u v : ℕ) (rows : List ℕ) where
   abbrev first : List ℕ
-  first = set rows (2 * v) (getD from (2 * u) 0)
+  first = set rows (2 * v) (wordAt from u 0)
 
   pub copied-length : length (copiedRows from u v rows) ≡ length rows
   unfolding copiedRows
-  copied-length = length-set first (2 * v + 1) (getD from (2 * u + 1) 0) ∙ length-set rows (2 * v) (getD from (2 * u) 0)
+  copied-length = length-set first (2 * v + 1) (wordAt from u 1) ∙ length-set rows (2 * v) (wordAt from u 0)
 
   pub copied-here : length rows ≡ rowWords → v < limits .states → (i : ℕ) → rowBit (copiedRows from u v rows) v i ≡ rowBit from u i
   unfolding copiedRows
@@ -174,10 +182,10 @@ module _ (from : List ℕ) (u v : ℕ) (rows : List ℕ) where
     where
       go : Dec (i < wordBits) → rowBit (copiedRows from u v rows) v i ≡ rowBit from u i
       go (yes l) =
-          first-is (copiedRows from u v rows) v (sym (getD-set-other first (2 * v + 1) (2 * v) (getD from (2 * u + 1) 0) 0 (λ p. omega arith) ∙ getD-set-same rows (2 * v) (getD from (2 * u) 0) 0 (omega arith))) i l
+          first-is (copiedRows from u v rows) v (sym (at-zero (copiedRows from u v rows) v ∙ getD-set-other first (2 * v + 1) (2 * v) (wordAt from u 1) 0 (λ p. omega arith) ∙ getD-set-same rows (2 * v) (wordAt from u 0) 0 (omega arith))) i l
           ∙ sym (first-is from u refl i l)
       go (no l) =
-          second-is (copiedRows from u v rows) v (sym (getD-set-same first (2 * v + 1) (getD from (2 * u + 1) 0) 0 (omega (arith, length-set rows (2 * v) (getD from (2 * u) 0))))) i (omega arith)
+          second-is (copiedRows from u v rows) v (sym (at-one (copiedRows from u v rows) v ∙ getD-set-same first (2 * v + 1) (wordAt from u 1) 0 (omega (arith, length-set rows (2 * v) (wordAt from u 0))))) i (omega arith)
           ∙ sym (second-is from u refl i (omega arith))
 
   pub copied-other : (w i : ℕ) → (w ≡ v → ⊥) → rowBit (copiedRows from u v rows) w i ≡ rowBit rows w i
@@ -185,14 +193,14 @@ module _ (from : List ℕ) (u v : ℕ) (rows : List ℕ) where
   copied-other w i o = go (decLt i wordBits)
     where
       kept : (k : ℕ) → (k ≡ 2 * v → ⊥) → (k ≡ 2 * v + 1 → ⊥) → getD (copiedRows from u v rows) k 0 ≡ getD rows k 0
-      kept k p q = getD-set-other first (2 * v + 1) k (getD from (2 * u + 1) 0) 0 q ∙ getD-set-other rows (2 * v) k (getD from (2 * u) 0) 0 p
+      kept k p q = getD-set-other first (2 * v + 1) k (wordAt from u 1) 0 q ∙ getD-set-other rows (2 * v) k (wordAt from u 0) 0 p
 
       go : Dec (i < wordBits) → rowBit (copiedRows from u v rows) w i ≡ rowBit rows w i
       go (yes l) =
-          first-is (copiedRows from u v rows) w (sym (kept (2 * w) (λ p. o (omega arith)) (λ p. omega arith))) i l
+          first-is (copiedRows from u v rows) w (sym (at-zero (copiedRows from u v rows) w ∙ kept (2 * w) (λ p. o (omega arith)) (λ p. omega arith) ∙ sym (at-zero rows w))) i l
           ∙ sym (first-is rows w refl i l)
       go (no l) =
-          second-is (copiedRows from u v rows) w (sym (kept (2 * w + 1) (λ p. omega arith) (λ p. o (omega arith)))) i (omega arith)
+          second-is (copiedRows from u v rows) w (sym (at-one (copiedRows from u v rows) w ∙ kept (2 * w + 1) (λ p. omega arith) (λ p. o (omega arith)) ∙ sym (at-one rows w))) i (omega arith)
           ∙ sym (second-is rows w refl i (omega arith))
 
 -- the rows after a removal
@@ -217,7 +225,7 @@ holds-removed {before = before} h s t e less below =
 
 -- the first state from u on, found in the first word, in the second, or in neither
 module _ (rows : List ℕ) (v : ℕ) where
-  pub next-first : {x u r : ℕ} → x ≡ getD rows (2 * v) 0 → IsNextBelow wordBits (bitOf x) u r → r < wordBits → IsNext (rowBit rows v) u r
+  pub next-first : {x u r : ℕ} → x ≡ wordAt rows v 0 → IsNextBelow wordBits (bitOf x) u r → r < wordBits → IsNext (rowBit rows v) u r
   next-first {r = r} e h l =
       record {
         from = h .from;
@@ -225,7 +233,7 @@ module _ (rows : List ℕ) (v : ℕ) where
         some = λ below. first-is rows v e r l ∙ h .some l;
       }
 
-  pub next-second : {x u r : ℕ} → x ≡ getD rows (2 * v + 1) 0 → IsNextBelow wordBits (bitOf x) (u - wordBits) r → wordBits ≤ u → IsNext (rowBit rows v) u (wordBits + r)
+  pub next-second : {x u r : ℕ} → x ≡ wordAt rows v 1 → IsNextBelow wordBits (bitOf x) (u - wordBits) r → wordBits ≤ u → IsNext (rowBit rows v) u (wordBits + r)
   next-second {r = r} e h low =
       record {
         from = omega (arith, h .from);
@@ -233,7 +241,7 @@ module _ (rows : List ℕ) (v : ℕ) where
         some = λ below. on-is rows v e r ∙ h .some (omega arith);
       }
 
-  pub next-later : {x u k r : ℕ} → x ≡ getD rows (2 * v) 0 → IsNextBelow wordBits (bitOf x) u k → wordBits ≤ k → u < wordBits → IsNext (rowBit rows v) wordBits r → IsNext (rowBit rows v) u r
+  pub next-later : {x u k r : ℕ} → x ≡ wordAt rows v 0 → IsNextBelow wordBits (bitOf x) u k → wordBits ≤ k → u < wordBits → IsNext (rowBit rows v) wordBits r → IsNext (rowBit rows v) u r
   next-later {u = u} {k} {r} e h l low next =
       record {
         from = omega (arith, next .from);
@@ -246,7 +254,7 @@ module _ (rows : List ℕ) (v : ℕ) where
       go i above below (no p) = next .none i (omega arith) below
 
 -- two rows have the same bits where their words have: x and y are the first words, p and q the second
-module _ (a b : List ℕ) (v u : ℕ) {x y : ℕ} (xe : x ≡ getD a (2 * v) 0) (ye : y ≡ getD b (2 * u) 0) where
+module _ (a b : List ℕ) (v u : ℕ) {x y : ℕ} (xe : x ≡ wordAt a v 0) (ye : y ≡ wordAt b u 0) where
   pub first-differs : {t : Bool} → AreSame wordBits (bitOf x) (bitOf y) t → t ≡ false → AreSame rowBits (rowBit a v) (rowBit b u) false
   first-differs h e =
       record {
@@ -254,7 +262,7 @@ module _ (a b : List ℕ) (v u : ℕ) {x y : ℕ} (xe : x ≡ getD a (2 * v) 0) 
         differ = λ f all. h .differ e (λ i l. sym (first-is a v xe i l) ∙ all i (omega arith) ∙ first-is b u ye i l);
       }
 
-  pub words-same : {t r : Bool} {p q : ℕ} → AreSame wordBits (bitOf x) (bitOf y) t → t ≡ true → p ≡ getD a (2 * v + 1) 0 → q ≡ getD b (2 * u + 1) 0 → AreSame wordBits (bitOf p) (bitOf q) r → AreSame rowBits (rowBit a v) (rowBit b u) r
+  pub words-same : {t r : Bool} {p q : ℕ} → AreSame wordBits (bitOf x) (bitOf y) t → t ≡ true → p ≡ wordAt a v 1 → q ≡ wordAt b u 1 → AreSame wordBits (bitOf p) (bitOf q) r → AreSame rowBits (rowBit a v) (rowBit b u) r
   words-same {r = r} h e pe qe k =
       record {
         alike = λ f i. go f i (decLt i wordBits);
@@ -272,7 +280,7 @@ count-on n zero f = ap (λ (k : ℕ). countBelow k f) (add-zero n) ∙ omega ari
 count-on n (suc more) f = ap (λ (k : ℕ). countBelow k f) (add-suc n more) ∙ omega (arith, count-on n more f)
 
 -- a row has the bits of its words
-pub count-words : (rows : List ℕ) (v : ℕ) {x y a b : ℕ} → x ≡ getD rows (2 * v) 0 → y ≡ getD rows (2 * v + 1) 0 → a ≡ countBelow wordBits (bitOf x) → b ≡ countBelow wordBits (bitOf y) → a + b ≡ countBelow rowBits (rowBit rows v)
+pub count-words : (rows : List ℕ) (v : ℕ) {x y a b : ℕ} → x ≡ wordAt rows v 0 → y ≡ wordAt rows v 1 → a ≡ countBelow wordBits (bitOf x) → b ≡ countBelow wordBits (bitOf y) → a + b ≡ countBelow rowBits (rowBit rows v)
 count-words rows v e f p q =
     ap₂ (λ (m n : ℕ). m + n)
     (p ∙ countBelowCong wordBits _ _ (λ i l. sym (first-is rows v e i l)))

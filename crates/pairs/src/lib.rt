@@ -1,12 +1,11 @@
 // The related pairs, as a row of one bit for each state. Nothing outside this crate knows where the words of a row stand.
 ghost use Prim.Native.Nat.{_+_, _*_, _≤_, _<_};
-ghost use lib.ListN.{getD};
 ghost use mathlib.Core.Path.{_≡_};
 ghost use Rattle.bisimulation.specs.definitions.Choice.{countBelow};
 ghost use Rattle.rules.specs.definitions.Limits.{limits};
 ghost use Rattle.limits.specs.Sizes.{rowWords};
 ghost use Rattle.word.specs.Bits.{wordBits, AreSame};
-ghost use Rattle.pairs.specs.Rows.{rowBits, wordOf, bitIn, rowBit, IsPart, NoRows, clearedRows, removedRows, relatedRows, copiedRows, IsNext, AreAlike};
+ghost use Rattle.pairs.specs.Rows.{rowBits, wordOf, bitIn, rowBit, wordAt, IsPart, NoRows, clearedRows, removedRows, relatedRows, copiedRows, IsNext, AreAlike};
 use limits::ROW_WORDS;
 use limits::STATES;
 use word::BITS;
@@ -37,28 +36,21 @@ fn bit_in(u: usize) -> usize
     u % BITS
 }
 
-// The first word of row v, and the second.
-fn first_word(rows: &Rows, v: usize) -> Word
-    requires { ⌜ v < limits .states ⌝ }
-    ensures { λ r. ⌜ r ≡ getD (now (rows .entry)) (2 * v) 0 ⌝ }
+// Word k of row v.
+fn word_at(rows: &Rows, v: usize, k: usize) -> Word
+    requires { ⌜ (v < limits .states) × (k < 2) ⌝ }
+    ensures { λ r. ⌜ r ≡ wordAt (now (rows .entry)) v k ⌝ }
 {
-    rows[2 * v]
+    let at = 2 * v + k;
+    rows[at]
 }
 
-fn second_word(rows: &Rows, v: usize) -> Word
-    requires { ⌜ v < limits .states ⌝ }
-    ensures { λ r. ⌜ r ≡ getD (now (rows .entry)) (2 * v + 1) 0 ⌝ }
-{
-    let second = 2 * v + 1;
-    rows[second]
-}
-
-// Word k of row v: its bit i is that of (v, k * BITS + i).
+// The same for other crates: bit i is that of (v, k * BITS + i).
 pub fn part(rows: &Rows, v: usize, k: usize) -> Word
     requires { ⌜ (v < limits .states) × (k < 2) ⌝ }
     ensures { λ r. ⌜ IsPart (now (rows .entry)) v (k * wordBits) r ⌝ }
 {
-    rows[2 * v + k]
+    word_at(rows, v, k)
 }
 
 // The pair (v,u) is related.
@@ -74,7 +66,7 @@ fn next_in_second(rows: &Rows, v: usize, u: usize) -> usize
     requires { ⌜ (v < limits .states) × (wordBits ≤ u) × (u < limits .states) ⌝ }
     ensures { λ r. ⌜ IsNext (rowBit (now (rows .entry)) v) u r ⌝ }
 {
-    BITS + word::next_bit(second_word(rows, v), u - BITS)
+    BITS + word::next_bit(word_at(rows, v, 1), u - BITS)
 }
 
 // The first state from u on that is related to v, no number below STATES where there is none.
@@ -88,7 +80,7 @@ pub fn next_related(rows: &Rows, v: usize, u: usize) -> usize
     if BITS <= u {
         return next_in_second(rows, v, u);
     }
-    let first = word::next_bit(first_word(rows, v), u);
+    let first = word::next_bit(word_at(rows, v, 0), u);
     if first < BITS {
         return first;
     }
@@ -100,7 +92,7 @@ pub fn count_related(rows: &Rows, v: usize) -> usize
     requires { ⌜ v < limits .states ⌝ }
     ensures { λ r. ⌜ r ≡ countBelow rowBits (rowBit (now (rows .entry)) v) ⌝ }
 {
-    word::ones(first_word(rows, v)) + word::ones(second_word(rows, v))
+    word::ones(word_at(rows, v, 0)) + word::ones(word_at(rows, v, 1))
 }
 
 // Row v of a and row u of b have the same bits.
@@ -108,10 +100,10 @@ pub fn same_in(a: &Rows, v: usize, b: &Rows, u: usize) -> bool
     requires { ⌜ (v < limits .states) × (u < limits .states) ⌝ }
     ensures { λ r. ⌜ AreSame rowBits (rowBit (now (a .entry)) v) (rowBit (now (b .entry)) u) r ⌝ }
 {
-    if !word::same(first_word(a, v), first_word(b, u)) {
+    if !word::same(word_at(a, v, 0), word_at(b, u, 0)) {
         return false;
     }
-    word::same(second_word(a, v), second_word(b, u))
+    word::same(word_at(a, v, 1), word_at(b, u, 1))
 }
 
 // v and u are related to the same states, where it is true.
@@ -154,6 +146,6 @@ pub fn copy_row(rows: &mut Rows, v: usize, from: &Rows, u: usize)
     requires { ⌜ (v < limits .states) × (u < limits .states) ⌝ }
     ensures { λ r. ⌜ now (rows .exit) ≡ copiedRows (now (from .entry)) u v (now (rows .entry)) ⌝ }
 {
-    rows[2 * v] = first_word(from, u);
-    rows[2 * v + 1] = second_word(from, u);
+    rows[2 * v] = word_at(from, u, 0);
+    rows[2 * v + 1] = word_at(from, u, 1);
 }

@@ -12,7 +12,8 @@ const CERTIFICATE: usize = 49152;
 // What a program writes from two files, and may keep but for blocks, which it prints a state to a line.
 enum Output {
     Blocks,
-    CostBlocks,
+    // The blocks of a cost pair.
+    Costs,
     Merged,
     Sheet,
     Joined,
@@ -117,81 +118,31 @@ fn keep_output(output: Output, bytes: &[u8]) {
 fn print_output(output: Output, bytes: &[u8]) {
     match output {
         Output::Blocks => print_blocks(bytes),
-        Output::CostBlocks => print_blocks(bytes),
+        Output::Costs => print_blocks(bytes),
         Output::Sheet => print(bytes),
         _ => print_bytes(bytes),
     }
 }
 
-// The call that writes it into a lent buffer; hands back its stretch.
+// The call that writes it into a lent buffer; hands back its stretch. `off` is the remainder.
 fn write<'a>(
     output: Output,
-    first: &'a [u8],
-    second: &'a [u8],
+    a: &'a [u8],
+    b: &'a [u8],
     out: &mut [u8],
     number: &mut u32,
     file: &mut u32,
     place: &mut usize,
     state: &mut u32,
-    remainder: &mut i64,
+    off: &mut i64,
     written: &mut usize,
 ) -> &'a [u8] {
     match output {
-        Output::Blocks => slices::judge(
-            first,
-            second,
-            out,
-            number,
-            file,
-            place,
-            state,
-            remainder,
-            written,
-        ),
-        Output::CostBlocks => slices::judge_costs(
-            first,
-            second,
-            out,
-            number,
-            file,
-            place,
-            state,
-            remainder,
-            written,
-        ),
-        Output::Merged => slices::reduce(
-            first,
-            second,
-            out,
-            number,
-            file,
-            place,
-            state,
-            remainder,
-            written,
-        ),
-        Output::Sheet => slices::sheet(
-            first,
-            second,
-            out,
-            number,
-            file,
-            place,
-            state,
-            remainder,
-            written,
-        ),
-        Output::Joined => slices::join(
-            first,
-            second,
-            out,
-            number,
-            file,
-            place,
-            state,
-            remainder,
-            written,
-        ),
+        Output::Blocks => slices::judge(a, b, out, number, file, place, state, off, written),
+        Output::Costs => slices::judge_costs(a, b, out, number, file, place, state, off, written),
+        Output::Merged => slices::reduce(a, b, out, number, file, place, state, off, written),
+        Output::Sheet => slices::sheet(a, b, out, number, file, place, state, off, written),
+        Output::Joined => slices::join(a, b, out, number, file, place, state, off, written),
     }
 }
 
@@ -340,7 +291,7 @@ pub fn judge_streams(pa: i32, pa_bytes: usize, ct: i32, ct_bytes: usize) {
 
 // Judges a cost pair likewise.
 pub fn judge_costs_streams(pa: i32, pa_bytes: usize, ct: i32, ct_bytes: usize) {
-    write_streams(Output::CostBlocks, pa, pa_bytes, ct, ct_bytes);
+    write_streams(Output::Costs, pa, pa_bytes, ct, ct_bytes);
 }
 
 // Reduces likewise, and keeps no merged.bin.
@@ -411,7 +362,7 @@ pub fn judge_files() {
 
 // The program that judges cost pairs.
 pub fn judge_costs_files() {
-    write_files(Output::CostBlocks, b"pa.bin", b"ct.bin", usize::MAX);
+    write_files(Output::Costs, b"pa.bin", b"ct.bin", usize::MAX);
 }
 
 // The reducing program: writes merged.bin.

@@ -4,8 +4,8 @@ use native.Mathlib.Omega.{arith}
 use Rattle.pairs.proofs.copy_row.Statement.{statement}
 use Rattle.pairs.proofs.copy_row.Tie as tie
 
-first-word-requires : tie.Need-first-word-requires
-first-word-requires c κs = omega arith
+word-at-requires : tie.Need-word-at-requires
+word-at-requires c κs = omega arith
 
 mul-rows : tie.Need-mul-rows
 mul-rows c = omega arith
@@ -16,8 +16,8 @@ mul-rows-2 c = omega arith
 element-write-rows : tie.Need-element-write-rows
 element-write-rows c = omega arith
 
-second-word-requires : tie.Need-second-word-requires
-second-word-requires c κs = omega arith
+word-at-requires-2 : tie.Need-word-at-requires-2
+word-at-requires-2 c κs = omega arith
 
 mul-rows-3 : tie.Need-mul-rows-3
 mul-rows-3 c = omega arith
@@ -32,17 +32,17 @@ element-write-rows-2 : tie.Need-element-write-rows-2
 element-write-rows-2 c = omega arith
 
 returns : tie.Need-returns
-returns c = copied-stored _ _ _ _ (c .before .first-word .ensures) (c .second-word .ensures)
+returns c = copied-stored _ _ _ _ (c .before .word-at .ensures) (c .word-at2 .ensures)
 
 pub copy-row-spec : {M : Type 1} → statement M
 copy-row-spec =
     tie.close
     (tie.spec
-    first-word-requires
+    word-at-requires
     mul-rows
     mul-rows-2
     element-write-rows
-    second-word-requires
+    word-at-requires-2
     mul-rows-3
     add-rows
     mul-rows-4

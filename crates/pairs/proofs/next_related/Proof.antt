@@ -13,20 +13,20 @@ next-in-second-requires c κs = omega arith
 returns-2 : tie.Need-returns-2
 returns-2 c = c .next-in-second .ensures
 
-first-word-requires : tie.Need-first-word-requires
-first-word-requires c κs = omega arith
+word-at-requires : tie.Need-word-at-requires
+word-at-requires c κs = omega arith
 
 next-bit-requires : tie.Need-next-bit-requires
 next-bit-requires c κs = omega arith
 
 returns-3 : tie.Need-returns-3
-returns-3 c = next-first _ _ (c .before .before .first-word .ensures) (c .before .next-bit .ensures .0) (omega arith)
+returns-3 c = next-first _ _ (c .before .before .word-at .ensures) (c .before .next-bit .ensures .0) (omega arith)
 
 next-in-second-requires-2 : tie.Need-next-in-second-requires-2
 next-in-second-requires-2 c κs = omega arith
 
 returns-4 : tie.Need-returns-4
-returns-4 c = next-later _ _ (c .before .before .before .first-word .ensures) (c .before .before .next-bit .ensures .0) (omega arith) (omega arith) (c .next-in-second2 .ensures)
+returns-4 c = next-later _ _ (c .before .before .before .word-at .ensures) (c .before .before .next-bit .ensures .0) (omega arith) (omega arith) (c .next-in-second2 .ensures)
 
 pub next-related-spec : {M : Type 1} → statement M
 next-related-spec =
@@ -35,7 +35,7 @@ next-related-spec =
     returns
     next-in-second-requires
     returns-2
-    first-word-requires
+    word-at-requires
     next-bit-requires
     returns-3
     next-in-second-requires-2

@@ -1,8 +1,7 @@
 -- What the calls that judge do with an accepted certificate.
 use Prim.Native.Nat.{ℕ}
 use Rattle.rules.specs.definitions.Limits.{limits}
-use Rattle.rules.specs.definitions.Answers.{Follows, writesBlocks, writesMerged, JudgeNumber, ReduceNumber}
-use Rattle.cost_files.specs.definitions.CostAnswer.{CostJudgeNumber}
+use Rattle.rules.specs.definitions.Answers.{Follows, writesBlocks, writesMerged}
 use Rattle.rule_kind.specs.declared.Kind.{Kind}
 use Rattle.rule_kind.specs.declared.Kind.the-variants.{Plain, Costs}
 use Rattle.acceptance.specs.declared.Task.{Task}
@@ -19,12 +18,6 @@ abbrev pub followsOf : Task → Follows
 followsOf Blocks = writesBlocks
 followsOf Merged = writesMerged
 followsOf CostBlocks = writesBlocks
-
--- the numbers of the call
-abbrev pub numbersOf : Task → ℕ → Type 0
-numbersOf Blocks = JudgeNumber
-numbersOf Merged = ReduceNumber
-numbersOf CostBlocks = CostJudgeNumber
 
 -- for how many blocks there is room: a block buffer's length, or those of every model where none is lent
 abbrev pub roomOf : Task → ℕ → ℕ

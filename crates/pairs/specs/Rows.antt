@@ -2,7 +2,7 @@
 -- Document 02, K7: 'The row of related states now takes two words'.
 use Prim.Native.Nat.{ℕ, _+_, _-_, _*_, _<_, _≤_}
 use mathlib.Core.Path.{_≡_}
-use mathlib.Core.Bool.{Bool, true, false}
+use mathlib.Core.Bool.{Bool, false}
 use mathlib.Core.List.{List}
 use lib.ListN.{length, getD, set}
 use Rattle.bisimulation.specs.definitions.Choice.{ifLess}
@@ -73,7 +73,3 @@ copiedRows from u v rows = set (set rows (2 * v) (wordAt from u 0)) (2 * v + 1) 
 -- r is the first state from u on of which f holds; where f holds of none, r is no state
 abbrev pub IsNext : (ℕ → Bool) → ℕ → ℕ → Type 0
 IsNext = IsNextBelow (limits .states)
-
--- a true answer says that v and u are related to the same states
-pub record AreAlike (rows : List ℕ) (v u : ℕ) (answer : Bool) : Type 0 where
-  pub alike : answer ≡ true → (i : ℕ) → rowBit rows v i ≡ rowBit rows u i

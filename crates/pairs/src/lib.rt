@@ -1,11 +1,11 @@
-// The related pairs, as a row of one bit for each state. Nothing outside this crate knows where the words of a row stand.
+// The related pairs, as a row of one bit for each state. Where the words of a row stand only this crate knows; it hands one out by `part`.
 ghost use Prim.Native.Nat.{_+_, _*_, _≤_, _<_};
 ghost use mathlib.Core.Path.{_≡_};
 ghost use Rattle.bisimulation.specs.definitions.Choice.{countBelow};
 ghost use Rattle.rules.specs.definitions.Limits.{limits};
 ghost use Rattle.limits.specs.Sizes.{rowWords};
 ghost use Rattle.word.specs.Bits.{wordBits, AreSame};
-ghost use Rattle.pairs.specs.Rows.{rowBits, wordOf, bitIn, rowBit, wordAt, IsPart, NoRows, clearedRows, removedRows, relatedRows, copiedRows, IsNext, AreAlike};
+ghost use Rattle.pairs.specs.Rows.{rowBits, wordOf, bitIn, rowBit, wordAt, IsPart, NoRows, clearedRows, removedRows, relatedRows, copiedRows, IsNext};
 use limits::ROW_WORDS;
 use limits::STATES;
 use word::BITS;
@@ -104,14 +104,6 @@ pub fn same_in(a: &Rows, v: usize, b: &Rows, u: usize) -> bool
         return false;
     }
     word::same(word_at(a, v, 1), word_at(b, u, 1))
-}
-
-// v and u are related to the same states, where it is true.
-pub fn same_row(rows: &Rows, v: usize, u: usize) -> bool
-    requires { ⌜ (v < limits .states) × (u < limits .states) ⌝ }
-    ensures { λ r. ⌜ AreAlike (now (rows .entry)) v u r ⌝ }
-{
-    same_in(rows, v, rows, u)
 }
 
 // Clears the bit of (v,u).

@@ -104,13 +104,14 @@ fn keep_file(path: &[u8], bytes: &[u8]) {
     libc::close(fd);
 }
 
-// Keeps what was written in a file of the current folder.
+// Keeps what was written in a file of the current folder; blocks have none.
 fn keep_output(output: Output, bytes: &[u8]) {
     match output {
         Output::Merged => keep_file(b"merged.bin", bytes),
         Output::Sheet => keep_file(b"blocks.txt", bytes),
         Output::Joined => keep_file(b"joined.bin", bytes),
-        _ => {}
+        Output::Blocks => {}
+        Output::Costs => {}
     }
 }
 
@@ -346,7 +347,7 @@ fn answer_files(asked: Asked, first: &[u8], second: &[u8], second_bytes: usize) 
     libc::close(ct);
 }
 
-// Writes what is asked for from them, prints it, and keeps it.
+// Writes what is asked for from them, prints it, and keeps it where it has a file.
 fn write_files(output: Output, first: &[u8], second: &[u8], second_bytes: usize) {
     let asked = Asked::Write {
         output,

@@ -19,9 +19,9 @@ use Rattle.bisimulation.specs.definitions.Pairs.{Pairs}
 use Rattle.rules.specs.definitions.Limits.{limits}
 use Rattle.rules.specs.definitions.PlainRule.{allRelated}
 use Rattle.rules.specs.argument.PlainDecides.{holds-T, T-holds}
-use Rattle.word.specs.Bits.{wordBits, bitOf, clearBit, IsNextBelow}
+use Rattle.word.specs.Bits.{wordBits, bitOf, clearBit, AreSame, IsNextBelow}
 use Rattle.word.specs.BitsLaws.{bitOf-put, bitOf-other}
-use Rattle.pairs.specs.Rows.{rowBit, IsPart, HoldsPairs, AreAlike}
+use Rattle.pairs.specs.Rows.{rowBits, rowBit, IsPart, HoldsPairs}
 use Rattle.prices.specs.Prices.{priceIn, IsPrice, SmallPrices}
 use Rattle.prices.specs.PricesLaws.{price-back, price-read}
 use Rattle.signed.specs.Larger.{IsLarger}
@@ -163,7 +163,7 @@ module _ {rows : List ℕ} {v : ℕ} {table : List ℤ} where
     seek-end s past = highest-past (s .highest) (between s wordBits past (omega arith))
 
   -- states with equal rows have it in common
-  pub highest-alike : {known : ℕ} {answer : Bool} {z : ℤ} → AreAlike rows v known answer → answer ≡ true → IsHighest rows known table z → IsHighest rows v table z
+  pub highest-alike : {known : ℕ} {answer : Bool} {z : ℤ} → AreSame rowBits (rowBit rows v) (rowBit rows known) answer → answer ≡ true → IsHighest rows known table z → IsHighest rows v table z
   highest-alike {known} a holds h =
       record {
         bounds = λ n prices inside.

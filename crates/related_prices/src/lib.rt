@@ -39,7 +39,7 @@ fn highest_after(rows: &Rows, v: usize, known: usize, most: i64, g: &Prices) -> 
     requires { ⌜ (v < limits .states) × (known < limits .states) × IsHighest (now rows) known (now g) most ⌝ }
     ensures { λ r. ⌜ IsHighest (now (rows .entry)) v (now (g .entry)) r ⌝ }
 {
-    if pairs::same_row(rows, v, known) {
+    if pairs::same_in(rows, v, rows, known) {
         return most;
     }
     highest(rows, v, g)

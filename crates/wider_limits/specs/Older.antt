@@ -27,6 +27,7 @@ use Rattle.joined.specs.AlikeAnswer.{Named, testsParts, alikeSays}
 use Rattle.joined.specs.AlikeAnswerLaws.{parts-follow}
 use Rattle.cost_files.specs.definitions.CostModel.{CostFileOf, costsIn}
 use Rattle.cost_files.specs.definitions.CostReading.{readCosts}
+use Rattle.cost_files.specs.definitions.CostFile.{costFile}
 use Rattle.cost_files.specs.definitions.CostPairs.{costPairs, AcceptedWithCosts}
 use Rattle.cost_files.specs.definitions.CostAnswer.{costOutcome}
 use Rattle.wider_limits.specs.Wider.{within-older, others-stay, Widens, plainPairsAt, costPairsAt, Meets, Larger, ThreeOrEight}
@@ -120,11 +121,20 @@ older-cost-meets = cost-meets olderLimits limits within-older others-stay limits
 pub older-refuses-larger : (file : List ℕ) (M : Model) → FileOf limits file M → Larger olderLimits M → ThreeOrEight (readWhole olderLimits) file
 older-refuses-larger file M f = three-or-eight olderLimits (readWhole olderLimits) file M (older-meets file M f)
 
--- so every call that judges answers 3 or 8 there, and leaves the lent buffer as it was
+-- so every call that judges without costs answers 3 or 8 there, and leaves the lent buffer as it was
 pub older-calls-refuse-larger : (file : List ℕ) (M : Model) → FileOf limits file M → Larger olderLimits M → (follows : Follows) (C buffer : List ℕ) → (number place : ℕ) × ((number ≡ 3) ⊎ (number ≡ 8)) × (outcomeBy olderPairs follows file C buffer ≡ unwritten (refusalIn (fault number) 1 place (length file)) buffer)
 older-calls-refuse-larger file M f large follows C buffer =
     let x = older-refuses-larger file M f large in
     (x .number, x .place, x .either, call-refuses olderLimits (readWhole olderLimits) file x plainRule follows C buffer)
+
+-- and so of cost models, in the call that judges them
+pub older-cost-refuses-larger : (file : List ℕ) (M : Model) → CostFileOf limits file M → Larger olderLimits M → ThreeOrEight (readCosts olderLimits) file
+older-cost-refuses-larger file M f = three-or-eight olderLimits (readCosts olderLimits) file M (older-cost-meets file M f)
+
+pub older-cost-calls-refuse-larger : (file : List ℕ) (M : Model) → CostFileOf limits file M → Larger olderLimits M → (costs : List ℕ) (follows : Follows) (C buffer : List ℕ) → (number place : ℕ) × ((number ≡ 3) ⊎ (number ≡ 8)) × (outcomeBy (costPairsAt olderLimits costs) follows file C buffer ≡ unwritten (refusalIn (fault number) 1 place (length file)) buffer)
+older-cost-calls-refuse-larger file M f large costs follows C buffer =
+    let x = older-cost-refuses-larger file M f large in
+    (x .number, x .place, x .either, call-refuses olderLimits (readCosts olderLimits) file x (costFile costs) follows C buffer)
 
 -- and it reads the others
 pub older-reads-exactly : (file : List ℕ) (M : Model) → FileOf limits file M → (readWhole olderLimits file ≡ model M (length file)) ↔ ((length (M .labels) ≤ 64) × (entryCount M ≤ 1024))

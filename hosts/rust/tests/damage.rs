@@ -27,7 +27,8 @@ fn every_truncation() {
     assert_eq!(fetched + model_ends + certificate_ends, 3 * counts.pairs);
     let refused = lines().into_iter().filter(|v| matches!(v.name, "base" | "k7") && matches!(v.call.as_str(), "judge" | "reduce"));
     let refused: BTreeSet<_> = refused.filter(|v| v.said.0.file != 0).map(|mut v| (v.files.remove(0), v.files.remove(0))).collect();
-    println!("truncations of refused pairs: {}", truncations(&refused));
+    assert!(refused.len() > 500);
+    println!("truncations of {} refused pairs: {}", refused.len(), truncations(&refused));
 }
 
 #[test]

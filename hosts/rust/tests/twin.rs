@@ -14,11 +14,3 @@ fn the_plain_judge_gives_the_answers() {
     }
     assert!(all.iter().filter(|v| v.name == "k7").count() > 800 && all.iter().filter(|v| v.name != "k7").count() > 2900);
 }
-
-/// Of the lines from before K7, today's limits change only those that 3, 8, 13 or 25 refuse.
-#[test]
-fn todays_limits_change_few_answers() {
-    for v in all_lines().iter().filter(|v| !v.about_the_limits()) {
-        v.holds_for(&TODAY);
-    }
-}

@@ -4,11 +4,11 @@ use borrow.Author.Needs.{needs}
 use Rattle.related_prices.proofs.highest_after.Statement.{statement}
 use Rattle.related_prices.proofs.highest_after.Tie as tie
 
-same-row-requires : tie.Need-same-row-requires
-same-row-requires c κs = search needs
+same-in-requires : tie.Need-same-in-requires
+same-in-requires c κs = search needs
 
 returns : tie.Need-returns
-returns c = highest-back (highest-alike (c .before .same-row .ensures) (c .if1 .taken) (c .before .before .pre .2))
+returns c = highest-back (highest-alike (c .before .same-in .ensures) (c .if1 .taken) (c .before .before .pre .2))
 
 highest-requires : tie.Need-highest-requires
 highest-requires c κs = search needs
@@ -17,4 +17,4 @@ returns-2 : tie.Need-returns-2
 returns-2 c = highest-back (c .highest .ensures)
 
 pub highest-after-spec : {M : Type 1} → statement M
-highest-after-spec = tie.close (tie.spec same-row-requires returns highest-requires returns-2)
+highest-after-spec = tie.close (tie.spec same-in-requires returns highest-requires returns-2)

@@ -2,7 +2,7 @@
 use Prim.Native.Nat.{ℕ}
 use mathlib.Core.List.{List, []}
 use Rattle.rules.specs.definitions.JudgedBy.{plainPairs}
-use Rattle.joined.specs.AlikeAnswer.{Named, testsParts, AlikeNumber, SaysAlike}
+use Rattle.joined.specs.definitions.AlikeAnswer.{Named, testsParts, AlikeNumber, SaysAlike}
 use Rattle.pair.specs.Pair.{PairAnswered}
 use Rattle.alike.specs.declared.AlikeAnswer.{AlikeAnswer}
 

@@ -13,8 +13,8 @@ use Rattle.rules.specs.definitions.Answers.{Outcome, answerWithoutPlace, writes
 use Rattle.rules.specs.definitions.Demands.{outcomeBy}
 use Rattle.rules.specs.argument.DemandsHold.{demands-hold}
 use Rattle.rules.specs.argument.PlainRules.{plainRules}
-use Rattle.joined.specs.AlikeAnswer.{Named, partsNumber, testsParts, alikeSays, AlikeNumber, SaysAlike}
-use Rattle.joined.specs.AlikeAnswerLaws.{parts-named, parts-follow, alike-numbered, alike-buffer, says-alike, Compared, alike-unjudged, judged-compared}
+use Rattle.joined.specs.definitions.AlikeAnswer.{Named, partsNumber, testsParts, alikeSays, AlikeNumber, SaysAlike}
+use Rattle.joined.specs.argument.AlikeAnswerLaws.{parts-named, parts-follow, alike-numbered, alike-buffer, says-alike, Compared, alike-unjudged, judged-compared}
 use Rattle.answer.specs.declared.Answer.{Answer}
 use Rattle.answer.specs.Answered.{answered, StretchInside}
 use Rattle.answer.specs.AnsweredLaws.{without-inside}

@@ -3,7 +3,7 @@ ghost use Prim.Native.Nat.{_<_};
 ghost use mathlib.Core.Path.{_≡_};
 ghost use lib.ListN.{length, getD};
 ghost use Rattle.bisimulation.specs.definitions.Choice.{ifSame};
-ghost use Rattle.joined.specs.AlikeAnswer.{partsNumber};
+ghost use Rattle.joined.specs.definitions.AlikeAnswer.{partsNumber};
 ghost use Rattle.alike.specs.Alike.{named, AlikeAnswered};
 use acceptance::Task;
 use answer::Answer;

@@ -6,7 +6,7 @@ use Rattle.bisimulation.specs.definitions.Choice.{ifLess}
 use Rattle.rules.specs.definitions.Limits.{limits}
 use Rattle.rules.specs.definitions.Reading.{readWhole}
 use Rattle.rules.specs.definitions.Accepted.{FileOf}
-use Rattle.joined.specs.JoinAnswer.{joinedOutcome, joinOutcome, joinFiles, JoinDemands}
+use Rattle.joined.specs.definitions.JoinAnswer.{joinedOutcome, joinOutcome, joinFiles, JoinDemands}
 use Rattle.answer.specs.declared.Answer.{Answer}
 use Rattle.answer.specs.Answered.{OutcomeIs}
 use Rattle.joined_file.specs.JoinedFile.{joinedIn}

@@ -16,10 +16,10 @@ use Rattle.rules.specs.definitions.Answers.{Outcome, refusalIn, answerWithoutPl
 use Rattle.rules.specs.argument.SoundModelLaws.{limits-fit}
 use Rattle.rules.specs.argument.ReadSound.{read-whole-sound}
 use Rattle.rules.specs.argument.AnswerLaws.{file-short, file-whole}
-use Rattle.joined.specs.Joined.{joinedFile}
-use Rattle.joined.specs.JoinAnswer.{joinedOutcome, joinFiles}
-use Rattle.joined.specs.JoinedLaws.{Within}
-use Rattle.joined.specs.JoinAnswerLaws.{many-states, many-transitions, many-entries, within-outcome, first-refused, second-refused, both-read, join-demands}
+use Rattle.joined.specs.definitions.Joined.{joinedFile}
+use Rattle.joined.specs.definitions.JoinAnswer.{joinedOutcome, joinFiles}
+use Rattle.joined.specs.argument.JoinedLaws.{Within}
+use Rattle.joined.specs.argument.JoinAnswerLaws.{many-states, many-transitions, many-entries, within-outcome, first-refused, second-refused, both-read, join-demands}
 use Rattle.fault.specs.declared.Fault.{Fault}
 use Rattle.fault.specs.Faults.{faultOf}
 use Rattle.model.specs.declared.Model.{Model as Found}

@@ -7,8 +7,8 @@ use Rattle.rules.specs.definitions.Limits.{limits}
 use Rattle.rules.specs.definitions.Model.{Model, modelBytes}
 use Rattle.rules.specs.definitions.Reading.{statesOf, modelAt}
 use Rattle.rules.specs.definitions.SoundModel.{SoundModel}
-use Rattle.joined.specs.Joined.{joined, joinedFile}
-use Rattle.joined.specs.JoinedLaws.{Within}
+use Rattle.joined.specs.definitions.Joined.{joined, joinedFile}
+use Rattle.joined.specs.argument.JoinedLaws.{Within}
 use Rattle.model.specs.declared.Model.{Model as Found}
 use Rattle.transition.specs.Known.{Known}
 use Rattle.transition.specs.ModelRead.{ReadsModel}

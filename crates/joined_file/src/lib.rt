@@ -5,7 +5,7 @@ ghost use mathlib.Core.List.{_++_};
 ghost use lib.ListN.{length, drop};
 ghost use Rattle.bisimulation.specs.definitions.Joined as joined;
 ghost use Rattle.rules.specs.definitions.Reading.{modelAt};
-ghost use Rattle.joined.specs.Joined.{joinedFile};
+ghost use Rattle.joined.specs.definitions.Joined.{joinedFile};
 ghost use Rattle.writer.specs.Appends.{Appends};
 ghost use Rattle.raised.specs.Raised.{raisedTransitions};
 ghost use Rattle.joined_file.specs.JoinedFile.{labelsOf, CanWriteRecords, CanWriteJoined};

@@ -4,7 +4,7 @@ use mathlib.Core.List.{List, [], _∷_}
 use Rattle.rules.specs.definitions.JudgedBy.{plainPairs}
 use Rattle.rules.specs.definitions.Answers.{Outcome, Follows, writesBlocks, writesMerged, JudgeNumber}
 use Rattle.rules.specs.definitions.Demands.{outcomeBy, Demands}
-use Rattle.replacement.specs.Replacement.{ReduceDemands}
+use Rattle.replacement.specs.definitions.Replacement.{ReduceDemands}
 use Rattle.cost_files.specs.definitions.CostAnswer.{costOutcome, CostDemands}
 use Rattle.rule_kind.specs.Kinds.{pairsBy}
 use Rattle.answer.specs.declared.Answer.{Answer}

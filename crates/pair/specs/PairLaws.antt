@@ -19,7 +19,7 @@ use Rattle.rules.specs.argument.Demand3Holds.{holds-read}
 use Rattle.rules.specs.argument.DemandsHold.{demands-hold, blocks-follow, merged-follow, judge-numbered, reduce-numbered}
 use Rattle.rules.specs.argument.QuotientLaws.{NumberedBlocks}
 use Rattle.rules.specs.argument.QuotientHolds.{accepted-numbered}
-use Rattle.replacement.specs.ReplacementLaws.{reduce-demands}
+use Rattle.replacement.specs.argument.ReplacementLaws.{reduce-demands}
 use Rattle.cost_files.specs.definitions.CostModel.{costsIn}
 use Rattle.cost_files.specs.argument.CostRules.{costRules}
 use Rattle.cost_files.specs.argument.CostAnswerLaws.{cost-demands-hold}

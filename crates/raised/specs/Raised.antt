@@ -6,7 +6,7 @@ use Rattle.rules.specs.definitions.Model.{Entry, Transition, entriesBytes, tran
 use Rattle.rules.specs.definitions.Reading.{statesOf, entryCountAt, entriesAt, placeOf}
 use Rattle.rules.specs.definitions.SoundModel.{Each}
 use Rattle.transition.specs.Known.{Known, KnownTransition}
-use Rattle.joined.specs.Joined.{raisedEntry, raisedTransition}
+use Rattle.joined.specs.definitions.Joined.{raisedEntry, raisedTransition}
 
 -- the bytes of entries and of transitions, raised by k
 abbrev pub raisedEntries : ℕ → List Entry → List ℕ

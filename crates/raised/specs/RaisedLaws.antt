@@ -20,7 +20,7 @@ use Rattle.transition.specs.KnownLaws.{known-transition, entries-known}
 use Rattle.transition.specs.Entries.{EntryTaken}
 use Rattle.writer.specs.Appends.{Appends, fixedBytes}
 use Rattle.writer.specs.AppendsLaws.{append-more, record-bytes, Ahead, ahead-start, ahead-turn, ahead-end}
-use Rattle.joined.specs.Joined.{raisedEntry, raisedTransition}
+use Rattle.joined.specs.definitions.Joined.{raisedEntry, raisedTransition}
 use Rattle.raised.specs.Raised.{raisedEntries, raisedTransitions, CanRaiseEntries, CanRaiseTransition, CanRaise}
 
 -- what is known before each entry that is written

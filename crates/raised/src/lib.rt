@@ -1,7 +1,7 @@
 // The transition records of a sound model with its states raised, appended to a lent buffer.
 ghost use Rattle.rules.specs.definitions.Model.{transitionBytes};
 ghost use Rattle.rules.specs.definitions.Reading.{entriesAt, transitionAt, modelAt, placeOf};
-ghost use Rattle.joined.specs.Joined.{raisedTransition};
+ghost use Rattle.joined.specs.definitions.Joined.{raisedTransition};
 ghost use Rattle.writer.specs.Appends.{Appends};
 ghost use Rattle.raised.specs.Raised.{raisedEntries, raisedTransitions, CanRaiseEntries, CanRaiseTransition, CanRaise};
 use field::Cursor;

@@ -1,4 +1,4 @@
 -- The small model for the large one, of files: request K8 of document 02.
-pub mod Replacement
-pub mod ReplacementLaws
-pub mod ReplacementCases
+pub mod definitions
+pub mod argument
+pub mod cases

@@ -16,8 +16,8 @@ use Rattle.rules.specs.argument.LargestBlocks.{Numbered}
 use Rattle.rules.specs.argument.AnswerLaws.{file-short, file-whole}
 use Rattle.rules.specs.argument.DemandsHold.{demands-hold}
 use Rattle.rules.specs.argument.PlainRules.{plainRules}
-use Rattle.block_sheet.specs.SheetAnswer.{writesSheet, SheetNumber}
-use Rattle.block_sheet.specs.SheetJudgedLaws.{sheet-follow, sheet-numbered, sheet-refused, Sheeted, judged-sheeted}
+use Rattle.block_sheet.specs.definitions.SheetAnswer.{writesSheet, SheetNumber}
+use Rattle.block_sheet.specs.argument.SheetJudgedLaws.{sheet-follow, sheet-numbered, sheet-refused, Sheeted, judged-sheeted}
 use Rattle.writer.specs.Appends.{Appends}
 use Rattle.writer.specs.AppendsLaws.{file-filled}
 use Rattle.answer.specs.declared.Answer.{Answer}

@@ -1,7 +1,7 @@
 // The call that writes the block sheet: a pair judged, the rows of its blocks, and the sheet where there is room for it.
 ghost use Rattle.rules.specs.definitions.Answers.{fileOutcome};
 ghost use Rattle.rules.specs.definitions.PlainRule.{plainRule};
-ghost use Rattle.block_sheet.specs.SheetAnswer.{writesSheet, SheetNumber};
+ghost use Rattle.block_sheet.specs.definitions.SheetAnswer.{writesSheet, SheetNumber};
 ghost use Rattle.answer.specs.Answered.{Gives};
 ghost use Rattle.pair.specs.Pair.{PairAnswered};
 ghost use Rattle.sheet_blocks.specs.Blocks.{sheetOf, ModelBlocks};

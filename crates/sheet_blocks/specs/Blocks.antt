@@ -10,9 +10,9 @@ use Rattle.rules.specs.definitions.Quotient.{blockCount}
 use Rattle.rules.specs.argument.LargestBlocks.{Numbered}
 use Rattle.pairs.specs.Rows.{HoldsPairs}
 use Rattle.classes.specs.Classes.{sameLabels}
-use Rattle.block_sheet.specs.Sheet.{sheetFrom}
-use Rattle.block_sheet.specs.Sheet as paper
-use Rattle.block_sheet.specs.SheetLaws.{linesOf}
+use Rattle.block_sheet.specs.definitions.Sheet.{sheetFrom}
+use Rattle.block_sheet.specs.definitions.Sheet as paper
+use Rattle.block_sheet.specs.argument.SheetLaws.{linesOf}
 use Rattle.writer.specs.Appends.{Appends}
 use Rattle.sheet_blocks.specs.declared.Counted.{Counted}
 use Rattle.sheet_blocks.specs.declared.Put.{Put}

@@ -18,9 +18,9 @@ use Rattle.rules.specs.argument.QuotientLaws.{block-below, each-block, count-mo
 use Rattle.pairs.specs.Rows.{rowBits, rowBit}
 use Rattle.pairs.specs.RowsLaws.{count-held}
 use Rattle.classes.specs.Classes.{sameLabels, SmallBytes}
-use Rattle.block_sheet.specs.Sheet.{cell, lines, lineCount, ascending, members, blockLines, sheetFrom}
-use Rattle.block_sheet.specs.Sheet as paper
-use Rattle.block_sheet.specs.SheetLaws.{linesOf, block-length, sheet-length, ascending-ends, ascending-cong, members-few, shared-member, shared-count, size-members, some-member}
+use Rattle.block_sheet.specs.definitions.Sheet.{cell, lines, lineCount, ascending, members, blockLines, sheetFrom}
+use Rattle.block_sheet.specs.definitions.Sheet as paper
+use Rattle.block_sheet.specs.argument.SheetLaws.{linesOf, block-length, sheet-length, ascending-ends, ascending-cong, members-few, shared-member, shared-count, size-members, some-member}
 use Rattle.sheet_lines.specs.Lines.{membersFrom}
 use Rattle.writer.specs.Appends.{Appends}
 use Rattle.writer.specs.AppendsLaws.{append-none, Ahead, ahead-start, ahead-turn, ahead-end}

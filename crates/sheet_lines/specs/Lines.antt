@@ -5,7 +5,7 @@ use mathlib.Core.Bool.{Bool}
 use mathlib.Core.List.{List, [], _∷_, _++_}
 use lib.ListN.{drop}
 use Rattle.rules.specs.definitions.Limits.{limits}
-use Rattle.block_sheet.specs.Sheet.{firstCell, cells, ascending}
+use Rattle.block_sheet.specs.definitions.Sheet.{firstCell, cells, ascending}
 use Rattle.writer.specs.Appends.{Appends}
 use Rattle.sheet_lines.specs.declared.Written.{Written}
 

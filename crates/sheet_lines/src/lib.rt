@@ -5,7 +5,7 @@ ghost use mathlib.Core.List.{_++_};
 ghost use lib.ListN.{length};
 ghost use Rattle.rules.specs.definitions.Limits.{limits};
 ghost use Rattle.pairs.specs.Rows.{rowBit};
-ghost use Rattle.block_sheet.specs.Sheet as sheet;
+ghost use Rattle.block_sheet.specs.definitions.Sheet as sheet;
 ghost use Rattle.writer.specs.Appends.{Appends};
 ghost use Rattle.sheet_lines.specs.Lines.{membersFrom, CellTaken, LineTaken};
 use limits::STATES;

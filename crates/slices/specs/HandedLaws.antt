@@ -17,9 +17,9 @@ use Rattle.answer.specs.HandingLaws.{first-of, two-of, handed-back}
 use Rattle.rules.specs.argument.PlainRules.{plainRules}
 use Rattle.rules.specs.definitions.Reading.{readWhole}
 use Rattle.rules.specs.definitions.Accepted.{FileOf}
-use Rattle.joined.specs.JoinAnswer.{joinFiles, JoinDemands}
-use Rattle.joined.specs.AlikeAnswer.{Named, SaysAlike}
-use Rattle.joined.specs.AlikeAnswerLaws.{alike-written}
+use Rattle.joined.specs.definitions.JoinAnswer.{joinFiles, JoinDemands}
+use Rattle.joined.specs.definitions.AlikeAnswer.{Named, SaysAlike}
+use Rattle.joined.specs.argument.AlikeAnswerLaws.{alike-written}
 use Rattle.pair.specs.Pair.{JudgeAnswered}
 use Rattle.join.specs.Join.{JoinAnswered}
 use Rattle.alike.specs.declared.AlikeAnswer.{AlikeAnswer}

@@ -10,9 +10,9 @@ use Rattle.rules.specs.definitions.Answers.{fetchAnswer, stretchIn, FetchNumber
 use Rattle.rules.specs.definitions.Demands.{outcomeBy, Demands}
 use Rattle.rules.specs.definitions.Reading.{readWhole}
 use Rattle.rules.specs.definitions.Accepted.{FileOf}
-use Rattle.joined.specs.JoinAnswer.{joinOutcome, joinFiles, JoinDemands}
-use Rattle.joined.specs.AlikeAnswer.{Named, testsParts, AlikeNumber, SaysAlike}
-use Rattle.replacement.specs.Replacement.{ReduceDemands}
+use Rattle.joined.specs.definitions.JoinAnswer.{joinOutcome, joinFiles, JoinDemands}
+use Rattle.joined.specs.definitions.AlikeAnswer.{Named, testsParts, AlikeNumber, SaysAlike}
+use Rattle.replacement.specs.definitions.Replacement.{ReduceDemands}
 use Rattle.cost_files.specs.definitions.CostAnswer.{costOutcome, CostDemands}
 use Rattle.acceptance.specs.declared.Task.{Task}
 use Rattle.pair.specs.Pair.{outcomeOf, demandsOf}

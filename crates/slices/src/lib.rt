@@ -4,7 +4,7 @@ ghost use mathlib.Core.List.{[], _∷_};
 ghost use denote.Ref.{ptr};
 ghost use Rattle.rules.specs.definitions.Answers.{writesBlocks, JudgeNumber};
 ghost use Rattle.rules.specs.definitions.PlainRule.{plainRule};
-ghost use Rattle.block_sheet.specs.SheetAnswer.{writesSheet, SheetNumber};
+ghost use Rattle.block_sheet.specs.definitions.SheetAnswer.{writesSheet, SheetNumber};
 ghost use Rattle.answer.specs.Answered.{StretchInside};
 ghost use Rattle.alike.specs.Alike.{named};
 ghost use Rattle.slices.specs.Slices.{FetchHandedBack, AnswerHandedBack, PairHandedBack, ReduceHandedBack, CostHandedBack, TaskHandedBack, JoinHandedBack, AlikeHandedBack};

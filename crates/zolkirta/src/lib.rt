@@ -2,7 +2,7 @@
 // No public entry has a `requires`.
 ghost use Rattle.rules.specs.definitions.Answers.{writesBlocks, JudgeNumber};
 ghost use Rattle.rules.specs.definitions.PlainRule.{plainRule};
-ghost use Rattle.block_sheet.specs.SheetAnswer.{writesSheet, SheetNumber};
+ghost use Rattle.block_sheet.specs.definitions.SheetAnswer.{writesSheet, SheetNumber};
 ghost use Rattle.pair.specs.Pair.{PairAnswered, ReduceAnswered, CostAnswered};
 ghost use Rattle.join.specs.Join.{JoinAnswered};
 ghost use Rattle.alike.specs.Alike.{named, AlikeAnswered};

@@ -2,7 +2,7 @@
 use native.Mathlib.Omega.{arith}
 use mathlib.Core.Path.{refl}
 use Rattle.bisimulation.specs.argument.ChoiceLaws.{less, notLess}
-use Rattle.joined.specs.AlikeAnswer.{partsNumber}
+use Rattle.joined.specs.definitions.AlikeAnswer.{partsNumber}
 use Rattle.alike.proofs.parts_number.Statement.{statement}
 use Rattle.alike.proofs.parts_number.Tie as tie
 

@@ -12,7 +12,7 @@ use Rattle.rules.specs.definitions.Answers.{Answer, Outcome, refusalIn, unwritt
 use Rattle.rules.specs.definitions.Demands.{outcomeBy}
 use Rattle.rules.specs.argument.SoundModelLaws.{limits-fit}
 use Rattle.rules.specs.argument.PairOutcome.{outcome-refused}
-use Rattle.joined.specs.JoinAnswer.{readingsOutcome, joinOutcome}
+use Rattle.joined.specs.definitions.JoinAnswer.{readingsOutcome, joinOutcome}
 use Rattle.cost_files.specs.definitions.CostModel.{CostFileOf, transitionsEnd}
 use Rattle.cost_files.specs.argument.CostReadingLaws.{transitions-end, read-without-costs}
 

@@ -5,7 +5,7 @@ use mathlib.Core.Path.{_≡_, sym, _∙_, ap}
 use lib.ListN.{getD}
 use denote.Ref.{now}
 use borrow.Author.Tests.{not-true, not-false, eqb-true, eqb-false}
-use Rattle.block_sheet.specs.Sheet.{lineCount}
+use Rattle.block_sheet.specs.definitions.Sheet.{lineCount}
 use Rattle.sheet_blocks.specs.BlocksLaws.{counted-none, counted-new, new-size, new-few}
 use borrow.Author.Needs.{needs}
 use Rattle.sheet_blocks.proofs.count_block.Statement.{statement}

@@ -1,7 +1,7 @@
 -- `block` meets its contract: its first line, and the further ones behind it.
 use native.Mathlib.Omega.{arith}
-use Rattle.block_sheet.specs.Sheet.{lineCount}
-use Rattle.block_sheet.specs.SheetLaws.{cell-length}
+use Rattle.block_sheet.specs.definitions.Sheet.{lineCount}
+use Rattle.block_sheet.specs.argument.SheetLaws.{cell-length}
 use Rattle.sheet_lines.specs.LinesLaws.{further-room, block-written}
 use borrow.Author.Needs.{needs}
 use Rattle.sheet_lines.proofs.block.Statement.{statement}

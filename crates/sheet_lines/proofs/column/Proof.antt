@@ -2,7 +2,7 @@
 use native.Mathlib.Omega.{arith}
 use mathlib.Core.Path.{refl}
 use Rattle.bisimulation.specs.argument.ChoiceLaws.{less, notLess}
-use Rattle.block_sheet.specs.Sheet.{column}
+use Rattle.block_sheet.specs.definitions.Sheet.{column}
 use borrow.Author.Needs.{needs}
 use Rattle.sheet_lines.proofs.column.Statement.{statement}
 use Rattle.sheet_lines.proofs.column.Tie as tie

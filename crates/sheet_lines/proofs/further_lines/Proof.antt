@@ -2,8 +2,8 @@
 use native.Mathlib.Omega.{arith}
 use mathlib.Core.List.{_++_}
 use Rattle.pairs.specs.Rows.{rowBit}
-use Rattle.block_sheet.specs.Sheet.{blank, lines}
-use Rattle.block_sheet.specs.SheetLaws.{blank-length}
+use Rattle.block_sheet.specs.definitions.Sheet.{blank, lines}
+use Rattle.block_sheet.specs.argument.SheetLaws.{blank-length}
 use Rattle.sheet_lines.specs.Lines.{membersFrom}
 use Rattle.sheet_lines.specs.LinesLaws.{Going, going-start, going-turn, going-end}
 use Rattle.sheet_lines.proofs.further_lines.Statement.{statement}

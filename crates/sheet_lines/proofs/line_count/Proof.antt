@@ -2,7 +2,7 @@
 use mathlib.Core.Path.{ap}
 use Prim.Native.Nat.{ℕ, _/_}
 use native.Mathlib.Omega.{arith}
-use Rattle.block_sheet.specs.Sheet.{lineCount}
+use Rattle.block_sheet.specs.definitions.Sheet.{lineCount}
 use borrow.Author.Needs.{needs}
 use Rattle.sheet_lines.proofs.line_count.Statement.{statement}
 use Rattle.sheet_lines.proofs.line_count.Tie as tie

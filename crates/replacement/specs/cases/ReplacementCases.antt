@@ -13,8 +13,8 @@ use Rattle.bisimulation.specs.definitions.Beside.{blockOf}
 use Rattle.rules.specs.definitions.Model.{Entry, Transition, Model, weightOf, automatonOf}
 use Rattle.rules.specs.definitions.Quotient.{quotient, blockCount, labelOfBlock, blockLabels, weightToBlock, blockEntries, mergedTransition, fromBlock, sameTransition, isAmong, distinct, byBlock}
 use Rattle.rules.specs.definitions.JudgedBy.{plainPairs}
-use Rattle.joined.specs.Joined.{raisedEntry, raisedTransition, joined}
-use Rattle.replacement.specs.Replacement.{LinkedBy, Replaces}
+use Rattle.joined.specs.definitions.Joined.{raisedEntry, raisedTransition, joined}
+use Rattle.replacement.specs.definitions.Replacement.{LinkedBy, Replaces}
 
 -- a transition to one state, with the weight w of d
 unfoldable pub step : (source action target w d : ℕ) → Transition

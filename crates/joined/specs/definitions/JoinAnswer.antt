@@ -13,7 +13,7 @@ use Rattle.rules.specs.definitions.SoundModel.{SoundModel, entryCount}
 use Rattle.rules.specs.definitions.Judging.{Reader}
 use Rattle.rules.specs.definitions.Accepted.{IsFile}
 use Rattle.rules.specs.definitions.Answers.{Outcome, refusalIn, answerWithoutPlace, unwritten, fileOutcome}
-use Rattle.joined.specs.Joined.{joined, joinedFile}
+use Rattle.joined.specs.definitions.Joined.{joined, joinedFile}
 
 -- 25, 'the joined model passes a limit', of states, transitions or entries; 26, 'buffer shorter than it, next'; else its file is written
 unfoldable pub joinedOutcome : Limits → Model → (buffer : List ℕ) → Outcome

@@ -25,8 +25,8 @@ use Rattle.rules.specs.argument.FetchedRun.{length-entriesAt}
 use Rattle.cost_files.specs.definitions.CostModel.{costModelBytes, CostFileOf, costsBytes}
 use Rattle.cost_files.specs.definitions.CostReading.{scanCostRecord, scanCostModel, readCosts}
 use Rattle.cost_files.specs.argument.CostReadingLaws.{cost-read-back}
-use Rattle.wider_limits.specs.Wider.{Within, OthersStay, entriesBefore, PassedAt, Meets, Larger, ThreeOrEight}
-use Rattle.wider_limits.specs.ReadingWider.{head-passes, labels-pass, transition-passes}
+use Rattle.wider_limits.specs.definitions.Wider.{Within, OthersStay, entriesBefore, PassedAt, Meets, Larger, ThreeOrEight}
+use Rattle.wider_limits.specs.argument.ReadingWider.{head-passes, labels-pass, transition-passes}
 
 abbrev entriesIn : List Transition → ℕ
 entriesIn ts = sumOver (λ (t : Transition). length (t .entries)) ts

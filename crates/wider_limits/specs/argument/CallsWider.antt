@@ -18,12 +18,12 @@ use Rattle.rules.specs.argument.PlainRules.{ModelNumber, refusal-told, plainCer
 use Rattle.rules.specs.argument.PairOutcome.{FollowsLaws, outcome-found}
 use Rattle.cost_files.specs.argument.CostCertificates.{costCertificates}
 use Rattle.cost_files.specs.argument.CostReadingLaws.{costFiles}
-use Rattle.joined.specs.Joined.{joined}
-use Rattle.joined.specs.JoinAnswer.{joinedOutcome, readingsOutcome, joinOutcome}
-use Rattle.joined.specs.AlikeAnswer.{Named, alikeRead, alikeSays}
-use Rattle.wider_limits.specs.Wider.{Within, Widens}
-use Rattle.wider_limits.specs.ReadingWider.{read-wider}
-use Rattle.wider_limits.specs.JudgingWider.{read-same, judged-same}
+use Rattle.joined.specs.definitions.Joined.{joined}
+use Rattle.joined.specs.definitions.JoinAnswer.{joinedOutcome, readingsOutcome, joinOutcome}
+use Rattle.joined.specs.definitions.AlikeAnswer.{Named, alikeRead, alikeSays}
+use Rattle.wider_limits.specs.definitions.Wider.{Within, Widens}
+use Rattle.wider_limits.specs.argument.ReadingWider.{read-wider}
+use Rattle.wider_limits.specs.argument.JudgingWider.{read-same, judged-same}
 
 -- an accepted pair: whatever follows acceptance, the call answers the same and leaves the same in the lent buffer
 module _ (older newer : JudgedBy) (wider : Widens older newer) (M C blocks : List ℕ) (a : AcceptedBy older M C blocks) where

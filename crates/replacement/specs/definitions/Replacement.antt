@@ -13,8 +13,8 @@ use Rattle.rules.specs.definitions.JudgedBy.{JudgedBy, plainPairs}
 use Rattle.rules.specs.definitions.Answers.{writesMerged, ReduceNumber}
 use Rattle.rules.specs.definitions.Demand3.{InOneBlock, HoldsModel}
 use Rattle.rules.specs.definitions.Demands.{AcceptedBy, KeepsRulesOn, outcomeBy, Demands}
-use Rattle.joined.specs.Joined.{joined, joinedFile}
-use Rattle.joined.specs.AlikeAnswer.{Named, alikeSays}
+use Rattle.joined.specs.definitions.Joined.{joined, joinedFile}
+use Rattle.joined.specs.definitions.AlikeAnswer.{Named, alikeSays}
 use Rattle.bisimulation.specs.definitions.Beside.{Linked}
 
 -- 'Call two states linked when they belong to, or stand for, the same block': those of M belong to blocks, those of N, which follow them, stand

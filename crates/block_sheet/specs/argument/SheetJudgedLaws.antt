@@ -34,9 +34,9 @@ use Rattle.rules.specs.argument.PairOutcome.{FollowsLaws}
 use Rattle.rules.specs.argument.JudgedFirst.{Roomy, Found, found-outcome, judged-refused, refused-answer, judged-found}
 use Rattle.rules.specs.argument.DemandsHold.{file-follow, late-numbered}
 use Rattle.rules.specs.argument.PlainRules.{plainRules}
-use Rattle.block_sheet.specs.Sheet.{members, sizeColumn, sheet}
-use Rattle.block_sheet.specs.SheetLaws.{SharedAsRelated, size-members, some-member, sheet-same}
-use Rattle.block_sheet.specs.SheetAnswer.{relatedAfter, stillRelated, sheetFile, writesSheet, SheetNumber}
+use Rattle.block_sheet.specs.definitions.Sheet.{members, sizeColumn, sheet}
+use Rattle.block_sheet.specs.argument.SheetLaws.{SharedAsRelated, size-members, some-member, sheet-same}
+use Rattle.block_sheet.specs.definitions.SheetAnswer.{relatedAfter, stillRelated, sheetFile, writesSheet, SheetNumber}
 
 -- judging accepts the blocks of the record that it read, and they are good for the pairs left
 module _ (L : Limits) (rule : FileRule) (A : Automaton) (C named : List ℕ) where

@@ -6,7 +6,7 @@ use Rattle.bisimulation.specs.definitions.Choice.{ifLess}
 use Rattle.rules.specs.definitions.Bytes.{twoBytes}
 use Rattle.rules.specs.definitions.Model.{Model, headBytes, labelsBytes, entriesBytes, transitionBytes, transitionsBytes, modelBytes}
 use Rattle.bisimulation.specs.definitions.Joined.{larger}
-use Rattle.joined.specs.Joined.{raisedEntry, raisedTransition, joined, joinedFile}
+use Rattle.joined.specs.definitions.Joined.{raisedEntry, raisedTransition, joined, joinedFile}
 
 -- two states with labels 5 and 6; an internal step from 1 to 0 with 2/2
 unfoldable pub firstModel : Model

@@ -19,9 +19,9 @@ use Rattle.rules.specs.definitions.Accepted.{FileOf}
 use Rattle.rules.specs.definitions.Answers.{Outcome, refusalIn, answerWithoutPlace, unwritten, filled, fileOutcome}
 use Rattle.rules.specs.argument.AnswerLaws.{NoState, file-whole, file-number, file-zero, file-unwritten, file-fits}
 use Rattle.rules.specs.argument.PlainRules.{refusal-told, wholeFiles}
-use Rattle.joined.specs.Joined.{joined, joinedFile}
-use Rattle.joined.specs.JoinAnswer.{joinedOutcome, readingsOutcome, joinOutcome, JoinNumber, JoinDemands}
-use Rattle.joined.specs.JoinedLaws.{Within, joined-sound, sound-within, joined-reads}
+use Rattle.joined.specs.definitions.Joined.{joined, joinedFile}
+use Rattle.joined.specs.definitions.JoinAnswer.{joinedOutcome, readingsOutcome, joinOutcome, JoinNumber, JoinDemands}
+use Rattle.joined.specs.argument.JoinedLaws.{Within, joined-sound, sound-within, joined-reads}
 
 -- 25, or the file
 module _ (L : Limits) (J : Model) (buffer : List ℕ) where

@@ -17,7 +17,7 @@ use Rattle.rules.specs.definitions.Certificate.{sameBlock}
 use Rattle.rules.specs.definitions.Quotient.{blockCount}
 use Rattle.rules.specs.argument.LargestBlocks.{Numbered}
 use Rattle.rules.specs.argument.QuotientLaws.{each-block}
-use Rattle.block_sheet.specs.Sheet.{column, cell, blank, firstCell, cells, line, lines, lineCount, ascending, members, sizeColumn, blockLines, sheetFrom, sheet}
+use Rattle.block_sheet.specs.definitions.Sheet.{column, cell, blank, firstCell, cells, line, lines, lineCount, ascending, members, sizeColumn, blockLines, sheetFrom, sheet}
 
 -- how long each part is
 pub cell-length : (x : ℕ) → length (cell x) ≡ 4

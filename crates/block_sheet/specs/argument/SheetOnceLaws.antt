@@ -15,8 +15,8 @@ use Rattle.bisimulation.specs.definitions.Pairs.{Pairs}
 use Rattle.rules.specs.definitions.SoundModel.{Each}
 use Rattle.rules.specs.definitions.Quotient.{blockCount}
 use Rattle.rules.specs.argument.QuotientLaws.{block-below}
-use Rattle.block_sheet.specs.Sheet.{column, cell, blank, firstCell, cells, line, lines, lineCount, ascending, members, sizeColumn, blockLines, sheetFrom, sheet}
-use Rattle.block_sheet.specs.SheetLaws.{cell-length, blank-length, front-length, blank-front, line-length, block-length, sheet-length, counts-one, counts-not, timesIn, times-append, times-not, times-once}
+use Rattle.block_sheet.specs.definitions.Sheet.{column, cell, blank, firstCell, cells, line, lines, lineCount, ascending, members, sizeColumn, blockLines, sheetFrom, sheet}
+use Rattle.block_sheet.specs.argument.SheetLaws.{cell-length, blank-length, front-length, blank-front, line-length, block-length, sheet-length, counts-one, counts-not, timesIn, times-append, times-not, times-once}
 
 -- the states on the sheet, in the order of its cells: those of the blocks left from b on
 unfoldable pub statesFrom : List ℕ → (left b : ℕ) → List ℕ

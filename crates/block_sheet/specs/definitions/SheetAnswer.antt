@@ -6,7 +6,7 @@ use Rattle.bisimulation.specs.definitions.Pairs.{Pairs, equalLabels}
 use Rattle.rules.specs.definitions.Model.{Model, automatonOf}
 use Rattle.rules.specs.definitions.Certificate.{FileRule, refutationCount, pairsAfter, afterRefutation}
 use Rattle.rules.specs.definitions.Answers.{Follows, writesFile, LateNumber}
-use Rattle.block_sheet.specs.Sheet.{sheet}
+use Rattle.block_sheet.specs.definitions.Sheet.{sheet}
 
 -- the pairs left by the refutations left from a place on, as judging goes through them
 unfoldable pub relatedAfter : FileRule → Automaton → List ℕ → (left : ℕ) → Pairs → (at : ℕ) → Pairs

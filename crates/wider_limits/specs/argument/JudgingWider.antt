@@ -16,8 +16,8 @@ use Rattle.rules.specs.definitions.Judging.{accepted, rejectAt, Question, quest
 use Rattle.rules.specs.definitions.JudgedBy.{JudgedBy}
 use Rattle.rules.specs.definitions.Demands.{AcceptedBy}
 use Rattle.rules.specs.argument.CertificateKept.{no-reject}
-use Rattle.wider_limits.specs.Wider.{Within, ReadsOn, Widens, plainPairsAt, costPairsAt}
-use Rattle.wider_limits.specs.ReadingWider.{whole-reads-on, costs-read-on}
+use Rattle.wider_limits.specs.definitions.Wider.{Within, ReadsOn, Widens, plainPairsAt, costPairsAt}
+use Rattle.wider_limits.specs.argument.ReadingWider.{whole-reads-on, costs-read-on}
 
 -- behind the head no limit counts
 module _ (L W : Limits) (rule : FileRule) (A : Automaton) (C : List ℕ) where

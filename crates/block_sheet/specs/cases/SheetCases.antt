@@ -16,8 +16,8 @@ use Rattle.rules.specs.definitions.SoundModel.{Each}
 use Rattle.rules.specs.definitions.Answers.{Outcome, answerWithoutPlace, unwritten, filled, fileOutcome}
 use Rattle.rules.specs.cases.Cases.{modelS, certificateS}
 use Rattle.rules.specs.cases.MoreCases.{outcomeOf}
-use Rattle.block_sheet.specs.Sheet.{column, cell, blank, firstCell, cells, line, lines, lineCount, ascending, members, sizeColumn, blockLines, sheetFrom, sheet}
-use Rattle.block_sheet.specs.SheetAnswer.{relatedAfter, stillRelated, sheetFile, writesSheet}
+use Rattle.block_sheet.specs.definitions.Sheet.{column, cell, blank, firstCell, cells, line, lines, lineCount, ascending, members, sizeColumn, blockLines, sheetFrom, sheet}
+use Rattle.block_sheet.specs.definitions.SheetAnswer.{relatedAfter, stillRelated, sheetFile, writesSheet}
 
 -- so many spaces
 abbrev spaces : ℕ → List ℕ

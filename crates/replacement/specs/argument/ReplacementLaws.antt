@@ -30,14 +30,14 @@ use Rattle.rules.specs.argument.Demand3Holds.{AcceptedFacts, facts-of, one-mode
 use Rattle.rules.specs.argument.DemandsHold.{accepted-of, kept-of, holds-of, merged-follow}
 use Rattle.rules.specs.argument.PlainRules.{wholeRules, plainCertificates, plainRules}
 use Rattle.rules.specs.argument.QuotientHolds.{merges}
-use Rattle.joined.specs.Joined.{joined, joinedFile}
-use Rattle.joined.specs.JoinedLaws.{joined-automaton, joined-states}
-use Rattle.joined.specs.AlikeAnswer.{alikeSays, SaysAlike, testsParts}
-use Rattle.joined.specs.AlikeAnswerLaws.{says-alike}
+use Rattle.joined.specs.definitions.Joined.{joined, joinedFile}
+use Rattle.joined.specs.argument.JoinedLaws.{joined-automaton, joined-states}
+use Rattle.joined.specs.definitions.AlikeAnswer.{alikeSays, SaysAlike, testsParts}
+use Rattle.joined.specs.argument.AlikeAnswerLaws.{says-alike}
 use Rattle.bisimulation.specs.definitions.Joined.{IsJoined}
 use Rattle.bisimulation.specs.definitions.Beside.{IsMerged, SharesBlocks}
 use Rattle.bisimulation.specs.argument.BesideLaws.{linkedBisimulation, standInBisimilar}
-use Rattle.replacement.specs.Replacement.{LinkedBy, standIn, withStandIn, Replaces, MergedReplaces, HoldsReplacement, ReduceDemands}
+use Rattle.replacement.specs.definitions.Replacement.{LinkedBy, standIn, withStandIn, Replaces, MergedReplaces, HoldsReplacement, ReduceDemands}
 
 module _ (L : Limits) (widths : FitsWidths L) (few : L .refutations < 65536) where
   abbrev by : PairRules

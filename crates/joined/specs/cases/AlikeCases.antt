@@ -16,7 +16,7 @@ use Rattle.rules.specs.definitions.JudgedBy.{plainPairs}
 use Rattle.rules.specs.definitions.Answers.{Outcome, refusalIn, answerWithoutPlace, fileOf, judgementAnswer, unwritten, judgedOutcome, readOutcome, pairOutcome}
 use Rattle.rules.specs.definitions.Demands.{outcomeBy}
 use Rattle.rules.specs.cases.MoreCases.{outcomeOf, blocksOnly}
-use Rattle.joined.specs.AlikeAnswer.{Named, partsNumber, testsParts, alikeJudged, alikeRead, alikeSays}
+use Rattle.joined.specs.definitions.AlikeAnswer.{Named, partsNumber, testsParts, alikeJudged, alikeRead, alikeSays}
 
 -- the first's count and the two states, and the number for a model of 4 states
 pub record PartsCase : Type 0 where

@@ -13,9 +13,9 @@ use Rattle.rules.specs.definitions.SoundModel.{Each, sumOver}
 use Rattle.rules.specs.definitions.Answers.{Outcome, refusalIn, answerWithoutPlace, unwritten, filled, fileOutcome}
 use Rattle.rules.specs.cases.MoreCases.{outcomeOf}
 use Rattle.bisimulation.specs.definitions.Joined.{larger}
-use Rattle.joined.specs.Joined.{raisedEntry, raisedTransition, joined, joinedFile}
-use Rattle.joined.specs.JoinAnswer.{joinedOutcome, readingsOutcome, joinOutcome}
-use Rattle.joined.specs.JoinedCases.{firstModel, secondModel}
+use Rattle.joined.specs.definitions.Joined.{raisedEntry, raisedTransition, joined, joinedFile}
+use Rattle.joined.specs.definitions.JoinAnswer.{joinedOutcome, readingsOutcome, joinOutcome}
+use Rattle.joined.specs.cases.JoinedCases.{firstModel, secondModel}
 
 -- limits, two files, the lent buffer before, and what joining answers and leaves in the buffer
 pub record JoinCase : Type 0 where

@@ -15,7 +15,7 @@ use Rattle.rules.specs.definitions.SoundModel.{Each, Along, sumOver, Transition
 use Rattle.rules.specs.argument.SoundModelLaws.{each-at, each-append, each-map}
 use Rattle.rules.specs.argument.ReadBack.{transitionBytes-length, read-back-whole}
 use Rattle.bisimulation.specs.definitions.Joined.{larger, IsJoined}
-use Rattle.joined.specs.Joined.{raisedEntry, raisedTransition, joined, joinedFile}
+use Rattle.joined.specs.definitions.Joined.{raisedEntry, raisedTransition, joined, joinedFile}
 
 -- the larger of two is at least each, and one of them
 larger-first : (a b : ℕ) → a ≤ larger a b

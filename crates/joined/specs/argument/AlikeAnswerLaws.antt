@@ -31,10 +31,10 @@ use Rattle.rules.specs.argument.AcceptedExactly.{accepted-exactly}
 use Rattle.rules.specs.argument.Demand3Holds.{one-model, holds-read, facts-of, largest-block-pairs}
 use Rattle.rules.specs.argument.DemandsHold.{plain-refusal, late-numbered}
 use Rattle.rules.specs.argument.PlainRules.{plainRules}
-use Rattle.joined.specs.Joined.{joined, joinedFile}
-use Rattle.joined.specs.JoinAnswer.{JoinDemands}
-use Rattle.joined.specs.JoinedLaws.{joined-states}
-use Rattle.joined.specs.AlikeAnswer.{Named, InParts, partsNumber, testsParts, alikeJudged, alikeRead, alikeSays, AlikeNumber, SaysAlike}
+use Rattle.joined.specs.definitions.Joined.{joined, joinedFile}
+use Rattle.joined.specs.definitions.JoinAnswer.{JoinDemands}
+use Rattle.joined.specs.argument.JoinedLaws.{joined-states}
+use Rattle.joined.specs.definitions.AlikeAnswer.{Named, InParts, partsNumber, testsParts, alikeJudged, alikeRead, alikeSays, AlikeNumber, SaysAlike}
 
 -- 27 or 0
 pub parts-number : (n : ℕ) (x : Named) → (partsNumber n x ≡ 0) ⊎ (partsNumber n x ≡ 27)

@@ -13,7 +13,7 @@ use Rattle.rules.specs.argument.ReadingLaws.{PassedTransition, transition-passe
 use Rattle.rules.specs.argument.ReadSound.{refuse-past, read-scan, none-left}
 use Rattle.cost_files.specs.definitions.CostReading.{scanCostRecord, scanCostModel, readCosts}
 use Rattle.cost_files.specs.argument.CostReadingLaws.{cost-scan}
-use Rattle.wider_limits.specs.Wider.{Within, ReadsOn}
+use Rattle.wider_limits.specs.definitions.Wider.{Within, ReadsOn}
 
 -- a head that passes elsewhere passes here, where its numbers are within the limits
 pub head-passes : (L W : Limits) (s : List ℕ) → PassedHead W s → statesOf s ≤ L .states → actionsOf s ≤ L .actions → countOf s ≤ L .transitions → Passes (headFault L s)

@@ -20,21 +20,21 @@ use Rattle.rules.specs.definitions.Demands.{AcceptedBy, outcomeBy, Accepting}
 use Rattle.rules.specs.argument.PlainRules.{plainRules}
 use Rattle.rules.specs.argument.PairOutcome.{FollowsLaws}
 use Rattle.rules.specs.argument.DemandsHold.{blocks-follow, merged-follow}
-use Rattle.block_sheet.specs.SheetAnswer.{writesSheet}
-use Rattle.block_sheet.specs.SheetJudgedLaws.{sheet-follow}
-use Rattle.joined.specs.JoinAnswer.{joinOutcome}
-use Rattle.joined.specs.AlikeAnswer.{Named, testsParts, alikeSays}
-use Rattle.joined.specs.AlikeAnswerLaws.{parts-follow}
+use Rattle.block_sheet.specs.definitions.SheetAnswer.{writesSheet}
+use Rattle.block_sheet.specs.argument.SheetJudgedLaws.{sheet-follow}
+use Rattle.joined.specs.definitions.JoinAnswer.{joinOutcome}
+use Rattle.joined.specs.definitions.AlikeAnswer.{Named, testsParts, alikeSays}
+use Rattle.joined.specs.argument.AlikeAnswerLaws.{parts-follow}
 use Rattle.cost_files.specs.definitions.CostModel.{CostFileOf, costsIn}
 use Rattle.cost_files.specs.definitions.CostReading.{readCosts}
 use Rattle.cost_files.specs.definitions.CostFile.{costFile}
 use Rattle.cost_files.specs.definitions.CostPairs.{costPairs, AcceptedWithCosts}
 use Rattle.cost_files.specs.definitions.CostAnswer.{costOutcome}
-use Rattle.wider_limits.specs.Wider.{within-older, others-stay, Widens, plainPairsAt, costPairsAt, Meets, Larger, ThreeOrEight}
-use Rattle.wider_limits.specs.ReadingWider.{read-wider, cost-read-wider}
-use Rattle.wider_limits.specs.JudgingWider.{accepted-wider, plain-widens, cost-widens}
-use Rattle.wider_limits.specs.CallsWider.{outcome-wider, alike-wider, told-accepted, outcome-stays, plainRulesAt, costRulesAt, follow-at, fetch-wider, join-wider}
-use Rattle.wider_limits.specs.MeetsLaws.{whole-meets, cost-meets, three-or-eight, reads-exactly, call-refuses}
+use Rattle.wider_limits.specs.definitions.Wider.{within-older, others-stay, Widens, plainPairsAt, costPairsAt, Meets, Larger, ThreeOrEight}
+use Rattle.wider_limits.specs.argument.ReadingWider.{read-wider, cost-read-wider}
+use Rattle.wider_limits.specs.argument.JudgingWider.{accepted-wider, plain-widens, cost-widens}
+use Rattle.wider_limits.specs.argument.CallsWider.{outcome-wider, alike-wider, told-accepted, outcome-stays, plainRulesAt, costRulesAt, follow-at, fetch-wider, join-wider}
+use Rattle.wider_limits.specs.argument.MeetsLaws.{whole-meets, cost-meets, three-or-eight, reads-exactly, call-refuses}
 
 -- what an older part judges pairs and cost pairs by
 abbrev pub olderPairs : JudgedBy

@@ -1,0 +1,4 @@
+-- Computed cases.
+pub mod JoinedCases
+pub mod JoinCases
+pub mod AlikeCases

@@ -1,0 +1,2 @@
+-- What a buyer reads and believes.
+pub mod Replacement

@@ -1,7 +1,8 @@
 -- What the calls that judge do with an accepted certificate.
 use Prim.Native.Nat.{ℕ}
 use Rattle.rules.specs.definitions.Limits.{limits}
-use Rattle.rules.specs.definitions.Answers.{Follows, writesBlocks, writesMerged}
+use Rattle.rules.specs.definitions.Answers.{Follows, writesBlocks}
+use Rattle.quotient.specs.definitions.ReduceAnswer.{writesMerged}
 use Rattle.rule_kind.specs.declared.Kind.{Kind}
 use Rattle.rule_kind.specs.declared.Kind.the-variants.{Plain, Costs}
 use Rattle.acceptance.specs.declared.Task.{Task}

@@ -8,7 +8,7 @@ use native.Mathlib.Omega.{arith}
 use Rattle.bisimulation.specs.argument.ChoiceLaws.{eitherLess}
 use Rattle.rules.specs.definitions.Model.{Model}
 use Rattle.rules.specs.definitions.Reading.{modelAt}
-use Rattle.rules.specs.definitions.Quotient.{mergedFile}
+use Rattle.quotient.specs.definitions.Quotient.{mergedFile}
 use Rattle.rules.specs.definitions.Answers.{Outcome, answerWithoutPlace, unwritten, filled, fileOutcome, Follows, writesBlocks}
 use Rattle.rules.specs.argument.AnswerLaws.{file-short, file-whole}
 use Rattle.merged_model.specs.File.{CanWriteFile, FileWritten}

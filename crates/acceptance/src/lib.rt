@@ -4,7 +4,7 @@ ghost use mathlib.Core.Path.{_≡_};
 ghost use lib.ListN.{length};
 ghost use Rattle.rules.specs.definitions.Reading.{modelAt};
 ghost use Rattle.rules.specs.definitions.Answers.{filled, fileOutcome};
-ghost use Rattle.rules.specs.definitions.Quotient.{mergedFile};
+ghost use Rattle.quotient.specs.definitions.Quotient.{mergedFile};
 ghost use Rattle.merged_model.specs.File.{CanWriteFile};
 ghost use Rattle.answer.specs.Answered.{Gives};
 ghost use Rattle.acceptance.specs.Tasks.{kindOf, followsOf};

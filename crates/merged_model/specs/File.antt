@@ -7,8 +7,9 @@ use Rattle.rules.specs.definitions.Limits.{limits}
 use Rattle.rules.specs.definitions.Model.{Model}
 use Rattle.rules.specs.definitions.Reading.{statesOf, modelAt}
 use Rattle.rules.specs.definitions.SoundModel.{SoundModel}
-use Rattle.rules.specs.definitions.Quotient.{blockCount, byBlock, mergedFile}
-use Rattle.rules.specs.argument.QuotientLaws.{NumberedBlocks}
+use Rattle.rules.specs.definitions.BlockCount.{blockCount}
+use Rattle.quotient.specs.definitions.Quotient.{byBlock, mergedFile}
+use Rattle.rules.specs.argument.NumberedBlocks.{NumberedBlocks}
 use Rattle.rules.specs.definitions.Answers.{fileOutcome}
 use Rattle.transition.specs.Known.{Known}
 use Rattle.merged_transitions.specs.declared.Kept.{Kept}

@@ -13,8 +13,10 @@ use Rattle.rules.specs.definitions.Bytes.{twoBytes}
 use Rattle.rules.specs.definitions.Model.{Transition, Model, headBytes, labelsBytes, transitionsBytes, modelBytes}
 use Rattle.rules.specs.definitions.Reading.{statesOf, actionsOf, modelAt}
 use Rattle.rules.specs.definitions.SoundModel.{SoundModel}
-use Rattle.rules.specs.definitions.Quotient.{blockCount, blockLabels, byBlock, quotient, mergedFile}
-use Rattle.rules.specs.argument.QuotientLaws.{NumberedBlocks, quotient-sound, merged-states, merged-below}
+use Rattle.rules.specs.definitions.BlockCount.{blockCount}
+use Rattle.quotient.specs.definitions.Quotient.{blockLabels, byBlock, quotient, mergedFile}
+use Rattle.rules.specs.argument.NumberedBlocks.{NumberedBlocks}
+use Rattle.quotient.specs.argument.QuotientLaws.{quotient-sound, merged-states, merged-below}
 use Rattle.rules.specs.definitions.Answers.{Outcome, unwritten, filled, fileOutcome}
 use Rattle.limits.specs.Sizes as sizes
 use Rattle.model_head.specs.declared.Head.{Head}

@@ -8,7 +8,8 @@ use native.Mathlib.Omega.{arith}
 use Rattle.bisimulation.specs.definitions.Choice.{ifLess, ifSame}
 use Rattle.writer.specs.Appends.{Appends}
 use Rattle.writer.specs.AppendsLaws.{append-more}
-use Rattle.rules.specs.definitions.Quotient.{blockCount, labelOfBlock, blockLabels}
+use Rattle.rules.specs.definitions.BlockCount.{blockCount}
+use Rattle.quotient.specs.definitions.Quotient.{labelOfBlock, blockLabels}
 
 -- the count of the blocks from a place on, from the one behind it
 pub count-turn : (blocks : List ℕ) (i : ℕ) → i < length blocks → blockCount (drop i blocks) ≡ ifLess (getD blocks i 0) (blockCount (drop (i + 1) blocks)) (blockCount (drop (i + 1) blocks)) (getD blocks i 0 + 1)

@@ -6,7 +6,8 @@ use lib.ListN.{length, getD}
 use Rattle.rules.specs.definitions.Limits.{limits}
 use Rattle.rules.specs.definitions.Model.{transitionBytes}
 use Rattle.rules.specs.definitions.Reading.{statesOf, entryCountAt, transitionAt, placeOf}
-use Rattle.rules.specs.definitions.Quotient.{blockCount, mergedTransition}
+use Rattle.rules.specs.definitions.BlockCount.{blockCount}
+use Rattle.quotient.specs.definitions.Quotient.{mergedTransition}
 use Rattle.transition.specs.Known.{KnownTransition}
 use Rattle.writer.specs.Appends.{Appends}
 

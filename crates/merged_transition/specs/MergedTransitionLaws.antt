@@ -12,7 +12,8 @@ use Rattle.rules.specs.definitions.Limits.{limits}
 use Rattle.rules.specs.definitions.Model.{entriesBytes, transitionBytes}
 use Rattle.rules.specs.argument.ReadBack.{entriesBytes-length}
 use Rattle.rules.specs.definitions.Reading.{statesOf, countOf, entryCountAt, transitionAt, placeOf}
-use Rattle.rules.specs.definitions.Quotient.{weightToBlock, blockEntries, mergedTransition, blockCount}
+use Rattle.quotient.specs.definitions.Quotient.{weightToBlock, blockEntries, mergedTransition}
+use Rattle.rules.specs.definitions.BlockCount.{blockCount}
 use Rattle.rules.specs.argument.ModelAutomaton.{automaton-source, automaton-action, automaton-denominator}
 use Rattle.transition_record.specs.declared.Fields.{Fields}
 use Rattle.transition.specs.Known.{FieldsOf, entriesOf}

@@ -7,7 +7,7 @@ use Rattle.bisimulation.specs.definitions.Choice.{ifSame}
 use Rattle.rules.specs.definitions.Limits.{limits}
 use Rattle.rules.specs.definitions.Model.{Entry, entriesBytes}
 use Rattle.rules.specs.definitions.Reading.{statesOf}
-use Rattle.rules.specs.definitions.Quotient.{weightToBlock}
+use Rattle.quotient.specs.definitions.Quotient.{weightToBlock}
 use Rattle.transition.specs.Known.{KnownTransition}
 use Rattle.writer.specs.Appends.{Appends}
 use Rattle.merged_transition.specs.MergedTransition.{NoWeights}

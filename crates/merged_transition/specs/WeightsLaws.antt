@@ -13,7 +13,7 @@ use Rattle.rules.specs.definitions.Limits.{limits}
 use Rattle.rules.specs.definitions.Model.{Entry, entriesBytes}
 use Rattle.rules.specs.definitions.Reading.{entryCountAt, entriesAt, placeOf}
 use Rattle.rules.specs.argument.ReadBack.{entriesBytes-length}
-use Rattle.rules.specs.definitions.Quotient.{weightToBlock, blockEntries}
+use Rattle.quotient.specs.definitions.Quotient.{weightToBlock, blockEntries}
 use Rattle.rules.specs.definitions.SoundModel.{Each, sumOver}
 use Rattle.transition_record.specs.declared.Fields.{Fields}
 use Rattle.transition.specs.declared.Entry as read

@@ -9,9 +9,10 @@ use native.Mathlib.Omega.{arith}
 use Rattle.bisimulation.specs.definitions.Choice.{ifSame, ifTrue}
 use Rattle.bisimulation.specs.argument.ChoiceLaws.{false-not}
 use Rattle.rules.specs.definitions.Model.{Transition, noTransition}
-use Rattle.rules.specs.definitions.Quotient.{blockCount, mergedTransition, fromBlock, sameTransition, isAmong, distinct, byBlock}
+use Rattle.rules.specs.definitions.BlockCount.{blockCount}
+use Rattle.quotient.specs.definitions.Quotient.{mergedTransition, fromBlock, sameTransition, isAmong, distinct, byBlock}
 use Rattle.rules.specs.definitions.SoundModel.{Each}
-use Rattle.rules.specs.argument.SameTransitions.{Positive, same-tells, tells-same, same-through}
+use Rattle.quotient.specs.argument.SameTransitions.{Positive, same-tells, tells-same, same-through}
 
 -- one of two tests holds
 or : Bool → Bool → Bool

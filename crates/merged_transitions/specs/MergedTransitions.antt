@@ -5,7 +5,8 @@ use mathlib.Core.List.{List, [], _++_}
 use lib.ListN.{length, take}
 use Rattle.rules.specs.definitions.Model.{Transition, transitionsBytes}
 use Rattle.rules.specs.definitions.Reading.{modelAt}
-use Rattle.rules.specs.definitions.Quotient.{blockCount, fromBlock, distinct, byBlock}
+use Rattle.rules.specs.definitions.BlockCount.{blockCount}
+use Rattle.quotient.specs.definitions.Quotient.{fromBlock, distinct, byBlock}
 use Rattle.limits.specs.Sizes.{records}
 use Rattle.transition.specs.Known.{Known}
 use Rattle.merged_transition.specs.MergedTransition.{NoWeights, BlocksBelow}

@@ -16,9 +16,10 @@ use Rattle.rules.specs.argument.SoundModelLaws.{each-at, each-map}
 use Rattle.rules.specs.argument.ReadBack.{transitionBytes-length}
 use Rattle.rules.specs.argument.ModelAutomaton.{transition-is}
 use Rattle.rules.specs.argument.FetchedRun.{length-entriesAt}
-use Rattle.rules.specs.argument.KeyedSums.{each-all, sumOver-most, sumOver-length}
-use Rattle.rules.specs.definitions.Quotient.{blockCount, mergedTransition, fromBlock, isAmong, distinct, byBlock}
-use Rattle.rules.specs.argument.QuotientLaws.{merged-few, merged-rules, each-distinct, each-from, transitions-length}
+use Rattle.quotient.specs.argument.KeyedSums.{each-all, sumOver-most, sumOver-length}
+use Rattle.rules.specs.definitions.BlockCount.{blockCount}
+use Rattle.quotient.specs.definitions.Quotient.{mergedTransition, fromBlock, isAmong, distinct, byBlock}
+use Rattle.quotient.specs.argument.QuotientLaws.{merged-few, merged-rules, each-distinct, each-from, transitions-length}
 use Rattle.limits.specs.Sizes.{records}
 use Rattle.transition_record.specs.declared.Fields.{Fields}
 use Rattle.transition.specs.Known.{Known, KnownTransition, FieldsOf}

@@ -11,9 +11,10 @@ use Rattle.bisimulation.specs.definitions.Sum.{sum}
 use Rattle.bisimulation.specs.argument.SumLaws.{sumMono}
 use Rattle.rules.specs.definitions.Model.{Transition, transitionBytes, noTransition}
 use Rattle.rules.specs.definitions.SoundModel.{Each, sumOver}
-use Rattle.rules.specs.definitions.Quotient.{blockCount, mergedTransition, fromBlock, distinct, byBlock}
-use Rattle.rules.specs.argument.KeyedSums.{sum-next, sumOver-append, sumOver-most, sumAt, sumAt-all}
-use Rattle.rules.specs.argument.QuotientLaws.{sum-distinct, sum-from, sum-by-block}
+use Rattle.rules.specs.definitions.BlockCount.{blockCount}
+use Rattle.quotient.specs.definitions.Quotient.{mergedTransition, fromBlock, distinct, byBlock}
+use Rattle.quotient.specs.argument.KeyedSums.{sum-next, sumOver-append, sumOver-most, sumAt, sumAt-all}
+use Rattle.quotient.specs.argument.QuotientLaws.{sum-distinct, sum-from, sum-by-block}
 use Rattle.merged_transitions.specs.MergedTransitions.{before, here}
 
 -- sums over the first elements

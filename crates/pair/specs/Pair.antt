@@ -2,7 +2,8 @@
 use Prim.Native.Nat.{ℕ}
 use mathlib.Core.List.{List, [], _∷_}
 use Rattle.rules.specs.definitions.JudgedBy.{plainPairs}
-use Rattle.rules.specs.definitions.Answers.{Outcome, Follows, writesBlocks, writesMerged, JudgeNumber}
+use Rattle.rules.specs.definitions.Answers.{Outcome, Follows, writesBlocks, JudgeNumber}
+use Rattle.quotient.specs.definitions.ReduceAnswer.{writesMerged}
 use Rattle.rules.specs.definitions.Demands.{outcomeBy, Demands}
 use Rattle.replacement.specs.definitions.Replacement.{ReduceDemands}
 use Rattle.cost_files.specs.definitions.CostAnswer.{costOutcome, CostDemands}

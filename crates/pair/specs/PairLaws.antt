@@ -11,14 +11,16 @@ use Rattle.rules.specs.definitions.Reading.{headFault, modelAt}
 use Rattle.rules.specs.definitions.JudgedBy.{plainPairs}
 use Rattle.rules.specs.definitions.SoundModel.{Bytes}
 use Rattle.rules.specs.definitions.Answers as rules
-use Rattle.rules.specs.definitions.Answers.{Outcome, Follows, refusalIn, writesBlocks, writesMerged, JudgeNumber, ReduceNumber}
+use Rattle.rules.specs.definitions.Answers.{Outcome, Follows, refusalIn, writesBlocks, JudgeNumber}
+use Rattle.quotient.specs.definitions.ReduceAnswer.{writesMerged, ReduceNumber}
 use Rattle.rules.specs.definitions.Demands.{AcceptedBy, outcomeBy, Demands}
 use Rattle.rules.specs.argument.PlainRules.{plainRules}
 use Rattle.rules.specs.argument.PairOutcome.{FollowsLaws, outcome-followed}
 use Rattle.rules.specs.argument.Demand3Holds.{holds-read}
-use Rattle.rules.specs.argument.DemandsHold.{demands-hold, blocks-follow, merged-follow, judge-numbered, reduce-numbered}
-use Rattle.rules.specs.argument.QuotientLaws.{NumberedBlocks}
-use Rattle.rules.specs.argument.QuotientHolds.{accepted-numbered}
+use Rattle.rules.specs.argument.DemandsHold.{demands-hold, blocks-follow, judge-numbered}
+use Rattle.quotient.specs.argument.ReduceAnswerLaws.{merged-follow, reduce-numbered}
+use Rattle.rules.specs.argument.NumberedBlocks.{NumberedBlocks}
+use Rattle.rules.specs.argument.NumberedBlocks.{accepted-numbered}
 use Rattle.replacement.specs.argument.ReplacementLaws.{reduce-demands}
 use Rattle.cost_files.specs.definitions.CostModel.{costsIn}
 use Rattle.cost_files.specs.argument.CostRules.{costRules}

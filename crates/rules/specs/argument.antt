@@ -21,14 +21,8 @@ pub mod BreakOrder
 pub mod PlainDecides
 pub mod LargestBlocks
 pub mod Demand3Holds
+pub mod NumberedBlocks
 pub mod PlainRules
-pub mod KeyedSums
-pub mod Lists
-pub mod SameTransitions
-pub mod QuotientLaws
-pub mod KeptTransitions
-pub mod MergedSpelling
-pub mod QuotientHolds
 pub mod AnswerLaws
 pub mod ModelAutomaton
 pub mod EntryPrices

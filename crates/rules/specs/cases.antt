@@ -1,4 +1,3 @@
 -- Computed cases.
 pub mod Cases
 pub mod MoreCases
-pub mod MergedCases

@@ -8,12 +8,11 @@ pub mod Reading
 pub mod Certificate
 pub mod PlainRule
 pub mod Judging
+pub mod BlockCount
 pub mod Encoding
 pub mod Accepted
 pub mod PlainSays
-pub mod Quotient
 pub mod Answers
 pub mod Demand3
-pub mod Merged
 pub mod JudgedBy
 pub mod Demands

@@ -10,7 +10,7 @@ use Rattle.rules.specs.definitions.Bytes.{byteAt, twoAt}
 use Rattle.rules.specs.definitions.Model.{Transition, transitionBytes, transitionsBytes}
 use Rattle.rules.specs.definitions.Reading.{actionAt, denominatorAt, entryCountAt, afterTransition}
 use Rattle.rules.specs.definitions.SoundModel.{Each, TransitionRules}
-use Rattle.rules.specs.definitions.Quotient.{isAmong}
+use Rattle.quotient.specs.definitions.Quotient.{isAmong}
 
 -- the records of `kept` stand from `start` to `at`, and that of `last` from there to `next`; all are transitions of k states and m actions
 pub record StandAs (s : List ℕ) (start at next k m : ℕ) (kept : List Transition) (last : Transition) : Type 0 where

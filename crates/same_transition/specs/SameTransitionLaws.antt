@@ -18,10 +18,10 @@ use Rattle.rules.specs.definitions.Model.{Entry, Transition, weightOf, entriesB
 use Rattle.rules.specs.definitions.Reading.{sourceAt, actionAt, denominatorAt, entryCountAt, afterTransition, entriesAt, transitionAt}
 use Rattle.rules.specs.definitions.SoundModel.{Each, sumOver, TransitionRules}
 use Rattle.rules.specs.argument.SoundModelLaws.{each-map, from-along}
-use Rattle.rules.specs.argument.Lists.{Paired, paired-length, paired-at, at-paired}
+use Rattle.quotient.specs.argument.Lists.{Paired, paired-length, paired-at, at-paired}
 use Rattle.rules.specs.argument.FetchedRun.{length-entriesAt}
-use Rattle.rules.specs.definitions.Quotient.{sameTransition, isAmong}
-use Rattle.rules.specs.argument.SameTransitions.{Same, same-tells, tells-same}
+use Rattle.quotient.specs.definitions.Quotient.{sameTransition, isAmong}
+use Rattle.quotient.specs.argument.SameTransitions.{Same, same-tells, tells-same}
 use Rattle.rules.specs.argument.ReadBack.{transitionBytes-length}
 use Rattle.transition_record.specs.declared.Fields.{Fields}
 use Rattle.transition_record.specs.Fields.{FieldsAt}

@@ -10,7 +10,7 @@ use Rattle.bisimulation.specs.argument.ChoiceLaws.{same, notSame}
 use Rattle.rules.specs.definitions.Model.{Entry, weightOf}
 use Rattle.rules.specs.definitions.SoundModel.{Each}
 use Rattle.rules.specs.argument.SoundModelLaws.{From, StatesFrom, no-weight}
-use Rattle.rules.specs.argument.Lists.{Paired}
+use Rattle.quotient.specs.argument.Lists.{Paired}
 
 module _ (d e : ℕ) where
   -- one state, with weights that are one share of d and of e

@@ -6,7 +6,7 @@ use lib.ListN.{length, getD}
 use Rattle.bisimulation.specs.definitions.Sum.{sum}
 use Rattle.rules.specs.definitions.Limits.{limits}
 use Rattle.rules.specs.definitions.Certificate.{sameBlock}
-use Rattle.rules.specs.definitions.Quotient.{blockCount}
+use Rattle.rules.specs.definitions.BlockCount.{blockCount}
 use Rattle.rules.specs.argument.LargestBlocks.{Numbered}
 use Rattle.pairs.specs.Rows.{HoldsPairs}
 use Rattle.classes.specs.Classes.{sameLabels}

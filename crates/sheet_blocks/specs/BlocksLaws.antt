@@ -12,9 +12,9 @@ use Rattle.bisimulation.specs.argument.ChoiceLaws.{countBelowCong}
 use Rattle.bisimulation.specs.definitions.Sum.{sum}
 use Rattle.rules.specs.definitions.Limits.{limits}
 use Rattle.rules.specs.definitions.Certificate.{sameBlock}
-use Rattle.rules.specs.definitions.Quotient.{blockCount}
+use Rattle.rules.specs.definitions.BlockCount.{blockCount}
 use Rattle.rules.specs.argument.LargestBlocks.{Numbered}
-use Rattle.rules.specs.argument.QuotientLaws.{block-below, each-block, count-most}
+use Rattle.rules.specs.argument.NumberedBlocks.{block-below, each-block, count-most}
 use Rattle.pairs.specs.Rows.{rowBits, rowBit}
 use Rattle.pairs.specs.RowsLaws.{count-held}
 use Rattle.classes.specs.Classes.{sameLabels, SmallBytes}

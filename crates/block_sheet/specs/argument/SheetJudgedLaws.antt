@@ -19,7 +19,7 @@ use Rattle.rules.specs.definitions.Reading.{Reading}
 use Rattle.rules.specs.definitions.Certificate.{FileRule, refutationCount, pairsAfter, afterRefutation, sameBlock, blocksAt, afterFlow}
 use Rattle.rules.specs.definitions.Judging.{accepted, rejected, Question, questions, judgeFlows, judgeBlocks, judgeRefutations, judgeCertificate, judgeReading, judge}
 use Rattle.rules.specs.definitions.Accepted.{GoodBlocks}
-use Rattle.rules.specs.definitions.Quotient.{blockCount}
+use Rattle.rules.specs.definitions.BlockCount.{blockCount}
 use Rattle.rules.specs.definitions.JudgedBy.{plainPairs}
 use Rattle.rules.specs.definitions.PlainRule.{plainRule}
 use Rattle.rules.specs.definitions.Answers as rules

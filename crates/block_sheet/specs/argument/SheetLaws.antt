@@ -14,9 +14,9 @@ use Rattle.bisimulation.specs.definitions.Sum.{sum}
 use Rattle.bisimulation.specs.argument.SumLaws.{sumAdd, sumMono, sumZero}
 use Rattle.bisimulation.specs.definitions.Pairs.{Pairs}
 use Rattle.rules.specs.definitions.Certificate.{sameBlock}
-use Rattle.rules.specs.definitions.Quotient.{blockCount}
+use Rattle.rules.specs.definitions.BlockCount.{blockCount}
 use Rattle.rules.specs.argument.LargestBlocks.{Numbered}
-use Rattle.rules.specs.argument.QuotientLaws.{each-block}
+use Rattle.rules.specs.argument.NumberedBlocks.{each-block}
 use Rattle.block_sheet.specs.definitions.Sheet.{column, cell, blank, firstCell, cells, line, lines, lineCount, ascending, members, sizeColumn, blockLines, sheetFrom, sheet}
 
 -- how long each part is

@@ -11,7 +11,7 @@ use Rattle.rules.specs.definitions.Model.{automatonOf}
 use Rattle.rules.specs.definitions.Reading.{statesOf, actionsOf, countOf, sourceAt, actionAt, denominatorAt, entryCountAt, afterTransition, entriesAt, transitionAt, transitionsAt, modelAt}
 use Rattle.rules.specs.definitions.Certificate.{refutationCount, challengerAt, defenderAt, afterRefutation, pairsAfter, sameBlock}
 use Rattle.rules.specs.definitions.PlainRule.{byKind, plainPriceCount, plainRule}
-use Rattle.rules.specs.definitions.Quotient.{blockCount}
+use Rattle.rules.specs.definitions.BlockCount.{blockCount}
 use Rattle.rules.specs.definitions.SoundModel.{Each}
 use Rattle.rules.specs.definitions.Answers.{Outcome, answerWithoutPlace, unwritten, filled, fileOutcome}
 use Rattle.rules.specs.cases.Cases.{modelS, certificateS}

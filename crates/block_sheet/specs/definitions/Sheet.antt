@@ -6,7 +6,7 @@ use lib.Dec.{eqb}
 use lib.ListN.{length, drop, getD}
 use Rattle.bisimulation.specs.definitions.Choice.{ifLess, ifTrue, countBelow}
 use Rattle.bisimulation.specs.definitions.Pairs.{Pairs}
-use Rattle.rules.specs.definitions.Quotient.{blockCount}
+use Rattle.rules.specs.definitions.BlockCount.{blockCount}
 
 -- 'All are right-aligned': a number's column of the place value p, its digit, or a space where the number is below p
 unfoldable pub column : (p x : ℕ) → ℕ

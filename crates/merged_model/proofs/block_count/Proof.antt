@@ -4,7 +4,7 @@ use Prim.Native.Nat.{ℕ, _≤_}
 use mathlib.Core.Path.{_≡_, sym, _∙_, ap}
 use lib.ListN.{length, drop}
 use denote.Ref.{now}
-use Rattle.rules.specs.definitions.Quotient.{blockCount}
+use Rattle.rules.specs.definitions.BlockCount.{blockCount}
 use Rattle.merged_model.specs.LabelsLaws.{count-end, count-with-turn}
 use borrow.Author.Needs.{needs}
 use Rattle.merged_model.proofs.block_count.Statement.{statement}

@@ -5,7 +5,7 @@ use mathlib.Core.Path.{_≡_, refl, sym, _∙_, ap}
 use lib.ListN.{length, drop}
 use denote.Ref.{now}
 use Rattle.bisimulation.specs.argument.ChoiceLaws.{via, same, notSame}
-use Rattle.rules.specs.definitions.Quotient.{labelOfBlock}
+use Rattle.quotient.specs.definitions.Quotient.{labelOfBlock}
 use Rattle.merged_model.specs.LabelsLaws.{label-turn, label-end}
 use borrow.Author.Needs.{needs}
 use Rattle.merged_model.proofs.label_of.Statement.{statement}

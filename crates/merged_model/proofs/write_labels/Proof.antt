@@ -3,7 +3,7 @@ use native.Mathlib.Omega.{arith}
 use Prim.Native.Nat.{ℕ, _+_, _-_, _≤_}
 use mathlib.Core.Path.{_≡_, sym, _∙_, ap, subst}
 use denote.Ref.{now}
-use Rattle.rules.specs.definitions.Quotient.{blockLabels}
+use Rattle.quotient.specs.definitions.Quotient.{blockLabels}
 use Rattle.writer.specs.Appends.{Appends}
 use Rattle.writer.specs.AppendsLaws.{append-none}
 use Rattle.merged_model.specs.LabelsLaws.{labels-append}

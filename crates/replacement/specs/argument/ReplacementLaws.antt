@@ -14,11 +14,12 @@ use Rattle.bisimulation.specs.definitions.Largest.{BisimilarByPairs}
 use Rattle.rules.specs.definitions.Limits.{Limits, limits}
 use Rattle.rules.specs.definitions.Model.{Model, automatonOf}
 use Rattle.rules.specs.definitions.SoundModel.{Bytes, SoundModel, FitsWidths}
-use Rattle.rules.specs.definitions.Quotient.{quotient, mergedFile}
-use Rattle.rules.specs.definitions.Merged.{MergedModel}
+use Rattle.quotient.specs.definitions.Quotient.{quotient, mergedFile}
+use Rattle.quotient.specs.definitions.Merged.{MergedModel}
 use Rattle.rules.specs.definitions.Accepted.{FileOf}
 use Rattle.rules.specs.definitions.JudgedBy.{plainPairs}
-use Rattle.rules.specs.definitions.Answers.{Outcome, answerWithoutPlace, fileOutcome, filled, writesMerged, ReduceNumber}
+use Rattle.rules.specs.definitions.Answers.{Outcome, answerWithoutPlace, fileOutcome, filled}
+use Rattle.quotient.specs.definitions.ReduceAnswer.{writesMerged, ReduceNumber}
 use Rattle.rules.specs.definitions.Demand3.{InOneBlock, HoldsModel}
 use Rattle.rules.specs.definitions.Demands.{AcceptedBy, KeepsRulesOn, outcomeBy, Accepting, Demands}
 use Rattle.rules.specs.argument.AnyRule.{PairRules, pairsOf}
@@ -27,9 +28,10 @@ use Rattle.rules.specs.argument.AnswerLaws.{file-whole, file-fits}
 use Rattle.rules.specs.argument.PairOutcome.{outcome-followed}
 use Rattle.rules.specs.argument.AcceptedExactly.{accepted-exactly}
 use Rattle.rules.specs.argument.Demand3Holds.{AcceptedFacts, facts-of, one-model, largest-block-pairs}
-use Rattle.rules.specs.argument.DemandsHold.{accepted-of, kept-of, holds-of, merged-follow}
+use Rattle.rules.specs.argument.DemandsHold.{accepted-of, kept-of, holds-of}
+use Rattle.quotient.specs.argument.ReduceAnswerLaws.{merged-follow}
 use Rattle.rules.specs.argument.PlainRules.{wholeRules, plainCertificates, plainRules}
-use Rattle.rules.specs.argument.QuotientHolds.{merges}
+use Rattle.quotient.specs.argument.QuotientHolds.{merges}
 use Rattle.joined.specs.definitions.Joined.{joined, joinedFile}
 use Rattle.joined.specs.argument.JoinedLaws.{joined-automaton, joined-states}
 use Rattle.joined.specs.definitions.AlikeAnswer.{alikeSays, SaysAlike, testsParts}

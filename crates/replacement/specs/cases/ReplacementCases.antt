@@ -11,7 +11,8 @@ use Rattle.bisimulation.specs.definitions.Sum.{sum}
 use Rattle.bisimulation.specs.definitions.StepRule.{arriving, leaving, overTargets, overSources, beforeMove, afterMove, atTarget, MetExternal}
 use Rattle.bisimulation.specs.definitions.Beside.{blockOf}
 use Rattle.rules.specs.definitions.Model.{Entry, Transition, Model, weightOf, automatonOf}
-use Rattle.rules.specs.definitions.Quotient.{quotient, blockCount, labelOfBlock, blockLabels, weightToBlock, blockEntries, mergedTransition, fromBlock, sameTransition, isAmong, distinct, byBlock}
+use Rattle.quotient.specs.definitions.Quotient.{quotient, labelOfBlock, blockLabels, weightToBlock, blockEntries, mergedTransition, fromBlock, sameTransition, isAmong, distinct, byBlock}
+use Rattle.rules.specs.definitions.BlockCount.{blockCount}
 use Rattle.rules.specs.definitions.JudgedBy.{plainPairs}
 use Rattle.joined.specs.definitions.Joined.{raisedEntry, raisedTransition, joined}
 use Rattle.replacement.specs.definitions.Replacement.{LinkedBy, Replaces}

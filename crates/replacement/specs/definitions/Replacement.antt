@@ -8,9 +8,9 @@ use lib.ListN.{length, take, getD}
 use Rattle.bisimulation.specs.definitions.Largest.{Bisimulation, BisimilarByPairs}
 use Rattle.rules.specs.definitions.Model.{Model, automatonOf}
 use Rattle.rules.specs.definitions.SoundModel.{Bytes, SoundModel}
-use Rattle.rules.specs.definitions.Quotient.{quotient}
+use Rattle.quotient.specs.definitions.Quotient.{quotient}
 use Rattle.rules.specs.definitions.JudgedBy.{JudgedBy, plainPairs}
-use Rattle.rules.specs.definitions.Answers.{writesMerged, ReduceNumber}
+use Rattle.quotient.specs.definitions.ReduceAnswer.{writesMerged, ReduceNumber}
 use Rattle.rules.specs.definitions.Demand3.{InOneBlock, HoldsModel}
 use Rattle.rules.specs.definitions.Demands.{AcceptedBy, KeepsRulesOn, outcomeBy, Demands}
 use Rattle.joined.specs.definitions.Joined.{joined, joinedFile}

@@ -11,11 +11,10 @@ use Rattle.rules.specs.definitions.JudgedBy.{plainPairs}
 use Rattle.rules.specs.definitions.SoundModel.{Bytes}
 use Rattle.rules.specs.definitions.Judging.{accepted, NameSameBlocks}
 use Rattle.rules.specs.argument.AnyRule.{PairRules, RefusalOf, pairsOf}
-use Rattle.rules.specs.definitions.Answers.{Outcome, answerWithoutPlace, filled, Follows, writesBlocks, writesFile, writesMerged, JudgeNumber, ReduceNumber, LateNumber}
+use Rattle.rules.specs.definitions.Answers.{Outcome, answerWithoutPlace, filled, Follows, writesBlocks, writesFile, JudgeNumber, LateNumber}
 use Rattle.rules.specs.definitions.Demand3.{HoldsModel, LargestBlocks}
 use Rattle.rules.specs.definitions.Demands.{AcceptedBy, KeepsRulesOn, LargestOf, outcomeBy, Accepting, Demands}
 use Rattle.rules.specs.argument.AnyRule.{AnyCertificateNumber}
-use Rattle.rules.specs.definitions.Quotient.{mergedFile}
 use Rattle.rules.specs.argument.FaultLaws.{told-fault}
 use Rattle.rules.specs.argument.AnswerLaws.{file-number, file-told, file-unwritten}
 use Rattle.rules.specs.argument.AcceptedExactly.{AcceptedAs, accepted-exactly}
@@ -85,7 +84,7 @@ judged-largest by numbers model certificate before after b d M blocks k =
     (sym (ap (take (length (M .labels))) (d .written (inl refl) M blocks k) ∙ ap (λ (n : ℕ). take n (blocks ++ drop (length blocks) before)) (sym whole) ∙ take-append-seam blocks _))
     (d .largest M blocks k)
 
--- what follows acceptance in the calls that judge, whatever by, and that reduce
+-- what follows acceptance in the calls that judge, whatever by
 pub blocks-follow : {by : PairRules} → FollowsLaws by writesBlocks
 unfolding filled answerWithoutPlace Accepting
 blocks-follow =
@@ -121,9 +120,6 @@ file-follow short file above =
       notTen = λ z. omega (arith, z);
     }
 
-pub merged-follow : FollowsLaws plainRules writesMerged
-merged-follow = file-follow 23 mergedFile (omega arith)
-
 module _ (M C buffer : List ℕ) where
   -- the call that judges answers one of 0 to 22
   pub judge-numbered : JudgeNumber (outcomeBy plainPairs writesBlocks M C buffer .answer .number)
@@ -131,13 +127,6 @@ module _ (M C buffer : List ℕ) where
   judge-numbered =
       outcome-number plainRules writesBlocks blocks-follow M C buffer (λ k. k ≤ 22) (omega arith) (omega arith)
       (λ k h. ⊎-elim (λ x. omega (arith, x)) (λ x. x .1) (plain-refusal k h)) (λ N h. omega arith)
-
-  -- the call that reduces one of 0 to 9 and 11 to 23
-  pub reduce-numbered : ReduceNumber (outcomeBy plainPairs writesMerged M C buffer .answer .number)
-  unfolding ReduceNumber
-  reduce-numbered =
-      outcome-number plainRules writesMerged merged-follow M C buffer (λ k. (k ≤ 9) ⊎ ((11 ≤ k) × (k ≤ 23))) (inl (omega arith)) (inr (omega arith, omega arith))
-      (λ k h. ⊎-elim (λ x. inl x) (λ x. inr (x .0, omega (arith, x .1))) (plain-refusal k h)) (λ N h. absurd (omega arith))
 
   -- a call of document 02 that lends no block buffer: one of 0 to 9, 11 to 22, and its own
   pub late-numbered : (follows : Follows) → FollowsLaws plainRules follows → ((N : Model) → follows .blockRoom N ≡ 0) → LateNumber (follows .late) (outcomeBy plainPairs follows M C buffer .answer .number)

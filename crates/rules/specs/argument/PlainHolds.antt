@@ -1,10 +1,8 @@
--- Demands 2 and 3, and the merged model, for today's limits, document 01's model files and step rule.
+-- Demands 2 and 3 for today's limits, document 01's model files and step rule.
 use Prim.Native.Nat.{ℕ}
 use mathlib.Core.Logic.{_↔_}
 use mathlib.Core.List.{List}
-use native.Mathlib.Omega.{arith}
 use Rattle.rules.specs.definitions.Limits.{limits}
-use Rattle.rules.specs.argument.SoundModelLaws.{limits-fit}
 use Rattle.rules.specs.definitions.SoundModel.{Bytes}
 use Rattle.rules.specs.definitions.Reading.{readWhole}
 use Rattle.rules.specs.definitions.PlainRule.{plainRule}
@@ -12,11 +10,9 @@ use Rattle.rules.specs.definitions.PlainSays.{plainSays}
 use Rattle.rules.specs.definitions.Judging.{AcceptedFor}
 use Rattle.rules.specs.definitions.Accepted.{FileOf, Accepted}
 use Rattle.rules.specs.definitions.Demand3.{PlainDemand3}
-use Rattle.rules.specs.definitions.Merged.{Merges}
 use Rattle.rules.specs.argument.AcceptedExactly.{accepted-exactly}
 use Rattle.rules.specs.argument.Demand3Holds.{demand3}
-use Rattle.rules.specs.argument.QuotientHolds.{merges}
-use Rattle.rules.specs.argument.PlainRules.{plainCertificates, plainRules}
+use Rattle.rules.specs.argument.PlainRules.{plainRules}
 
 -- accepted exactly when document 01's rules are kept; the mark of the certificate's head is 43 54
 pub plain-accepted : (bytes C blocks : List ℕ) → Bytes bytes → Bytes C → AcceptedFor limits (readWhole limits) plainRule bytes C blocks ↔ Accepted limits (FileOf limits) plainSays 0x4354 bytes C blocks
@@ -25,7 +21,3 @@ plain-accepted = accepted-exactly plainRules
 -- demand 3
 pub plain-demand3 : PlainDemand3
 plain-demand3 = demand3 plainRules
-
--- the merged model
-pub plain-merges : Merges limits plainRule
-plain-merges = merges limits limits-fit (omega arith) plainCertificates

@@ -1,5 +1,5 @@
--- More cases of document 01's rules beside C1 to C10, computed one by one: judging, fetching, the lent block buffer, and a model that
--- is not sound.
+-- More cases of document 01's rules beside C1 to C10, computed one by one: judging, fetching, the lent block buffer, a file written, and a
+-- model that is not sound.
 use Prim.Native.Nat.{ℕ}
 use mathlib.Core.Path.{_≡_, refl}
 use mathlib.Core.List.{List, [], _∷_, _++_}
@@ -21,7 +21,7 @@ use Rattle.rules.specs.definitions.PlainRule.{byKind, plainPriceCount, p
 use Rattle.rules.specs.definitions.Judging.{Judgement, accepted, rejected, rejectAt, questionsOfPair, questionsOfState, questionsFrom, questions, judgeFlows, judgeBlocks, judgeRefutations, judgeCertificate, judgeReading, judge}
 use Rattle.rules.specs.cases.Cases.{modelS, certificateS, Case, between, cases, judged}
 use Rattle.rules.specs.definitions.SoundModel.{Each, sumOver, TransitionRules}
-use Rattle.rules.specs.definitions.Answers.{Answer, Outcome, refusalIn, answerWithoutPlace, runAnswer, fetchReading, fetchAnswer, fileOf, judgementAnswer, unwritten, filled, judgedOutcome, readOutcome, pairOutcome, writesBlocks}
+use Rattle.rules.specs.definitions.Answers.{Answer, Outcome, refusalIn, answerWithoutPlace, runAnswer, fetchReading, fetchAnswer, fileOf, judgementAnswer, unwritten, filled, judgedOutcome, readOutcome, pairOutcome, writesBlocks, fileOutcome}
 
 -- a model file, a certificate file, and the judgement of them
 pub record FilesCase : Type 0 where
@@ -153,6 +153,11 @@ more-cases = (
   (refl, (refl, (refl, tt))),
   (refl, (refl, (refl, (refl, tt)))),
 )
+
+-- a file of 3 bytes and a buffer of 4: the last stays; of 3, an exact fit; of 2: the call's number for it, and nothing written
+pub file-cases : (short : ℕ) → (fileOutcome short (1 ∷ 2 ∷ 3 ∷ []) (9 ∷ 8 ∷ 7 ∷ 6 ∷ []) ≡ outcomeOf 0 0 0 0 0 3 (1 ∷ 2 ∷ 3 ∷ 6 ∷ [])) × (fileOutcome short (1 ∷ 2 ∷ 3 ∷ []) (9 ∷ 8 ∷ 7 ∷ []) ≡ outcomeOf 0 0 0 0 0 3 (1 ∷ 2 ∷ 3 ∷ [])) × (fileOutcome short (1 ∷ 2 ∷ 3 ∷ []) (9 ∷ 8 ∷ []) ≡ outcomeOf short 0 0 0 0 0 (9 ∷ 8 ∷ []))
+unfolding ifLess answerWithoutPlace unwritten filled fileOutcome
+file-cases short = (refl, refl, refl)
 
 -- 'weights .. add up to d': one weight of 1 with d 2 keeps no model's rules
 pub short-unsound : TransitionRules 3 2 (record { source = 0; action = 1; denominator = 2; entries = record { state = 2; weight = 1 } ∷ [] }) → ⊥

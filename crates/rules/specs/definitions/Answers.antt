@@ -12,7 +12,6 @@ use Rattle.rules.specs.definitions.Faults.{Fault}
 use Rattle.rules.specs.definitions.Reading.{Scan, sound, refused, Reading, model, noModel, readWhole, runStart, runEnd}
 use Rattle.rules.specs.definitions.Certificate.{FileRule}
 use Rattle.rules.specs.definitions.Judging.{Judgement, accepted, rejected, Reader, judge}
-use Rattle.rules.specs.definitions.Quotient.{mergedFile}
 
 -- 'its number, the file (1 model, 2 certificate) and the byte place', file 3 being a second model; the stretch, or the run of a fetch, by
 -- where it starts and how long it is in its file; how many bytes were written into the lent buffer; and document 02, K2: 'The answer gains
@@ -135,10 +134,6 @@ fileOutcome short file buffer = ifLess (length buffer) (length file) (unwritten 
 abbrev pub writesFile : (short : ℕ) → (Model → (blocks : List ℕ) → List ℕ) → Follows
 writesFile short file = record { blockRoom = λ N. 0; outcome = λ N blocks buffer. fileOutcome short (file N blocks) buffer; late = short }
 
--- 'merged model': 23. 'The call that writes it lends this buffer and no block buffer'
-abbrev pub writesMerged : Follows
-writesMerged = writesFile 23 mergedFile
-
 -- the numbers that document 01 gives for a fetch
 unfoldable pub FetchNumber : ℕ → Type 0
 FetchNumber k = (k ≤ 9) ⊎ (k ≡ 24)
@@ -146,10 +141,6 @@ FetchNumber k = (k ≤ 9) ⊎ (k ≡ 24)
 -- for the call that judges by document 01's rule
 unfoldable pub JudgeNumber : ℕ → Type 0
 JudgeNumber k = k ≤ 22
-
--- for the call that reduces
-unfoldable pub ReduceNumber : ℕ → Type 0
-ReduceNumber k = (k ≤ 9) ⊎ ((11 ≤ k) × (k ≤ 23))
 
 -- for a call of document 02 that judges, with the number that its request gives after acceptance; no 10, since no block buffer is lent
 unfoldable pub LateNumber : (late : ℕ) → ℕ → Type 0

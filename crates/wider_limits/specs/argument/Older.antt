@@ -15,11 +15,13 @@ use Rattle.rules.specs.definitions.Reading.{model, readWhole}
 use Rattle.rules.specs.definitions.PlainRule.{plainRule}
 use Rattle.rules.specs.definitions.Accepted.{FileOf}
 use Rattle.rules.specs.definitions.JudgedBy.{JudgedBy, plainPairs}
-use Rattle.rules.specs.definitions.Answers.{refusalIn, fetchAnswer, unwritten, Follows, writesBlocks, writesMerged}
+use Rattle.rules.specs.definitions.Answers.{refusalIn, fetchAnswer, unwritten, Follows, writesBlocks}
+use Rattle.quotient.specs.definitions.ReduceAnswer.{writesMerged}
 use Rattle.rules.specs.definitions.Demands.{AcceptedBy, outcomeBy, Accepting}
 use Rattle.rules.specs.argument.PlainRules.{plainRules}
 use Rattle.rules.specs.argument.PairOutcome.{FollowsLaws}
-use Rattle.rules.specs.argument.DemandsHold.{blocks-follow, merged-follow}
+use Rattle.rules.specs.argument.DemandsHold.{blocks-follow}
+use Rattle.quotient.specs.argument.ReduceAnswerLaws.{merged-follow}
 use Rattle.block_sheet.specs.definitions.SheetAnswer.{writesSheet}
 use Rattle.block_sheet.specs.argument.SheetJudgedLaws.{sheet-follow}
 use Rattle.joined.specs.definitions.JoinAnswer.{joinOutcome}

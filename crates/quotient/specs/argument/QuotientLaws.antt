@@ -3,75 +3,25 @@ use Prim.Native.Nat.{ℕ, zero, suc, _+_, _≤_, _<_}
 use mathlib.Core.Path.{_≡_, refl, sym, _∙_, ap, ap₂, subst}
 use mathlib.Core.List.{List, [], _∷_, _++_}
 use lib.ListN.{length, getD, length-append}
-use native.Mathlib.Decide.{decLt, ℕ-discrete}
+use native.Mathlib.Decide.{ℕ-discrete}
 use native.Mathlib.Omega.{arith}
 use native.Mathlib.Nat.{add-zero}
 use Rattle.bisimulation.specs.definitions.Choice.{ifSame, ifTrue}
 use Rattle.bisimulation.specs.argument.ChoiceLaws.{same, notSame, eitherSame, eitherTrue}
 use Rattle.bisimulation.specs.definitions.Sum.{sum}
 use Rattle.bisimulation.specs.argument.SumLaws.{sumCong, sumZero}
 use Rattle.rules.specs.definitions.Limits.{Limits}
 use Rattle.rules.specs.definitions.Bytes.{twoBytes}
 use Rattle.rules.specs.definitions.Model.{Entry, Transition, Model, weightOf, transitionBytes, transitionsBytes, headBytes, labelsBytes, modelBytes}
 use Rattle.rules.specs.definitions.Reading.{readWhole, model}
 use Rattle.rules.specs.definitions.SoundModel.{Each, sumOver, TransitionRules, SoundModel, FitsWidths}
 use Rattle.rules.specs.argument.SoundModelLaws.{each-map, each-append, From, from-lower, along-from, StatesFrom, SourcesFrom, no-weight, sum-with}
 use Rattle.rules.specs.argument.ReadBack.{transitionBytes-length, read-back-whole}
 use Rattle.rules.specs.argument.LargestBlocks.{Numbered}
-use Rattle.rules.specs.definitions.Quotient.{blockCount, labelOfBlock, blockLabels, weightToBlock, blockEntries, mergedTransition, fromBlock, isAmong, distinct, byBlock, quotient, mergedFile}
-use Rattle.rules.specs.argument.KeyedSums.{whichSame, whichLess, inSame, sum-next, each-all, sumOver-append, sumOver-most, sumOver-length, sumOver-some, sumAt, sumAt-all, sumAt-some}
-
--- block numbers are below the number of blocks, and the highest is one less
-pub block-below : (blocks : List ℕ) (v : ℕ) → v < length blocks → getD blocks v 0 < blockCount blocks
-unfolding blockCount
-block-below [] v l = absurd (omega arith)
-block-below (x ∷ xs) zero l = whichLess (λ c. x < c) x (blockCount xs) (λ h. h) (λ h. omega arith)
-block-below (x ∷ xs) (suc v) l =
-    let h = block-below xs v (omega arith) in
-    whichLess (λ c. getD xs v 0 < c) x (blockCount xs) (λ k. h) (λ k. omega arith)
-
-highest-block : (blocks : List ℕ) → 1 ≤ length blocks → (v : ℕ) × (v < length blocks) × (getD blocks v 0 + 1 ≡ blockCount blocks)
-unfolding blockCount
-highest-block [] l = absurd (omega arith)
-highest-block (x ∷ []) l = (0, omega arith, whichLess (λ c. x + 1 ≡ c) x 0 (λ h. absurd (omega arith)) (λ h. refl))
-highest-block (x ∷ y ∷ xs) l =
-    let h = highest-block (y ∷ xs) (omega arith) in
-    whichLess (λ c. (v : ℕ) × (v < length (x ∷ y ∷ xs)) × (getD (x ∷ y ∷ xs) v 0 + 1 ≡ c)) x (blockCount (y ∷ xs))
-    (λ k. (suc (h .0), omega (arith, h .1), h .2))
-    (λ k. (0, omega arith, refl))
-
--- numbered by first appearance, a state's block is no higher than the state, and every number below the count is a block
-module _ (blocks : List ℕ) (numbered : Numbered (length blocks) blocks) where
-  block-most : (k v : ℕ) → v < k → v < length blocks → getD blocks v 0 ≤ v
-  block-most zero v h l = absurd (omega arith)
-  block-most (suc k) v h l = go (decLt v (getD blocks v 0)) (λ u i. block-most k u (omega arith) (omega arith))
-    where
-      go : Dec (v < getD blocks v 0) → ((u : ℕ) → u < v → getD blocks u 0 ≤ u) → getD blocks v 0 ≤ v
-      go (no n) before = omega arith
-      go (yes i) before =
-          let a = numbered .appears v l v i in
-          absurd (omega (arith, a .1, a .2, before (a .0) (a .1)))
-
-  module _ (some : 1 ≤ length blocks) where
-    pub count-some : 1 ≤ blockCount blocks
-    count-some = omega (arith, highest-block blocks some .2)
-
-    pub count-most : blockCount blocks ≤ length blocks
-    count-most =
-        let h = highest-block blocks some in
-        omega (arith, h .1, h .2, block-most (suc (h .0)) (h .0) (omega arith) (h .1))
-
-    pub each-block : (b : ℕ) → b < blockCount blocks → (v : ℕ) × (v < length blocks) × (getD blocks v 0 ≡ b)
-    each-block b l = go (highest-block blocks some)
-      where
-        go : ((v : ℕ) × (v < length blocks) × (getD blocks v 0 + 1 ≡ blockCount blocks)) → (v : ℕ) × (v < length blocks) × (getD blocks v 0 ≡ b)
-        go h = which (decLt b (getD blocks (h .0) 0))
-          where
-            which : Dec (b < getD blocks (h .0) 0) → (v : ℕ) × (v < length blocks) × (getD blocks v 0 ≡ b)
-            which (yes i) =
-                let a = numbered .appears (h .0) (h .1) b i in
-                (a .0, omega (arith, a .1, h .1), a .2)
-            which (no n) = (h .0, h .1, omega (arith, h .2))
+use Rattle.rules.specs.argument.NumberedBlocks.{block-below, count-some, count-most, each-block, NumberedBlocks}
+use Rattle.rules.specs.definitions.BlockCount.{blockCount}
+use Rattle.quotient.specs.definitions.Quotient.{labelOfBlock, blockLabels, weightToBlock, blockEntries, mergedTransition, fromBlock, isAmong, distinct, byBlock, quotient, mergedFile}
+use Rattle.quotient.specs.argument.KeyedSums.{whichSame, inSame, sum-next, each-all, sumOver-append, sumOver-most, sumOver-length, sumOver-some, sumAt, sumAt-all, sumAt-some}
 
 -- the labels of the blocks are labels of states
 label-of-block : (highest : ℕ) (blocks labels : List ℕ) (b : ℕ) → Each (λ (l : ℕ). l ≤ highest) labels → labelOfBlock blocks labels b ≤ highest
@@ -339,11 +289,6 @@ transitions-length (t ∷ ts) = omega (arith, length-append (transitionBytes t) 
 model-length : (M : Model) → length (modelBytes M) ≡ 8 + (length (M .labels) + sumOver (λ (t : Transition). length (transitionBytes t)) (M .transitions))
 unfolding modelBytes headBytes labelsBytes twoBytes
 model-length M = omega (arith, length-append (M .labels) (transitionsBytes (M .transitions)), transitions-length (M .transitions))
-
--- blocks of a model, numbered by first appearance
-pub record NumberedBlocks (M : Model) (blocks : List ℕ) : Type 0 where
-  pub whole : length blocks ≡ length (M .labels)
-  pub numbered : Numbered (length (M .labels)) blocks
 
 module _ (L : Limits) (M : Model) (ok : SoundModel L M) (blocks : List ℕ) (named : NumberedBlocks M blocks) where
   among : Numbered (length blocks) blocks

@@ -10,14 +10,16 @@ use Rattle.bisimulation.specs.definitions.Choice.{ifSame, ifTrue}
 use Rattle.bisimulation.specs.argument.ChoiceLaws.{timesSame, one-test}
 use Rattle.bisimulation.specs.definitions.Sum.{sum}
 use Rattle.bisimulation.specs.argument.SumLaws.{sumCong, sumTimesRight}
 use Rattle.rules.specs.definitions.Limits.{Limits}
 use Rattle.rules.specs.definitions.Model.{Transition, Model, weightOf, noTransition, automatonOf, HoldOneAutomaton}
 use Rattle.rules.specs.definitions.SoundModel.{Each, TransitionRules, SoundModel}
-use Rattle.rules.specs.definitions.Quotient.{blockCount, blockLabels, weightToBlock, mergedTransition, fromBlock, sameTransition, isAmong, distinct, byBlock, quotient}
+use Rattle.rules.specs.definitions.BlockCount.{blockCount}
+use Rattle.quotient.specs.definitions.Quotient.{blockLabels, weightToBlock, mergedTransition, fromBlock, sameTransition, isAmong, distinct, byBlock, quotient}
 use Rattle.rules.specs.argument.SoundModelLaws.{each-at, from-along}
-use Rattle.rules.specs.argument.Lists.{Paired, paired-append, paired-length, paired-at, at-paired}
-use Rattle.rules.specs.argument.SameTransitions.{Same, Positive, same-tells, tells-same, same-turned, same-through}
-use Rattle.rules.specs.argument.QuotientLaws.{NumberedBlocks, weight-at, weights-into, merged-states}
+use Rattle.quotient.specs.argument.Lists.{Paired, paired-append, paired-length, paired-at, at-paired}
+use Rattle.quotient.specs.argument.SameTransitions.{Same, Positive, same-tells, tells-same, same-turned, same-through}
+use Rattle.rules.specs.argument.NumberedBlocks.{NumberedBlocks}
+use Rattle.quotient.specs.argument.QuotientLaws.{weight-at, weights-into, merged-states}
 
 -- one transition in two spellings, with k states
 record Respelled (k : ℕ) (t u : Transition) : Type 0 where

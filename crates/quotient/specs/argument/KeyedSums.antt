@@ -3,15 +3,15 @@ use Prim.Native.Nat.{ℕ, _+_, _≤_, _<_}
 use mathlib.Core.Path.{_≡_, refl, sym, ap, subst}
 use mathlib.Core.List.{List, [], _∷_, _++_}
 use lib.ListN.{length}
-use native.Mathlib.Decide.{ℕ-discrete, decLt}
+use native.Mathlib.Decide.{ℕ-discrete}
 use native.Mathlib.Omega.{arith}
 use native.Mathlib.Numerals.{add-one}
-use Rattle.bisimulation.specs.definitions.Choice.{ifLess, ifSame}
-use Rattle.bisimulation.specs.argument.ChoiceLaws.{less, notLess, same, notSame}
+use Rattle.bisimulation.specs.definitions.Choice.{ifSame}
+use Rattle.bisimulation.specs.argument.ChoiceLaws.{same, notSame}
 use Rattle.bisimulation.specs.definitions.Sum.{sum}
 use Rattle.bisimulation.specs.argument.SumLaws.{sumZero, sumAdd}
 use Rattle.rules.specs.definitions.SoundModel.{Each, sumOver}
 use Rattle.rules.specs.argument.SoundModelLaws.{sum-with}
 
 -- a property of each side where the test goes that way is one of the choice
 pub whichSame : {X : Type 0} (P : X → Type 0) (a b : ℕ) {x y : X} → (a ≡ b → P x) → ((a ≡ b → ⊥) → P y) → P (ifSame a b x y)
@@ -20,13 +20,6 @@ whichSame P a b {x} {y} p q = go (ℕ-discrete a b)
     go : Dec (a ≡ b) → P (ifSame a b x y)
     go (yes e) = subst P (same y e refl) (p e)
     go (no n) = subst P (notSame x n refl) (q n)
-
-pub whichLess : {X : Type 0} (P : X → Type 0) (a b : ℕ) {x y : X} → (a < b → P x) → (b ≤ a → P y) → P (ifLess a b x y)
-whichLess P a b {x} {y} p q = go (decLt a b)
-  where
-    go : Dec (a < b) → P (ifLess a b x y)
-    go (yes e) = subst P (less y e refl) (p e)
-    go (no n) = subst P (notLess x (omega arith) refl) (q (omega arith))
 
 -- a function goes into the choice
 pub inSame : {X Y : Type 0} (f : X → Y) (a b : ℕ) (x y : X) → f (ifSame a b x y) ≡ ifSame a b (f x) (f y)

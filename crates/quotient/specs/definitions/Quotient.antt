@@ -4,13 +4,9 @@ use mathlib.Core.List.{List, [], _∷_, _++_}
 use mathlib.Core.Bool.{Bool, true, false}
 use lib.Dec.{eqb}
 use lib.ListN.{getD}
-use Rattle.bisimulation.specs.definitions.Choice.{ifLess, ifSame, ifTrue, both, allBelow}
+use Rattle.bisimulation.specs.definitions.Choice.{ifSame, ifTrue, both, allBelow}
 use Rattle.rules.specs.definitions.Model.{Entry, Transition, Model, weightOf, modelBytes}
-
--- 'one state for each block': block numbers count up from 0, so there is one more than the highest
-unfoldable pub blockCount : List ℕ → ℕ
-blockCount [] = 0
-blockCount (b ∷ bs) = ifLess b (blockCount bs) (blockCount bs) (b + 1)
+use Rattle.rules.specs.definitions.BlockCount.{blockCount}
 
 -- 'with its members' label': that of the block's first member
 unfoldable pub labelOfBlock : (blocks labels : List ℕ) → ℕ → ℕ

@@ -1,30 +1,26 @@
 -- The merged model of files: its laws hold whenever a certificate is accepted; all accepted certificates for one model give one merged file, and
 -- those for one automaton merged models that hold one automaton.
 use Prim.Native.Nat.{ℕ, _≤_, _<_}
-use mathlib.Core.Path.{_≡_, sym, ap, subst}
+use mathlib.Core.Path.{sym, ap, subst}
 use mathlib.Core.List.{List}
 use lib.ListN.{length}
-use Rattle.rules.specs.definitions.Limits.{Limits}
-use Rattle.rules.specs.definitions.Model.{Model, automatonOf, HoldOneAutomaton}
-use Rattle.rules.specs.definitions.SoundModel.{FitsWidths, Bytes}
+use native.Mathlib.Omega.{arith}
+use Rattle.rules.specs.definitions.Limits.{Limits, limits}
+use Rattle.rules.specs.definitions.Model.{automatonOf, HoldOneAutomaton}
+use Rattle.rules.specs.definitions.SoundModel.{FitsWidths}
+use Rattle.rules.specs.argument.SoundModelLaws.{limits-fit}
 use Rattle.rules.specs.argument.ReadSound.{read-whole-sound}
+use Rattle.rules.specs.definitions.PlainRule.{plainRule}
 use Rattle.rules.specs.definitions.Judging.{NameSameBlocks}
-use Rattle.rules.specs.argument.AnyRule.{CertificateRule, PairRules, pairsOf}
-use Rattle.rules.specs.definitions.Demand3.{HoldsModel}
-use Rattle.rules.specs.definitions.Demands.{AcceptedBy}
-use Rattle.rules.specs.definitions.Quotient.{quotient, mergedFile}
-use Rattle.rules.specs.definitions.Merged.{MergedModel, Merges}
+use Rattle.rules.specs.argument.AnyRule.{CertificateRule}
+use Rattle.quotient.specs.definitions.Quotient.{quotient, mergedFile}
+use Rattle.quotient.specs.definitions.Merged.{Merges}
 use Rattle.rules.specs.argument.Demand3Holds.{itself, facts-of, demand3}
-use Rattle.rules.specs.argument.PlainRules.{wholeRules}
-use Rattle.rules.specs.argument.KeptTransitions.{stand-for-each-other, no-two-same}
-use Rattle.rules.specs.argument.MergedSpelling.{merged-one}
-use Rattle.rules.specs.argument.QuotientLaws.{NumberedBlocks, quotient-sound, merged-reads, merged-length, merged-states, merged-below, merged-label, merged-each}
-
--- the blocks of an accepted certificate are numbered by first appearance, one a state
-pub accepted-numbered : (by : PairRules) (bytes C blocks : List ℕ) → Bytes bytes → Bytes C → AcceptedBy (pairsOf by) bytes C blocks → {N : Model} → HoldsModel (by .models .read) bytes N → NumberedBlocks N blocks
-accepted-numbered by bytes C blocks b c a {N} h =
-    let facts = facts-of by bytes C blocks b c a N h in
-    record { whole = facts .whole; numbered = facts .numbered }
+use Rattle.rules.specs.argument.PlainRules.{wholeRules, plainCertificates}
+use Rattle.quotient.specs.argument.KeptTransitions.{stand-for-each-other, no-two-same}
+use Rattle.quotient.specs.argument.MergedSpelling.{merged-one}
+use Rattle.rules.specs.argument.NumberedBlocks.{accepted-numbered}
+use Rattle.quotient.specs.argument.QuotientLaws.{quotient-sound, merged-reads, merged-length, merged-states, merged-below, merged-label, merged-each}
 
 module _ (L : Limits) (widths : FitsWidths L) (few : L .refutations < 65536) (rule : CertificateRule) where
   pub merges : Merges L (rule .file)
@@ -57,3 +53,7 @@ module _ (L : Limits) (widths : FitsWidths L) (few : L .refutations < 65536) (ru
             (demand3 by .oneAnswer bytes₁ C₁ blocks₁ bytes₂ C₂ blocks₂ b₁ c₁ b₂ c₂ a₁ a₂ M N h k one)
             (merged-one L M N (facts-of by bytes₁ C₁ blocks₁ b₁ c₁ a₁ M h .sound) (facts-of by bytes₂ C₂ blocks₂ b₂ c₂ a₂ N k .sound) one blocks₁ (accepted-numbered by bytes₁ C₁ blocks₁ b₁ c₁ a₁ h));
       }
+
+-- for today's limits and document 01's step rule
+pub plain-merges : Merges limits plainRule
+plain-merges = merges limits limits-fit (omega arith) plainCertificates

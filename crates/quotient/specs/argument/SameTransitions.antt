@@ -10,11 +10,11 @@ use native.Mathlib.Omega.{arith}
 use native.Mathlib.Nat.{eq-of-mul-eq-mul-left}
 use Rattle.bisimulation.specs.definitions.Choice.{ifTrue}
 use Rattle.bisimulation.specs.argument.ChoiceLaws.{isTrue, isFalse, false-not, both-true, true-both, all-below, below-all}
 use Rattle.rules.specs.definitions.Model.{Transition, weightOf}
 use Rattle.rules.specs.definitions.SoundModel.{Each}
 use Rattle.rules.specs.argument.SoundModelLaws.{each-map}
-use Rattle.rules.specs.argument.Lists.{Some, some-map, some-second, Pairwise}
-use Rattle.rules.specs.definitions.Quotient.{sameTransition, isAmong, distinct}
+use Rattle.quotient.specs.argument.Lists.{Some, some-map, some-second, Pairwise}
+use Rattle.quotient.specs.definitions.Quotient.{sameTransition, isAmong, distinct}
 
 -- sameness as a proposition
 pub record Same (k : ℕ) (t u : Transition) : Type 0 where

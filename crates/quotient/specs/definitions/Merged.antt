@@ -4,14 +4,15 @@ use mathlib.Core.Path.{_≡_}
 use mathlib.Core.List.{List}
 use lib.ListN.{length, getD}
 use Rattle.bisimulation.specs.definitions.StandsFor.{StandForEachOther, NoTwoSame}
 use Rattle.rules.specs.definitions.Limits.{Limits}
 use Rattle.rules.specs.definitions.Model.{Model, automatonOf, HoldOneAutomaton}
 use Rattle.rules.specs.definitions.Reading.{readWhole}
 use Rattle.rules.specs.definitions.SoundModel.{Bytes, SoundModel}
 use Rattle.rules.specs.definitions.Certificate.{FileRule}
 use Rattle.rules.specs.definitions.Judging.{AcceptedFor}
-use Rattle.rules.specs.definitions.Quotient.{blockCount, quotient, mergedFile}
+use Rattle.rules.specs.definitions.BlockCount.{blockCount}
+use Rattle.quotient.specs.definitions.Quotient.{quotient, mergedFile}
 use Rattle.rules.specs.definitions.Demand3.{HoldsModel}
 
 -- the merged model of the model M that the bytes hold: sound, its file holds it and is no longer, its states are the blocks, each with its
 -- members' label, its transitions stand for those of M, and no two of them are the same

@@ -11,15 +11,17 @@ use Rattle.bisimulation.specs.definitions.Choice.{ifSame}
 use Rattle.bisimulation.specs.argument.ChoiceLaws.{same}
 use Rattle.bisimulation.specs.definitions.Automaton.{Automaton}
 use Rattle.bisimulation.specs.definitions.StandsFor.{weightInto, StandsFor, StandForEachOther, NoTwoSame}
 use Rattle.rules.specs.definitions.Limits.{Limits}
 use Rattle.rules.specs.definitions.Model.{Transition, Model, weightOf, noTransition, automatonOf}
 use Rattle.rules.specs.definitions.SoundModel.{Each, TransitionRules, SoundModel}
-use Rattle.rules.specs.definitions.Quotient.{blockCount, weightToBlock, mergedTransition, fromBlock, distinct, byBlock, quotient}
+use Rattle.rules.specs.definitions.BlockCount.{blockCount}
+use Rattle.quotient.specs.definitions.Quotient.{weightToBlock, mergedTransition, fromBlock, distinct, byBlock, quotient}
 use Rattle.rules.specs.argument.SoundModelLaws.{each-at, at-each, each-map, each-append, each-parts, from-along}
-use Rattle.rules.specs.argument.KeyedSums.{each-all}
-use Rattle.rules.specs.argument.SameTransitions.{Same, Positive, same-itself, each-covered, distinct-apart}
-use Rattle.rules.specs.argument.Lists.{Some, some-each, some-first, some-second, some-at, Pairwise, pairwise-append, pairwise-map, pairwise-at}
-use Rattle.rules.specs.argument.QuotientLaws.{NumberedBlocks, weight-at, weights-into, each-distinct, each-from, each-by-block, merged-below, merged-states}
+use Rattle.quotient.specs.argument.KeyedSums.{each-all}
+use Rattle.quotient.specs.argument.SameTransitions.{Same, Positive, same-itself, each-covered, distinct-apart}
+use Rattle.quotient.specs.argument.Lists.{Some, some-each, some-first, some-second, some-at, Pairwise, pairwise-append, pairwise-map, pairwise-at}
+use Rattle.rules.specs.argument.NumberedBlocks.{NumberedBlocks}
+use Rattle.quotient.specs.argument.QuotientLaws.{weight-at, weights-into, each-distinct, each-from, each-by-block, merged-below, merged-states}
 
 module _ (blocks : List ℕ) where
   abbrev blockFrom : Transition → ℕ

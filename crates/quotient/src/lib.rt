@@ -1,0 +1,1 @@
+// The merged model, in definitions and laws: no code.

@@ -21,8 +21,9 @@ use Rattle.bisimulation.specs.definitions.Joined.{IsJoined}
 use Rattle.bisimulation.specs.definitions.Beside.{blockOf, Linked, IsMerged, SharesBlocks}
 use Rattle.bisimulation.specs.argument.Parts.{parts, nothing}
 use Rattle.bisimulation.specs.argument.PartsLaws.{byParts, inFirst, inSecond}
-use Rattle.bisimulation.specs.argument.Moves.{start, Moves, Couples, Answers}
-use Rattle.bisimulation.specs.argument.MovesLaws.{metAnswers, answersMet, movesCong, nothingCouples, couplesCong, movesTimes, startTimes, ownMoves}
+use Rattle.bisimulation.specs.argument.Moves.{plainMovement, start, Moves, Couples, MetBy, Nothing}
+use Rattle.bisimulation.specs.argument.MovesLaws.{movesCong, nothingCouples, couplesCong, movesTimes, startTimes, ownLayers, ownMoves}
+use Rattle.bisimulation.specs.argument.PlainMoves.{plainBy, plainOnce}
 use Rattle.bisimulation.specs.argument.JoinedMoves.{eachTransition, nothingFor, firstAnswers, secondAnswers, firstMet, secondMet}
 
 -- being linked as a set of pairs
@@ -90,7 +91,7 @@ module _ (A Q J : Automaton) (block : ℕ → ℕ) (soundA : SoundAutomaton A) (
 
   -- a merged state asks itself
   pub mergedItself : (q : ℕ) → q < Q .transitions → Met J (Linked A Q block) (A .transitions + q) (A .states + Q .source q)
-  mergedItself q l = secondMet A Q J j soundA (λ v u. v ≡ u) Link (λ v u i k e. link u _ _ (omega arith) (omega arith) (blockSecond v ∙ e) (blockSecond u)) q (Q .source q) l (plainOwn Q soundQ (λ v u. v ≡ u) (λ s i. refl) q l)
+  mergedItself q l = secondMet A Q J j soundA plainBy (λ v u. v ≡ u) Link (λ v u i k e. link u _ _ (omega arith) (omega arith) (blockSecond v ∙ e) (blockSecond u)) q (Q .source q) l (plainOwn Q soundQ (λ v u. v ≡ u) (λ s i. refl) q l)
 
   -- an original state asks a merged one: the transition that stands for the challenger, alone
   module _ (r q : ℕ) (below : r < A .transitions) (l : q < Q .transitions) (s : StandsFor A Q block q r) where
@@ -101,13 +102,13 @@ module _ (A Q J : Automaton) (block : ℕ → ℕ) (soundA : SoundAutomaton A) (
     back : ℕ → ℕ → ℕ
     back c u = ifSame (block u) c (A .weight r u * Q .denominator q) 0
 
-    backMoves : Moves Q (J .action r) (start (Q .source q) (d * Q .denominator q)) (λ c. overTargets A back c + overTargets Q nothing c)
+    backMoves : Moves Q (plainMovement (J .action r)) (λ i c. d * ownLayers q (plainOnce (Q .action q) .layer) i c) (start (Q .source q) (d * Q .denominator q)) (λ c. overTargets A back c + overTargets Q nothing c)
     unfolding overTargets back weightInto
     backMoves =
         movesCong (λ v i. startTimes d (Q .source q) (Q .denominator q) v)
         (λ c i. omega (arith, s .probability c i, blockTimes n block (A .weight r) (Q .denominator q) c, nothingFor Q c))
-        (s .action ∙ sym (j .firstAction r below))
-        (movesTimes Q d (ownMoves Q q l))
+        (ap plainMovement (s .action ∙ sym (j .firstAction r below)))
+        (movesTimes Q d (ownMoves Q q l (plainOnce (Q .action q))))
 
     backCouples : Couples (λ c u. Link (n + c) u) (Q .states) n d (d * Q .denominator q) (A .weight r) back
     unfolding back
@@ -120,7 +121,7 @@ module _ (A Q J : Automaton) (block : ℕ → ℕ) (soundA : SoundAutomaton A) (
     pub originalAsksMerged : Met J (Linked A Q block) r (A .states + Q .source q)
     unfolding SoundAutomaton
     originalAsksMerged =
-        answersMet J Link r (n + Q .source q)
+        plainBy .from J Link r (n + Q .source q)
         (secondAnswers A Q J j soundA Link r (Q .source q) (d * Q .denominator q) (mul-pos (soundA r below .positive) (soundQ q l .positive)) back nothing
         backMoves
         (couplesCong (λ c u k i e. e) (j .firstDenominator r below) (λ u i. j .firstWeight r u below i) backCouples)
@@ -129,62 +130,62 @@ module _ (A Q J : Automaton) (block : ℕ → ℕ) (soundA : SoundAutomaton A) (
   module _ (Same : ℕ → ℕ → Type 0) (shares : SharesBlocks A block Same) where
     -- an original state asks another
     pub originalAsksOriginal : (r t : ℕ) → r < A .transitions → t < A .states → Met A Same r t → Met J (Linked A Q block) r t
-    originalAsksOriginal r t l below m = firstMet A Q J j soundA Same Link (λ v u i k e. link (block u) v u (omega arith) (omega arith) (blockFirst v i ∙ shares v u i k .0 e) (blockFirst u k)) r t l below m
+    originalAsksOriginal r t l below m = firstMet A Q J j soundA plainBy Same Link (λ v u i k e. link (block u) v u (omega arith) (omega arith) (blockFirst v i ∙ shares v u i k .0 e) (blockFirst u k)) r t l below m
 
     -- a merged state asks an original one: the flow against the transition that it stands for
     module _ (r q : ℕ) (below : r < A .transitions) (l : q < Q .transitions) (s : StandsFor A Q block q r) (t : ℕ) (state : t < A .states) (m : Met A Same r t) where
-      abbrev x : Answers A Same r t
-      x = metAnswers A Same r t m
+      abbrev x : MetBy A (plainMovement (A .action r)) (Nothing A r t) Same r t
+      x = plainBy .to A Same r t m
 
       -- w from v to the merged state c: the sum of w(v,u) over u in c
       over : ℕ → ℕ → ℕ
-      over v c = sum n (λ u. ifSame (block u) c (x .w v u) 0)
+      over v c = sum n (λ u. ifSame (block u) c (x .flow .w v u) 0)
 
-      overMoves : Moves A (J .action (A .transitions + q)) (start t (x .D)) (λ v. overTargets A nothing v + overTargets Q over v)
+      overMoves : Moves A (plainMovement (J .action (A .transitions + q))) (x .flow .k) (start t (x .flow .D)) (λ v. overTargets A nothing v + overTargets Q over v)
       unfolding overTargets over
       overMoves =
           movesCong (λ v i. refl)
-          (λ v i. omega (arith, nothingFor A v, allBlocks n block (x .w v) (Q .states) (merged .below)))
-          (sym (s .action) ∙ sym (j .secondAction q l))
+          (λ v i. omega (arith, nothingFor A v, allBlocks n block (x .flow .w v) (Q .states) (merged .below)))
+          (ap plainMovement (sym (s .action) ∙ sym (j .secondAction q l)))
           (x .moves)
 
-      overCouples : Couples (λ v c. Link v (n + c)) n (Q .states) (Q .denominator q) (x .D) (Q .weight q) over
+      overCouples : Couples (λ v c. Link v (n + c)) n (Q .states) (Q .denominator q) (x .flow .D) (Q .weight q) over
       unfolding over weightInto SoundAutomaton
       overCouples = record { related = λ v c i k z. link c _ _ (omega arith) (omega arith) (blockFirst v i ∙ used v c i z (ℕ-discrete (block v) c)) (blockSecond c); target = target }
         where
-          unused : (v c u : ℕ) → v < n → u < n → (block v ≡ c → ⊥) → (x .w v u ≡ 0) ⊎ (0 < x .w v u) → ifSame (block u) c (x .w v u) 0 ≡ 0
+          unused : (v c u : ℕ) → v < n → u < n → (block v ≡ c → ⊥) → (x .flow .w v u ≡ 0) ⊎ (0 < x .flow .w v u) → ifSame (block u) c (x .flow .w v u) 0 ≡ 0
           unused v c u i k other (inl e) = eitherSame (λ z. z ≡ 0) (block u) c e refl
           unused v c u i k other (inr p) = sym (notSame _ (λ e. other (shares v u i k .0 (x .couples .related v u i k p) ∙ e)) refl)
 
           used : (v c : ℕ) → v < n → 0 < over v c → Dec (block v ≡ c) → block v ≡ c
           used v c i z (yes e) = e
-          used v c i z (no other) = absurd (omega (arith, sumZero n (λ u. ifSame (block u) c (x .w v u) 0) (λ u k. unused v c u i k other (eq-zero-or-pos (x .w v u)))))
+          used v c i z (no other) = absurd (omega (arith, sumZero n (λ u. ifSame (block u) c (x .flow .w v u) 0) (λ u k. unused v c u i k other (eq-zero-or-pos (x .flow .w v u)))))
 
           d : ℕ
           d = A .denominator r
 
           T : ℕ → ℕ
-          T u = sum n (λ v. x .w v u)
+          T u = sum n (λ v. x .flow .w v u)
 
           gathered : (c : ℕ) → sum n (λ v. over v c) ≡ sum n (λ u. ifSame (block u) c (T u) 0)
-          gathered c = sumExchange n n (λ v u. ifSame (block u) c (x .w v u) 0) ∙ sumCong n _ _ (λ u k. sumChosen n (block u) c (λ v. x .w v u))
+          gathered c = sumExchange n n (λ v u. ifSame (block u) c (x .flow .w v u) 0) ∙ sumCong n _ _ (λ u k. sumChosen n (block u) c (λ v. x .flow .w v u))
 
-          brought : (c : ℕ) → sum n (λ v. over v c) * d ≡ weightInto A block r c * x .D
+          brought : (c : ℕ) → sum n (λ v. over v c) * d ≡ weightInto A block r c * x .flow .D
           brought c =
               ap (λ (z : ℕ). z * d) (gathered c)
               ∙ sym (blockTimes n block T d c)
               ∙ sumCong n _ _ (λ u k. ap (λ (z : ℕ). ifSame (block u) c z 0) (mul-comm (T u) d ∙ x .couples .target u k))
-              ∙ blockTimes n block (A .weight r) (x .D) c
+              ∙ blockTimes n block (A .weight r) (x .flow .D) c
 
-          target : (c : ℕ) → c < Q .states → Q .denominator q * sum n (λ v. over v c) ≡ Q .weight q c * x .D
+          target : (c : ℕ) → c < Q .states → Q .denominator q * sum n (λ v. over v c) ≡ Q .weight q c * x .flow .D
           target c k =
               eq-of-mul-eq-mul-left d (soundA r below .positive) _ _
-              (omega (arith, ap (λ (z : ℕ). Q .denominator q * z) (brought c), ap (λ (z : ℕ). x .D * z) (s .probability c k)))
+              (omega (arith, ap (λ (z : ℕ). Q .denominator q * z) (brought c), ap (λ (z : ℕ). x .flow .D * z) (s .probability c k)))
 
       pub mergedAsksOriginal : Met J (Linked A Q block) (A .transitions + q) t
       mergedAsksOriginal =
-          answersMet J Link (A .transitions + q) t
-          (firstAnswers A Q J j soundA Link (A .transitions + q) t (x .D) (x .atLeastOne) nothing over state
+          plainBy .from J Link (A .transitions + q) t
+          (firstAnswers A Q J j soundA Link (A .transitions + q) t (x .flow .D) (x .atLeastOne) nothing over state
           overMoves
           (nothingCouples (λ u i. j .secondOnly q u l i))
           (couplesCong (λ v c i k e. e) (j .secondDenominator q l) (λ c k. j .secondWeight q c l k) overCouples))

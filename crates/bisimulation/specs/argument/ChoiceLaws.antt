@@ -60,7 +60,15 @@ turned a b x y = go (ℕ-discrete b a)
     go (yes e) = same y e (sym (same y (sym e) refl))
     go (no n) = notSame x n (sym (notSame x (λ e. n (sym e)) refl))
 
--- a factor goes into the choice
+-- a function, and a factor, goes into the choice
+pub ofSame {ℓ κ} : {X : Type ℓ} {Y : Type κ} (f : X → Y) (a b : ℕ) (x y : X) → f (ifSame a b x y) ≡ ifSame a b (f x) (f y)
+unfolding ifSame
+ofSame f a b x y = go (eqb a b)
+  where
+    go : (t : Bool) → f (cond t x y) ≡ cond t (f x) (f y)
+    go true = refl
+    go false = refl
+
 pub timesSame : (a b x c : ℕ) → ifSame a b x 0 * c ≡ ifSame a b (x * c) 0
 unfolding ifSame
 timesSame a b x c = go (eqb a b)

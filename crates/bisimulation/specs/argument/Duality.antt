@@ -1,61 +1,135 @@
--- Weak duality for document 01's step rule: what is refuted is met for no relation inside the related pairs.
-use Prim.Native.Nat.{ℕ, _+_, _*_, _≤_, _<_}
-use mathlib.Core.Path.{_≡_}
-use native.Mathlib.Decide.{ℕ-discrete}
+-- Weak duality: what is refuted is met for no relation inside the related pairs, by any movement whose layers have prices.
+use Prim.Native.Nat.{ℕ, suc, _+_, _*_, _<_}
+use mathlib.Core.Path.{_≡_, refl, sym, ap}
+use mathlib.Core.Bool.{true, false}
+use lib.IntN.{ℤ}
+use lib.Signed.{_≤ℤ_, _<ℤ_}
 use native.Mathlib.Omega.{arith}
-use Rattle.bisimulation.specs.definitions.Choice.{ifSame}
+use Rattle.bisimulation.specs.definitions.Choice.{ifLess, ifSame}
+use Rattle.bisimulation.specs.argument.ChoiceLaws.{false-not}
+use Rattle.bisimulation.specs.definitions.Sum.{sum}
+use Rattle.bisimulation.specs.argument.SumLaws.{sumZero, termLe}
 use Rattle.bisimulation.specs.definitions.Automaton.{Automaton, SoundAutomaton}
-use Rattle.bisimulation.specs.definitions.StepRule.{arriving, leaving, overTargets, overSources, beforeMove, afterMove, internalMove, MetExternal, MetInternal, Met}
-use Rattle.bisimulation.specs.argument.Value.{value, FeasibleFor}
-use Rattle.bisimulation.specs.argument.ValueLaws.{valueSame, valueEquation}
-use Rattle.bisimulation.specs.argument.Layers.{layerFeasible, coupled, targetContradiction}
-use Rattle.bisimulation.specs.definitions.Rule.{WeakDuality}
-use Rattle.bisimulation.specs.argument.Raised.{TablesRaised}
-use Rattle.bisimulation.specs.argument.RaisedLaws.{tablesRaised, priceRaised, relatedRaised, lastRaised}
-use Rattle.bisimulation.specs.definitions.Refutation.{PlainRefutes}
+use Rattle.bisimulation.specs.definitions.StepRule.{Flow, StepRule, Met}
+use Rattle.bisimulation.specs.definitions.Prices.{priceAt, priceOfTargets}
+use Rattle.bisimulation.specs.definitions.Pairs.{Pairs}
+use Rattle.bisimulation.specs.definitions.Refutation.{RelatedCondition, PlainRefutes}
+use Rattle.bisimulation.specs.definitions.Rule.{PriceRule, WeakDuality}
+use Rattle.bisimulation.specs.argument.Once.{none}
+use Rattle.bisimulation.specs.argument.Value.{value}
+use Rattle.bisimulation.specs.argument.ValueLaws.{valueSame}
+use Rattle.bisimulation.specs.argument.Moves.{Movement, internalMovement, externalMovement, plainMovement, start, MetBy, Besides, Nothing, ByMovement}
+use Rattle.bisimulation.specs.argument.PlainMoves.{eitherMovement, threeLayers, plainBy}
+use Rattle.bisimulation.specs.argument.Layers.{brought, LayerPriced, movesPriced, coupled, targetContradiction}
+use Rattle.bisimulation.specs.argument.Raised.{Raised, raise, RaisedBy, magnitudes}
+use Rattle.bisimulation.specs.argument.RaisedLaws.{raisedLe, raisedLt, raisedMore, magnitudesEnough, priceAtRaised, priceOfTargetsRaised, relatedRaised}
 
--- with prices that are natural numbers
-module _ (A : Automaton) (sound : SoundAutomaton A) (W : ℕ → ℕ → Type 0) (q t : ℕ) (inStates : t < A .states) where
-  internalContradiction : (X G : ℕ → ℕ) → FeasibleFor A 0 X X → ((v u : ℕ) → v < A .states → u < A .states → W v u → G u ≤ X v) → A .denominator q * X t < value (A .states) (A .weight q) G → MetInternal A W q t → ⊥
-  unfolding internalMove
-  internalContradiction X G feasible related last m = targetContradiction A (m .flow) q (X t) 0 G (m .atLeastOne) (m .target) atMost (omega arith)
+-- the side of the targets of a price condition: of given prices and a transition
+abbrev pub Side : Type 0
+Side = (ℕ → ℤ) → ℕ → ℤ
+
+-- what a side adds to the sum of p(v)A(v): for prices that are raised by c it is a on this side, b on the other
+pub record Adds (A : Automaton) (side : Side) (a b : ℕ → ℕ) : Type 0 where
+  pub raised : {c : ℕ} {Y : ℕ → ℤ} → RaisedBy (A .states) c Y → (r : ℕ) → r < A .transitions → Raised (A .denominator r * c + b r) (value (A .states) (A .weight r) (λ v. raise c (Y v)) + a r) (side Y r)
+
+-- the amounts a of the transitions that the n layers of a flow use are for D what that of the challenger q is for d0
+abbrev pub Paid : Automaton → (n q : ℕ) → Flow → (a : ℕ → ℕ) → Type 0
+Paid A n q f a = A .denominator q * brought A (f .k) a n ≡ f .D * a q
+
+-- the prices of a refutation against a movement: before each layer and after the last, and G
+pub record RefutesBy (A : Automaton) (m : Movement) (side : Side) (R : Pairs) (q t : ℕ) : Type 0 where
+  pub prices : ℕ → ℕ → ℤ
+  pub G : ℕ → ℤ
+  pub layers : (i : ℕ) → i < m .count → (r : ℕ) → r < A .transitions → A .action r ≡ m .layer i .action → side (prices (suc i)) r ≤ℤ priceAt A (prices i) r (A .source r)
+  pub kept : (i : ℕ) → i < m .count → m .layer i .step ≡ false → prices i ≡ prices (suc i)
+  pub related : RelatedCondition A R (prices (m .count)) G
+  pub last : priceAt A (prices 0) q t <ℤ side G q
+
+module _ (A : Automaton) (sound : SoundAutomaton A) (m : Movement) {side : Side} {a b : ℕ → ℕ} (adds : Adds A side a b) (R : Pairs) (q t : ℕ) (h : RefutesBy A m side R q t) where
+  -- raised by so much, no price is negative
+  abbrev enough : ℕ
+  enough = sum (suc (m .count)) (λ i. magnitudes (A .states) (h .prices i)) + magnitudes (A .states) (h .G)
+
+  pricesRaised : (i : ℕ) → i < suc (m .count) → RaisedBy (A .states) enough (h .prices i)
+  pricesRaised i l = record { enough = λ v j. omega (arith, magnitudesEnough (A .states) (h .prices i) v j, termLe (suc (m .count)) (λ x. magnitudes (A .states) (h .prices x)) i l) }
+
+  targetsRaised : RaisedBy (A .states) enough (h .G)
+  targetsRaised = record { enough = λ v j. omega (arith, magnitudesEnough (A .states) (h .G) v j) }
+
+  contradiction : (More : Flow → Type 0) (W : ℕ → ℕ → Type 0) → ((v u : ℕ) → W v u → R v u ≡ true) → q < A .transitions → t < A .states → (o : MetBy A m More W q t) → Paid A (m .count) q (o .flow) a → Paid A (m .count) q (o .flow) b → ⊥
+  unfolding SoundAutomaton start
+  contradiction More W inside i j o paid owed =
+      targetContradiction A q (raise enough (h .prices 0 t)) (a q) (b q) _ _ _ (o .atLeastOne) (o .couples) paid owed
+      (omega (
+        arith,
+        movesPriced A sound (o .moves) priced,
+        valueSame (A .states) t (o .flow .D) (λ v. raise enough (h .prices 0 v)) j,
+        coupled A (o .flow .w) (λ v. raise enough (h .prices (m .count) v)) (λ u. raise enough (h .G u)) (λ v u k l z. relatedRaised A enough (pricesRaised (m .count) (omega arith)) targetsRaised (h .related) v u k l (inside v u (o .couples .related v u k l z))),
+      ))
+      (raisedLt (raisedMore (b q) (priceAtRaised A enough (h .prices 0) (pricesRaised 0 (omega arith)) q t j)) (adds .raised targetsRaised q i) (h .last))
     where
-      atMost : value (A .states) (overSources A (m .flow .w)) G + m .flow .D * 0 ≤ m .flow .D * X t
-      atMost =
-          omega (
-            arith,
-            valueSame (A .states) t (m .flow .D) X inStates,
-            valueEquation (A .states) (λ v. ifSame v t (m .flow .D) 0) (arriving A (m .flow .k 0)) (leaving A (m .flow .k 0)) (overTargets A (m .flow .w)) X (λ v l. m .move v l .equal),
-            layerFeasible A sound (m .flow .k 0) X X (λ r l u. feasible r l (m .layer0 r l u)),
-            coupled A (m .flow .w) X G (λ v u l j z. related v u l j (m .related v u l j z)),
-          )
+      priced : (i : ℕ) → i < m .count → LayerPriced A (m .layer i) a b (λ v. raise enough (h .prices i v)) (λ v. raise enough (h .prices (suc i) v))
+      priced i l =
+          record {
+            feasible = λ r k e. raisedLe (adds .raised (pricesRaised (suc i) (omega arith)) r k) (raisedMore (b r) (priceAtRaised A enough (h .prices i) (pricesRaised i (omega arith)) r (A .source r) (sound r k .from))) (h .layers i l r k e);
+            kept = λ s v k. ap (λ (X : ℕ → ℤ). raise enough (X v)) (h .kept i l s);
+          }
 
-  externalContradiction : (X Y G : ℕ → ℕ) → FeasibleFor A 0 X X → FeasibleFor A 0 Y Y → FeasibleFor A (A .action q) X Y → ((v u : ℕ) → v < A .states → u < A .states → W v u → G u ≤ Y v) → A .denominator q * X t < value (A .states) (A .weight q) G → MetExternal A W q t → ⊥
-  unfolding beforeMove afterMove
-  externalContradiction X Y G before after move related last m = targetContradiction A (m .flow) q (X t) 0 G (m .atLeastOne) (m .target) atMost (omega arith)
-    where
-      atMost : value (A .states) (overSources A (m .flow .w)) G + m .flow .D * 0 ≤ m .flow .D * X t
-      atMost =
-          omega (
-            arith,
-            valueSame (A .states) t (m .flow .D) X inStates,
-            valueEquation (A .states) (λ v. ifSame v t (m .flow .D) 0) (arriving A (m .flow .k 0)) (leaving A (m .flow .k 0)) (leaving A (m .flow .k 1)) X (λ v l. m .before v l .equal),
-            valueEquation (A .states) (arriving A (m .flow .k 1)) (arriving A (m .flow .k 2)) (leaving A (m .flow .k 2)) (overTargets A (m .flow .w)) Y (λ v l. m .after v l .equal),
-            layerFeasible A sound (m .flow .k 0) X X (λ r l u. before r l (m .layer0 r l u)),
-            layerFeasible A sound (m .flow .k 1) X Y (λ r l u. move r l (m .layer1 r l u)),
-            layerFeasible A sound (m .flow .k 2) Y Y (λ r l u. after r l (m .layer2 r l u)),
-            coupled A (m .flow .w) Y G (λ v u l j z. related v u l j (m .related v u l j z)),
-          )
+-- a refutation against a movement, with what its side adds: whatever more a rule asks of a flow, it pays for that
+pub record Refuted (A : Automaton) (m : Movement) (More : Flow → Type 0) (R : Pairs) (q t : ℕ) : Type 0 where
+  pub side : Side
+  pub a : ℕ → ℕ
+  pub b : ℕ → ℕ
+  pub adds : Adds A side a b
+  pub refutes : RefutesBy A m side R q t
+  pub paid : (f : Flow) → More f → Paid A (m .count) q f a × Paid A (m .count) q f b
 
--- with the prices of a record
+pub dualityBy : {met : StepRule} {movement : ℕ → Movement} {More : Besides} {refutes : PriceRule} → ByMovement met movement More → ((A : Automaton) → SoundAutomaton A → (R : Pairs) (q t : ℕ) (p : ℕ → ℤ) → refutes A R q t p → Refuted A (movement (A .action q)) (More A q t) R q t) → WeakDuality met refutes
+dualityBy by refuted A sound R q t p i j h W inside m =
+    let x = refuted A sound R q t p h in
+    let o = by .to A W q t m in
+    let paid = x .paid (o .flow) (o .more) in
+    contradiction A sound _ (x .adds) R q t (x .refutes) _ W inside i j o (paid .0) (paid .1)
+
+-- the conditions of document 01's movements, whatever the side of the targets: for each transition with the action a, from the prices X of its
+-- source to the prices Y of its targets
+module _ (A : Automaton) (side : Side) (R : Pairs) (q t : ℕ) where
+  abbrev Condition : ℕ → (X Y : ℕ → ℤ) → Type 0
+  Condition a X Y = (r : ℕ) → r < A .transitions → A .action r ≡ a → side Y r ≤ℤ priceAt A X r (A .source r)
+
+  pub internalRefutes : (X G : ℕ → ℤ) → Condition 0 X X → RelatedCondition A R X G → priceAt A X q t <ℤ side G q → RefutesBy A internalMovement side R q t
+  internalRefutes X G internal related last = record { prices = λ i. X; G = G; layers = λ i l. internal; kept = λ i l s. refl; related = related; last = last }
+
+  pub externalRefutes : (X Y G : ℕ → ℤ) → Condition 0 X X → Condition 0 Y Y → Condition (A .action q) X Y → RelatedCondition A R Y G → priceAt A X q t <ℤ side G q → RefutesBy A (externalMovement (A .action q)) side R q t
+  unfolding ifLess ifSame
+  externalRefutes X Y G before after move related last =
+      record {
+        prices = λ i. ifLess i 2 X Y;
+        G = G;
+        layers = threeLayers (λ i. Condition (externalMovement (A .action q) .layer i .action) (ifLess i 2 X Y) (ifLess (suc i) 2 X Y)) before move after;
+        kept = threeLayers (λ i. externalMovement (A .action q) .layer i .step ≡ false → ifLess i 2 X Y ≡ ifLess (suc i) 2 X Y) (λ s. refl) (λ s. absurd (false-not (sym s))) (λ s. refl);
+        related = related;
+        last = last;
+      }
+
+-- document 01's rule: nothing is added
+nonePaid : (A : Automaton) (n q : ℕ) (f : Flow) → Paid A n q f none
+unfolding brought none
+nonePaid A n q f =
+    omega (arith, ap (λ (z : ℕ). A .denominator q * z) (sumZero n (λ i. sum (A .transitions) (λ r. f .k i r * 0)) (λ i l. sumZero (A .transitions) _ (λ r j. omega arith))))
+
 pub plainDuality : WeakDuality Met PlainRefutes
-unfolding SoundAutomaton
-plainDuality A sound R q t p i j refutes W inside m = go (tablesRaised (A .states) p) (ℕ-discrete (A .action q) 0)
-  where
-    go : {c : ℕ} → TablesRaised (A .states) c p → Dec (A .action q ≡ 0) → ⊥
-    go {c} x (yes e) =
-        let h = refutes .internal e in
-        internalContradiction A sound W q t j _ _ (priceRaised A c (x .first) (x .first) sound (h .internal)) (λ v u l k o. relatedRaised A c (x .first) (x .second) (h .related) v u l k (inside v u o)) (lastRaised A c (x .first) (x .second) (sound q i) j (h .last)) (m .internal e)
-    go {c} x (no n) =
-        let h = refutes .external n in
-        externalContradiction A sound W q t j _ _ _ (priceRaised A c (x .first) (x .first) sound (h .before)) (priceRaised A c (x .second) (x .second) sound (h .after)) (priceRaised A c (x .first) (x .second) sound (h .move)) (λ v u l k o. relatedRaised A c (x .second) (x .third) (h .related) v u l k (inside v u o)) (lastRaised A c (x .first) (x .third) (sound q i) j (h .last)) (m .external n)
+unfolding SoundAutomaton none
+plainDuality =
+    dualityBy plainBy
+    (λ A sound R q t p h. record {
+      side = priceOfTargets A;
+      a = none;
+      b = none;
+      adds = record { raised = λ {c} {Y} y r i. raisedMore 0 (priceOfTargetsRaised A c Y y r (sound r i)) };
+      refutes =
+          eitherMovement (λ m. RefutesBy A m (priceOfTargets A) R q t)
+          (λ e. let x = h .internal e in internalRefutes A _ R q t _ _ (x .internal .holds) (x .related) (x .last .holds))
+          (λ n. let x = h .external n in externalRefutes A _ R q t _ _ _ (x .before .holds) (x .after .holds) (x .move .holds) (x .related) (x .last .holds));
+      paid = λ f more. (nonePaid A _ q f, nonePaid A _ q f);
+    })

@@ -6,14 +6,14 @@ use Rattle.bisimulation.specs.definitions.Choice.{ifSame}
 use Rattle.bisimulation.specs.argument.ChoiceLaws.{notSame}
 use Rattle.bisimulation.specs.definitions.Sum.{sum}
 use Rattle.bisimulation.specs.argument.SumLaws.{sumCong, sumZero}
-use Rattle.bisimulation.specs.argument.Own.{none}
+use Rattle.bisimulation.specs.argument.Once.{none}
 use Rattle.bisimulation.specs.definitions.Automaton.{Automaton, SoundAutomaton}
-use Rattle.bisimulation.specs.definitions.StepRule.{arriving, leaving, overTargets, overSources, Met}
+use Rattle.bisimulation.specs.definitions.StepRule.{arriving, leaving, overTargets, overSources, StepRule}
 use Rattle.bisimulation.specs.definitions.Joined.{IsJoined}
 use Rattle.bisimulation.specs.argument.Parts.{parts, nothing, square}
 use Rattle.bisimulation.specs.argument.PartsLaws.{byParts, inFirst, inSecond, partsCong, raisedSame, sumSplit, atFirsts, atOver, atBack, atSeconds}
-use Rattle.bisimulation.specs.argument.Moves.{start, Uses, Internally, Moves, Relates, Couples, Answers}
-use Rattle.bisimulation.specs.argument.MovesLaws.{metAnswers, answersMet, internallyCong, movesCong, still, nothingCouples, couplesCong}
+use Rattle.bisimulation.specs.argument.Moves.{Layer, Movement, start, Uses, Through, Moves, Relates, Couples, MetBy, Nothing, ByMovement}
+use Rattle.bisimulation.specs.argument.MovesLaws.{movesCong, still, nothingCouples, couplesCong}
 
 -- nothing is linked
 pub nothingFor : (A : Automaton) (v : ℕ) → overTargets A nothing v ≡ 0
@@ -145,71 +145,59 @@ module _ (A B J : Automaton) (j : IsJoined A B J) where
         (λ r l u. j .firstAction r l ∙ first r l (omega (arith, inFirst a k h r l)))
         (λ r l u. j .secondAction r l ∙ second r l (omega (arith, inSecond a k h r)))
 
-    internallyBeside : {x y x′ y′ : ℕ → ℕ} → Internally A x y → Internally B x′ y′ → Internally J (parts n x x′) (parts n y y′)
-    internallyBeside {x} {y} {x′} {y′} first second =
-        let k = first .k in
-        let h = second .k in
+    throughBeside : {l : Layer} {k h x y x′ y′ : ℕ → ℕ} → Through A l k x y → Through B l h x′ y′ → Through J l (parts a k h) (parts n x x′) (parts n y y′)
+    throughBeside {l} {k} {h} {x} {y} {x′} {y′} first second =
         record {
-          k = parts a k h;
-          uses = usesBeside 0 k h (first .uses) (second .uses);
+          uses = usesBeside (l .action) k h (first .uses) (second .uses);
           balance =
               eachState (λ v. parts n x x′ v + arriving J (parts a k h) v ≡ leaving J (parts a k h) v + parts n y y′ v)
-              (λ v l. omega (arith, inFirst n x x′ v l, inFirst n y y′ v l, arrivingFirst k h v l, leavingFirst k h v l, first .balance v l))
-              (λ v l. omega (arith, inSecond n x x′ v, inSecond n y y′ v, arrivingSecond k h v l, leavingSecond k h sound v, second .balance v l));
+              (λ v i. omega (arith, inFirst n x x′ v i, inFirst n y y′ v i, arrivingFirst k h v i, leavingFirst k h v i, first .balance v i))
+              (λ v i. omega (arith, inSecond n x x′ v, inSecond n y y′ v, arrivingSecond k h v i, leavingSecond k h sound v, second .balance v i));
+          all = λ s.
+              eachState (λ v. leaving J (parts a k h) v ≡ parts n x x′ v)
+              (λ v i. leavingFirst k h v i ∙ first .all s v i ∙ sym (inFirst n x x′ v i))
+              (λ v i. leavingSecond k h sound v ∙ second .all s v i ∙ sym (inSecond n x x′ v));
         }
 
-    pub movesBeside : {b : ℕ} {x y x′ y′ : ℕ → ℕ} → Moves A b x y → Moves B b x′ y′ → Moves J b (parts (A .states) x x′) (parts (A .states) y y′)
-    movesBeside {b} {x} {y} {x′} {y′} first second =
+    pub movesBeside : {m : Movement} {k h : ℕ → ℕ → ℕ} {x y x′ y′ : ℕ → ℕ} → Moves A m k x y → Moves B m h x′ y′ → Moves J m (λ i. parts (A .transitions) (k i) (h i)) (parts (A .states) x x′) (parts (A .states) y y′)
+    movesBeside first second =
         record {
-          internal = λ e. internallyBeside (first .internal e) (second .internal e);
-          external = λ e.
-              let f = first .external e in
-              let s = second .external e in
-              record {
-                k = parts a (f .k) (s .k);
-                uses = usesBeside b (f .k) (s .k) (f .uses) (s .uses);
-                before = internallyCong (λ v l. refl) (leavingBoth (f .k) (s .k)) (internallyBeside (f .before) (s .before));
-                after = internallyCong (arrivingBoth (f .k) (s .k)) (λ v l. refl) (internallyBeside (f .after) (s .after));
-              };
+          between = λ i. parts n (first .between i) (second .between i);
+          starts = endsBoth (first .starts) (second .starts);
+          through = λ i l. throughBeside (first .through i l) (second .through i l);
+          ends = endsBoth (first .ends) (second .ends);
         }
       where
-        leavingBoth : (k h : ℕ → ℕ) (v : ℕ) → v < J .states → parts n (leaving A k) (leaving B h) v ≡ leaving J (parts a k h) v
-        leavingBoth k h =
-            eachState (λ v. parts n (leaving A k) (leaving B h) v ≡ leaving J (parts a k h) v)
-            (λ v l. inFirst n _ _ v l ∙ sym (leavingFirst k h v l))
-            (λ v l. inSecond n _ _ v ∙ sym (leavingSecond k h sound v))
-
-        arrivingBoth : (k h : ℕ → ℕ) (v : ℕ) → v < J .states → parts n (arriving A k) (arriving B h) v ≡ arriving J (parts a k h) v
-        arrivingBoth k h =
-            eachState (λ v. parts n (arriving A k) (arriving B h) v ≡ arriving J (parts a k h) v)
-            (λ v l. inFirst n _ _ v l ∙ sym (arrivingFirst k h v l))
-            (λ v l. inSecond n _ _ v ∙ sym (arrivingSecond k h v l))
+        endsBoth : {x y x′ y′ : ℕ → ℕ} → ((v : ℕ) → v < n → x v ≡ y v) → ((v : ℕ) → v < B .states → x′ v ≡ y′ v) → (v : ℕ) → v < J .states → parts n x x′ v ≡ parts n y y′ v
+        endsBoth {x} {y} {x′} {y′} f s =
+            eachState (λ v. parts n x x′ v ≡ parts n y y′ v)
+            (λ v l. inFirst n x x′ v l ∙ f v l ∙ sym (inFirst n y y′ v l))
+            (λ v l. inSecond n x x′ v ∙ s v l ∙ sym (inSecond n y y′ v))
 
     -- one moves and the other does not
-    pub movesFirst : {b : ℕ} {y : ℕ → ℕ} (t D : ℕ) → t < A .states → Moves A b (start t D) y → Moves J b (start t D) (parts (A .states) y none)
+    pub movesFirst : {m : Movement} {k : ℕ → ℕ → ℕ} {y : ℕ → ℕ} (t D : ℕ) → t < A .states → Moves A m k (start t D) y → Moves J m (λ i. parts (A .transitions) (k i) none) (start t D) (parts (A .states) y none)
     unfolding start none
-    movesFirst {b} t D below m =
+    movesFirst {m} t D below o =
         movesCong
         (eachState (λ v. parts n (start t D) none v ≡ start t D v) (λ v l. inFirst n _ _ v l) (λ v l. inSecond n _ _ v ∙ notSame _ (omega arith) refl))
-        (λ v l. refl) refl (movesBeside m (still B b))
+        (λ v l. refl) refl (movesBeside o (still B m))
 
-    pub movesSecond : {b : ℕ} {y : ℕ → ℕ} (t D : ℕ) → Moves B b (start t D) y → Moves J b (start (A .states + t) D) (parts (A .states) none y)
+    pub movesSecond : {m : Movement} {k : ℕ → ℕ → ℕ} {y : ℕ → ℕ} (t D : ℕ) → Moves B m k (start t D) y → Moves J m (λ i. parts (A .transitions) none (k i)) (start (A .states + t) D) (parts (A .states) none y)
     unfolding start none
-    movesSecond {b} t D m =
+    movesSecond {m} t D o =
         movesCong
         (eachState (λ v. parts n none (start t D) v ≡ start (n + t) D v) (λ v l. inFirst n _ _ v l ∙ notSame _ (omega arith) refl) (λ v l. inSecond n _ _ v ∙ sym (raisedSame n v t D 0)))
-        (λ v l. refl) refl (movesBeside (still A b) m)
+        (λ v l. refl) refl (movesBeside (still A m) o)
 
     -- a state of one of them answers a challenger of both
-    module _ (W : ℕ → ℕ → Type 0) (q t D : ℕ) (one : 1 ≤ D) where
-      pub firstAnswers : (firsts over : ℕ → ℕ → ℕ) → t < A .states → Moves A (J .action q) (start t D) (λ v. overTargets A firsts v + overTargets B over v) → Couples W (A .states) (A .states) (J .denominator q) D (J .weight q) firsts → Couples (λ v u. W v (A .states + u)) (A .states) (B .states) (J .denominator q) D (λ u. J .weight q (A .states + u)) over → Answers J W q t
+    module _ {m : Movement} {k : ℕ → ℕ → ℕ} (W : ℕ → ℕ → Type 0) (q t D : ℕ) (one : 1 ≤ D) where
+      pub firstAnswers : (firsts over : ℕ → ℕ → ℕ) → t < A .states → Moves A m k (start t D) (λ v. overTargets A firsts v + overTargets B over v) → Couples W (A .states) (A .states) (J .denominator q) D (J .weight q) firsts → Couples (λ v u. W v (A .states + u)) (A .states) (B .states) (J .denominator q) D (λ u. J .weight q (A .states + u)) over → MetBy J m (Nothing J q t) W q t
       unfolding overSources
-      firstAnswers firsts over below m f o =
+      firstAnswers firsts over below moves f o =
           record {
-            D = D;
-            w = square n firsts over nothing nothing;
+            flow = record { D = D; k = λ i. parts a (k i) none; w = square n firsts over nothing nothing };
             atLeastOne = one;
-            moves = movesCong (λ v l. refl) (λ v l. partsCong n (λ x. refl) (nothingTo A B) v ∙ overTargetsParts firsts over nothing nothing v l) refl (movesFirst t D below m);
+            moves = movesCong (λ v l. refl) (λ v l. partsCong n (λ x. refl) (nothingTo A B) v ∙ overTargetsParts firsts over nothing nothing v l) refl (movesFirst t D below moves);
             couples =
                 record {
                   related = relatesParts firsts over nothing nothing W (f .related) (o .related) (nothingRelated _ _ _) (nothingRelated _ _ _);
@@ -218,16 +206,16 @@ module _ (A B J : Automaton) (j : IsJoined A B J) where
                       (λ u l. ap (λ (z : ℕ). J .denominator q * z) (omega (arith, nothingFrom B u)) ∙ f .target u l)
                       (λ u l. ap (λ (z : ℕ). J .denominator q * z) (omega (arith, nothingFrom B u)) ∙ o .target u l);
                 };
+            more = tt;
           }
 
-      pub secondAnswers : (back seconds : ℕ → ℕ → ℕ) → Moves B (J .action q) (start t D) (λ v. overTargets A back v + overTargets B seconds v) → Couples (λ v u. W (A .states + v) u) (B .states) (A .states) (J .denominator q) D (J .weight q) back → Couples (λ v u. W (A .states + v) (A .states + u)) (B .states) (B .states) (J .denominator q) D (λ u. J .weight q (A .states + u)) seconds → Answers J W q (A .states + t)
+      pub secondAnswers : (back seconds : ℕ → ℕ → ℕ) → Moves B m k (start t D) (λ v. overTargets A back v + overTargets B seconds v) → Couples (λ v u. W (A .states + v) u) (B .states) (A .states) (J .denominator q) D (J .weight q) back → Couples (λ v u. W (A .states + v) (A .states + u)) (B .states) (B .states) (J .denominator q) D (λ u. J .weight q (A .states + u)) seconds → MetBy J m (Nothing J q (A .states + t)) W q (A .states + t)
       unfolding overSources
-      secondAnswers back seconds m b s =
+      secondAnswers back seconds moves b s =
           record {
-            D = D;
-            w = square n nothing nothing back seconds;
+            flow = record { D = D; k = λ i. parts a none (k i); w = square n nothing nothing back seconds };
             atLeastOne = one;
-            moves = movesCong (λ v l. refl) (λ v l. partsCong n (nothingTo A B) (λ x. refl) v ∙ overTargetsParts nothing nothing back seconds v l) refl (movesSecond t D m);
+            moves = movesCong (λ v l. refl) (λ v l. partsCong n (nothingTo A B) (λ x. refl) v ∙ overTargetsParts nothing nothing back seconds v l) refl (movesSecond t D moves);
             couples =
                 record {
                   related = relatesParts nothing nothing back seconds W (nothingRelated _ _ _) (nothingRelated _ _ _) (b .related) (s .related);
@@ -236,25 +224,25 @@ module _ (A B J : Automaton) (j : IsJoined A B J) where
                       (λ u l. ap (λ (z : ℕ). J .denominator q * z) (omega (arith, nothingFrom A u)) ∙ b .target u l)
                       (λ u l. ap (λ (z : ℕ). J .denominator q * z) (omega (arith, nothingFrom A u)) ∙ s .target u l);
                 };
+            more = tt;
           }
 
-    -- what is met in one of them is met in both, for a relation that has its pairs there
-    pub firstMet : (W Wide : ℕ → ℕ → Type 0) → ((v u : ℕ) → v < A .states → u < A .states → W v u → Wide v u) → (q t : ℕ) → q < A .transitions → t < A .states → Met A W q t → Met J Wide q t
-    firstMet W Wide wider q t l below m =
-        let x = metAnswers A W q t m in
-        let moves : Moves A (J .action q) (start t (x .D)) (λ v. overTargets A (x .w) v + overTargets B nothing v) =
-        movesCong (λ v i. refl) (λ v i. omega (arith, nothingFor B v)) (sym (j .firstAction q l)) (x .moves) in
-        answersMet J Wide q t
-        (firstAnswers Wide q t (x .D) (x .atLeastOne) (x .w) nothing below moves
-        (couplesCong wider (j .firstDenominator q l) (λ u i. j .firstWeight q u l i) (x .couples))
-        (nothingCouples (λ u i. j .firstOnly q (n + u) l (omega arith))))
+    -- what is met in one of them by a movement is met in both, for a relation that has its pairs there
+    module _ {met : StepRule} {movement : ℕ → Movement} (by : ByMovement met movement Nothing) (W Wide : ℕ → ℕ → Type 0) where
+      pub firstMet : ((v u : ℕ) → v < A .states → u < A .states → W v u → Wide v u) → (q t : ℕ) → q < A .transitions → t < A .states → met A W q t → met J Wide q t
+      firstMet wider q t l below m =
+          let x = by .to A W q t m in
+          by .from J Wide q t
+          (firstAnswers Wide q t (x .flow .D) (x .atLeastOne) (x .flow .w) nothing below
+          (movesCong (λ v i. refl) (λ v i. omega (arith, nothingFor B v)) (ap movement (sym (j .firstAction q l))) (x .moves))
+          (couplesCong wider (j .firstDenominator q l) (λ u i. j .firstWeight q u l i) (x .couples))
+          (nothingCouples (λ u i. j .firstOnly q (n + u) l (omega arith))))
 
-    pub secondMet : (W Wide : ℕ → ℕ → Type 0) → ((v u : ℕ) → v < B .states → u < B .states → W v u → Wide (A .states + v) (A .states + u)) → (q t : ℕ) → q < B .transitions → Met B W q t → Met J Wide (A .transitions + q) (A .states + t)
-    secondMet W Wide wider q t l m =
-        let x = metAnswers B W q t m in
-        let moves : Moves B (J .action (a + q)) (start t (x .D)) (λ v. overTargets A nothing v + overTargets B (x .w) v) =
-        movesCong (λ v i. refl) (λ v i. omega (arith, nothingFor A v)) (sym (j .secondAction q l)) (x .moves) in
-        answersMet J Wide (a + q) (n + t)
-        (secondAnswers Wide (a + q) t (x .D) (x .atLeastOne) nothing (x .w) moves
-        (nothingCouples (λ u i. j .secondOnly q u l i))
-        (couplesCong wider (j .secondDenominator q l) (λ u i. j .secondWeight q u l i) (x .couples)))
+      pub secondMet : ((v u : ℕ) → v < B .states → u < B .states → W v u → Wide (A .states + v) (A .states + u)) → (q t : ℕ) → q < B .transitions → met B W q t → met J Wide (A .transitions + q) (A .states + t)
+      secondMet wider q t l m =
+          let x = by .to B W q t m in
+          by .from J Wide (a + q) (n + t)
+          (secondAnswers Wide (a + q) t (x .flow .D) (x .atLeastOne) nothing (x .flow .w)
+          (movesCong (λ v i. refl) (λ v i. omega (arith, nothingFor A v)) (ap movement (sym (j .secondAction q l))) (x .moves))
+          (nothingCouples (λ u i. j .secondOnly q u l i))
+          (couplesCong wider (j .secondDenominator q l) (λ u i. j .secondWeight q u l i) (x .couples)))

@@ -1,5 +1,5 @@
 -- Prices with a sign, raised by one number so that none is negative.
-use Prim.Native.Nat.{ℕ, suc, _+_, _*_, _-_, _≤_, _<_}
+use Prim.Native.Nat.{ℕ, suc, _+_, _-_, _≤_, _<_}
 use mathlib.Core.Path.{_≡_}
 use lib.IntN.{ℤ, pos, negsuc, natAbs}
 use Rattle.bisimulation.specs.definitions.Sum.{sum}
@@ -21,9 +21,3 @@ pub record RaisedBy (n c : ℕ) (X : ℕ → ℤ) : Type 0 where
 -- a number that is enough for the first n prices
 unfoldable pub magnitudes : ℕ → (ℕ → ℤ) → ℕ
 magnitudes n p = sum n (λ i. natAbs (p i))
-
--- c is enough for three times n prices that follow each other
-pub record TablesRaised (n c : ℕ) (p : ℕ → ℤ) : Type 0 where
-  pub first : RaisedBy n c p
-  pub second : RaisedBy n c (λ v. p (n + v))
-  pub third : RaisedBy n c (λ v. p (2 * n + v))

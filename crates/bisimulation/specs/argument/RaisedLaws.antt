@@ -10,12 +10,12 @@ use borrow.Author.Tests.{ltb-true, ltb-false}
 use native.Mathlib.Omega.{arith}
 use Rattle.bisimulation.specs.definitions.Sum.{sum, sumℤ}
 use Rattle.bisimulation.specs.argument.SumLaws.{sumTimesRight, termLe}
-use Rattle.bisimulation.specs.definitions.Automaton.{Automaton, SoundTransition, SoundAutomaton}
+use Rattle.bisimulation.specs.definitions.Automaton.{Automaton, SoundTransition}
 use Rattle.bisimulation.specs.definitions.Prices.{priceAt, priceOfTargets}
 use Rattle.bisimulation.specs.definitions.Pairs.{Pairs}
-use Rattle.bisimulation.specs.definitions.Refutation.{PriceCondition, RelatedCondition, LastCondition}
-use Rattle.bisimulation.specs.argument.Value.{value, Feasible, FeasibleFor}
-use Rattle.bisimulation.specs.argument.Raised.{Raised, above, below, raise, RaisedBy, magnitudes, TablesRaised}
+use Rattle.bisimulation.specs.definitions.Refutation.{RelatedCondition}
+use Rattle.bisimulation.specs.argument.Value.{value}
+use Rattle.bisimulation.specs.argument.Raised.{Raised, above, below, raise, RaisedBy, magnitudes}
 
 pub raisedLe : {c k l : ℕ} {y z : ℤ} → Raised c k y → Raised c l z → y ≤ℤ z → k ≤ l
 raisedLe (above a p) (above b q) h = omega (arith, leb→le a b (h .le))
@@ -69,14 +69,6 @@ pub magnitudesEnough : (n : ℕ) (p : ℕ → ℤ) (i : ℕ) → i < n → natAb
 unfolding magnitudes
 magnitudesEnough n p i l = termLe n (λ j. natAbs (p j)) i l
 
-pub tablesRaised : (n : ℕ) (p : ℕ → ℤ) → TablesRaised n (magnitudes (3 * n) p) p
-tablesRaised n p =
-    record {
-      first = record { enough = λ v l. magnitudesEnough (3 * n) p v (omega arith) };
-      second = record { enough = λ v l. magnitudesEnough (3 * n) p (n + v) (omega arith) };
-      third = record { enough = λ v l. magnitudesEnough (3 * n) p (2 * n + v) (omega arith) };
-    }
-
 module _ (A : Automaton) (c : ℕ) where
   module _ (X : ℕ → ℤ) (x : RaisedBy (A .states) c X) where
     pub priceAtRaised : (q v : ℕ) → v < A .states → Raised (A .denominator q * c) (A .denominator q * raise c (X v)) (priceAt A X q v)
@@ -93,17 +85,5 @@ module _ (A : Automaton) (c : ℕ) where
         total = sumTimesRight (A .states) c (A .weight q) ∙ ap (λ (d : ℕ). d * c) (sound .whole)
 
   module _ {X Y : ℕ → ℤ} (x : RaisedBy (A .states) c X) (y : RaisedBy (A .states) c Y) where
-    -- each kind of condition, for raised prices
-    pub feasibleRaised : (r : ℕ) → SoundTransition A r → priceOfTargets A Y r ≤ℤ priceAt A X r (A .source r) → Feasible A (λ v. raise c (X v)) (λ v. raise c (Y v)) r
-    unfolding Feasible
-    feasibleRaised r sound h = raisedLe (priceOfTargetsRaised Y y r sound) (priceAtRaised X x r (A .source r) (sound .from)) h
-
-    pub priceRaised : SoundAutomaton A → {a : ℕ} → PriceCondition A a X Y → FeasibleFor A a (λ v. raise c (X v)) (λ v. raise c (Y v))
-    unfolding SoundAutomaton
-    priceRaised sound h r l e = feasibleRaised r (sound r l) (h .holds r l e)
-
     pub relatedRaised : {R : Pairs} → RelatedCondition A R X Y → (v u : ℕ) → v < A .states → u < A .states → R v u ≡ true → raise c (Y u) ≤ raise c (X v)
     relatedRaised h v u l k e = raisedLe (raiseRaised c (Y u) (y .enough u k)) (raiseRaised c (X v) (x .enough v l)) (h .holds v u l k e)
-
-    pub lastRaised : {q t : ℕ} → SoundTransition A q → t < A .states → LastCondition A q t X Y → A .denominator q * raise c (X t) < value (A .states) (A .weight q) (λ v. raise c (Y v))
-    lastRaised {q} {t} sound l h = raisedLt (priceAtRaised X x q t l) (priceOfTargetsRaised Y y q sound) (h .holds)

@@ -1,9 +1,8 @@
 -- A flow for one spelling of an automaton, scaled to a flow for another: every number by the product of the new denominators, and k so
 -- that no probability changes.
-use Prim.Native.Nat.{ℕ, _*_, _/_, _≤_, _<_}
+use Prim.Native.Nat.{ℕ, _*_, _/_, _<_}
 use mathlib.Core.Path.{_≡_, sym, _∙_, ap}
-use mathlib.Core.Logic.{_⊎_, inl, inr}
-use native.Mathlib.Nat.{eq-zero-or-pos, mul-pos, mul-comm, div-mul-cancel, eq-of-mul-eq-mul-left}
+use native.Mathlib.Nat.{mul-pos, mul-comm, div-mul-cancel, eq-of-mul-eq-mul-left}
 use native.Mathlib.Omega.{arith}
 use Rattle.bisimulation.specs.definitions.Choice.{ifSame}
 use Rattle.bisimulation.specs.argument.ChoiceLaws.{timesSame}
@@ -13,7 +12,10 @@ use Rattle.bisimulation.specs.argument.Product.{product}
 use Rattle.bisimulation.specs.argument.ProductLaws.{productPositive, factorDivides}
 use Rattle.bisimulation.specs.definitions.Rule.{MetRespelled}
 use Rattle.bisimulation.specs.definitions.Automaton.{Automaton, SoundAutomaton, SameProbabilities}
-use Rattle.bisimulation.specs.definitions.StepRule.{Flow, Holds, arriving, leaving, overTargets, overSources, beforeMove, afterMove, internalMove, atTarget, MetExternal, MetInternal, Met}
+use Rattle.bisimulation.specs.definitions.StepRule.{Flow, arriving, leaving, overTargets, StepRule, Met}
+use Rattle.bisimulation.specs.argument.Moves.{Movement, Besides, ByMovement}
+use Rattle.bisimulation.specs.argument.MovesLaws.{usedTimes, movesCong, Scaled, movesScaled, startTimes}
+use Rattle.bisimulation.specs.argument.PlainMoves.{plainBy}
 
 -- the product of the denominators
 unfoldable pub multiple : Automaton → ℕ
@@ -32,23 +34,10 @@ respelledFlow A B f =
       w = λ v u. multiple B * f .w v u;
     }
 
--- where a multiple of x is used, so is x
-usedTimes : (x y : ℕ) → 0 < x * y → 0 < x
-usedTimes x y l = go (eq-zero-or-pos x)
-  where
-    go : (x ≡ 0) ⊎ (0 < x) → 0 < x
-    go (inl e) = absurd (omega (arith, ap (λ (z : ℕ). z * y) e))
-    go (inr h) = h
-
 module _ (A B : Automaton) (soundA : SoundAutomaton A) (soundB : SoundAutomaton B) (e : SameProbabilities A B) where
   pub multiplePositive : 0 < multiple B
   unfolding multiple SoundAutomaton
   multiplePositive = productPositive (B .transitions) (B .denominator) (λ r l. soundB r l .positive)
-
-  -- what a layer uses
-  pub respelledUsed : (k : ℕ → ℕ) (r : ℕ) → 0 < respelledLayer A B k r → 0 < k r
-  unfolding respelledLayer
-  respelledUsed k r l = usedTimes (k r) (A .denominator r) (usedTimes (k r * A .denominator r) (multiple B / B .denominator r) l)
 
   -- the share of a denominator in the multiple
   share : (r : ℕ) → r < B .transitions → multiple B / B .denominator r * B .denominator r ≡ multiple B
@@ -91,77 +80,43 @@ module _ (A B : Automaton) (soundA : SoundAutomaton A) (soundB : SoundAutomaton 
   unfolding overTargets
   overTargetsRespelled w v = sumTimes (B .states) (multiple B) (λ u. w v u) ∙ ap (λ (n : ℕ). multiple B * sum n (λ u. w v u)) (sym (e .states))
 
-  pub overSourcesRespelled : (w : ℕ → ℕ → ℕ) (u : ℕ) → overSources B (λ v x. multiple B * w v x) u ≡ multiple B * overSources A w u
-  unfolding overSources
-  overSourcesRespelled w u = sumTimes (B .states) (multiple B) (λ v. w v u) ∙ ap (λ (n : ℕ). multiple B * sum n (λ v. w v u)) (sym (e .states))
-
-  pub startRespelled : (D v t : ℕ) → ifSame v t (multiple B * D) 0 ≡ multiple B * ifSame v t D 0
-  startRespelled D v t = ap (λ (z : ℕ). ifSame v t z 0) (mul-comm (multiple B) D) ∙ sym (timesSame v t D (multiple B)) ∙ mul-comm _ _
-
-  -- the equations at the targets
-  pub targetRespelled : (f : Flow) (q u : ℕ) → q < A .transitions → u < A .states → Holds (atTarget A f q u) → Holds (atTarget B (respelledFlow A B f) q u)
-  unfolding atTarget respelledFlow SoundAutomaton
-  targetRespelled f q u i j h =
+  layerRespelled : (k : ℕ → ℕ) → Scaled A B (multiple B) k (respelledLayer A B k)
+  unfolding respelledLayer
+  layerRespelled k =
       record {
-        equal =
-            ap (λ (z : ℕ). B .denominator q * z) (overSourcesRespelled (f .w) u)
-            ∙ eq-of-mul-eq-mul-left (A .denominator q) (soundA q i .positive) _ _
-            (omega (arith, ap (λ (z : ℕ). B .denominator q * multiple B * z) (h .equal), ap (λ (z : ℕ). multiple B * f .D * z) (e .probability q u i j)));
+        uses = λ a h r l u. sym (e .action r (omega arith)) ∙ h r (omega arith) (usedTimes (k r) (A .denominator r) (usedTimes (k r * A .denominator r) (multiple B / B .denominator r) u));
+        arrives = λ v l. arrivingRespelled k v l;
+        leaves = λ v l. leavingRespelled k v;
       }
 
-  pub respelledAtLeastOne : (f : Flow) → 1 ≤ f .D → 1 ≤ respelledFlow A B f .D
-  unfolding respelledFlow
-  respelledAtLeastOne f l = mul-pos multiplePositive l
+  -- the equations at the targets
+  targetRespelled : (w : ℕ → ℕ → ℕ) (D q u : ℕ) → q < A .transitions → u < A .states → A .denominator q * sum (A .states) (λ v. w v u) ≡ A .weight q u * D → B .denominator q * sum (B .states) (λ v. multiple B * w v u) ≡ B .weight q u * (multiple B * D)
+  unfolding SoundAutomaton
+  targetRespelled w D q u i j h =
+      ap (λ (z : ℕ). B .denominator q * z) (sumTimes (B .states) (multiple B) (λ v. w v u) ∙ ap (λ (n : ℕ). multiple B * sum n (λ v. w v u)) (sym (e .states)))
+      ∙ eq-of-mul-eq-mul-left (A .denominator q) (soundA q i .positive) _ _
+      (omega (arith, ap (λ (z : ℕ). B .denominator q * multiple B * z) h, ap (λ (z : ℕ). multiple B * D * z) (e .probability q u i j)))
 
-  -- a used transition keeps its action, and used pairs stay linked
-  pub respelledAction : (a : ℕ) (k : ℕ → ℕ) → ((r : ℕ) → r < A .transitions → 0 < k r → A .action r ≡ a) → (r : ℕ) → r < B .transitions → 0 < respelledLayer A B k r → B .action r ≡ a
-  respelledAction a k h r l u = sym (e .action r (omega arith)) ∙ h r (omega arith) (respelledUsed k r u)
-
-  pub respelledRelated : (W : ℕ → ℕ → Type 0) (f : Flow) → ((v u : ℕ) → v < A .states → u < A .states → 0 < f .w v u → W v u) → (v u : ℕ) → v < B .states → u < B .states → 0 < respelledFlow A B f .w v u → W v u
-  unfolding respelledFlow
-  respelledRelated W f h v u l j z = h v u (omega arith) (omega arith) (usedTimes (f .w v u) (multiple B) (omega arith))
-
-  -- what is met is met by the scaled flow
-  module _ (W : ℕ → ℕ → Type 0) (q t : ℕ) (i : q < A .transitions) where
-    unfoldable pub internalRespelled : MetInternal A W q t → MetInternal B W q t
-    unfolding respelledFlow internalMove
-    internalRespelled m =
-        let f = m .flow in
-        record {
-          flow = respelledFlow A B f;
-          atLeastOne = respelledAtLeastOne f (m .atLeastOne);
-          layer0 = respelledAction 0 (f .k 0) (m .layer0);
-          related = respelledRelated W f (m .related);
-          move = λ v l. let j : v < A .states = omega arith in record {
-            equal = omega (arith, startRespelled (f .D) v t, arrivingRespelled (f .k 0) v j, leavingRespelled (f .k 0) v, overTargetsRespelled (f .w) v, ap (λ (z : ℕ). multiple B * z) (m .move v j .equal));
-          };
-          target = λ u l. let j : u < A .states = omega arith in targetRespelled f q u i j (m .target u j);
-        }
-
-    unfoldable pub externalRespelled : MetExternal A W q t → MetExternal B W q t
-    unfolding respelledFlow beforeMove afterMove
-    externalRespelled m =
-        let f = m .flow in
-        record {
-          flow = respelledFlow A B f;
-          atLeastOne = respelledAtLeastOne f (m .atLeastOne);
-          layer0 = respelledAction 0 (f .k 0) (m .layer0);
-          layer1 = λ r l u. respelledAction (A .action q) (f .k 1) (m .layer1) r l u ∙ e .action q i;
-          layer2 = respelledAction 0 (f .k 2) (m .layer2);
-          related = respelledRelated W f (m .related);
-          before = λ v l. let j : v < A .states = omega arith in record {
-            equal = omega (arith, startRespelled (f .D) v t, arrivingRespelled (f .k 0) v j, leavingRespelled (f .k 0) v, leavingRespelled (f .k 1) v, ap (λ (z : ℕ). multiple B * z) (m .before v j .equal));
-          };
-          after = λ v l. let j : v < A .states = omega arith in record {
-            equal = omega (arith, arrivingRespelled (f .k 1) v j, arrivingRespelled (f .k 2) v j, leavingRespelled (f .k 2) v, overTargetsRespelled (f .w) v, ap (λ (z : ℕ). multiple B * z) (m .after v j .equal));
-          };
-          target = λ u l. let j : u < A .states = omega arith in targetRespelled f q u i j (m .target u j);
-        }
+-- what is met by a movement is met by the scaled flow
+pub respelledBy : {met : StepRule} {movement : ℕ → Movement} {More : Besides} → ByMovement met movement More → ((A B : Automaton) → SoundAutomaton A → SoundAutomaton B → SameProbabilities A B → (q t : ℕ) (f : Flow) → q < A .transitions → More A q t f → More B q t (respelledFlow A B f)) → MetRespelled met
+unfolding respelledFlow
+respelledBy {movement = movement} by more A B soundA soundB e W q t i m =
+    let o = by .to A W q t m in
+    let f = o .flow in
+    by .from B W q t
+    (record {
+      flow = respelledFlow A B f;
+      atLeastOne = mul-pos (multiplePositive A B soundA soundB e) (o .atLeastOne);
+      moves =
+          movesCong (λ v l. startTimes (multiple B) t (f .D) v) (λ v l. sym (overTargetsRespelled A B soundA soundB e (f .w) v)) (ap movement (e .action q i))
+          (movesScaled (multiple B) (sym (e .states)) (λ l. layerRespelled A B soundA soundB e (f .k l)) (o .moves));
+      couples = record {
+        related = λ v u l j z. o .couples .related v u (omega (arith, e .states)) (omega (arith, e .states)) (usedTimes (f .w v u) (multiple B) (omega arith));
+        target = λ u l. let j : u < A .states = omega (arith, e .states) in targetRespelled A B soundA soundB e (f .w) (f .D) q u i j (o .couples .target u j);
+      };
+      more = more A B soundA soundB e q t f i (o .more);
+    })
 
 -- document 01's rule
 pub plainRespelled : MetRespelled Met
-plainRespelled A B soundA soundB e W q t i m =
-    record {
-      internal = λ a. internalRespelled A B soundA soundB e W q t i (m .internal (e .action q i ∙ a));
-      external = λ n. externalRespelled A B soundA soundB e W q t i (m .external (λ a. n (sym (e .action q i) ∙ a)));
-    }
+plainRespelled = respelledBy plainBy (λ A B soundA soundB e q t f i m. tt)

@@ -13,6 +13,10 @@ module _ (n : ℕ) where
   unfolding value
   valueCong f g X h = sumCong n _ _ (λ v l. ap (λ (z : ℕ). z * X v) (h v l))
 
+  pub valuePrices : (f X Y : ℕ → ℕ) → ((v : ℕ) → v < n → X v ≡ Y v) → value n f X ≡ value n f Y
+  unfolding value
+  valuePrices f X Y h = sumCong n _ _ (λ v l. ap (λ (z : ℕ). f v * z) (h v l))
+
   pub valueAdd : (f g X : ℕ → ℕ) → value n (λ v. f v + g v) X ≡ value n f X + value n g X
   unfolding value
   valueAdd f g X = sumCong n _ (λ v. f v * X v + g v * X v) (λ v l. omega arith) ∙ sumAdd n (λ v. f v * X v) (λ v. g v * X v)

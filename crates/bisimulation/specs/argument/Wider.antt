@@ -1,38 +1,24 @@
--- What document 01's step rule meets for a relation it meets for a wider one.
+-- What is met by a movement for a relation is met for a wider one, by the same flow.
 use Prim.Native.Nat.{ℕ}
-use Rattle.bisimulation.specs.definitions.Automaton.{Automaton}
-use Rattle.bisimulation.specs.definitions.StepRule.{Met, MetExternal, MetInternal}
+use mathlib.Core.Path.{refl}
+use Rattle.bisimulation.specs.definitions.StepRule.{StepRule, Met}
 use Rattle.bisimulation.specs.definitions.Rule.{MetWider}
+use Rattle.bisimulation.specs.argument.Moves.{Movement, Besides, ByMovement}
+use Rattle.bisimulation.specs.argument.MovesLaws.{couplesCong}
+use Rattle.bisimulation.specs.argument.PlainMoves.{plainBy}
 
--- by the same flow
-module _ {A : Automaton} {W Wide : ℕ → ℕ → Type 0} (wider : (v u : ℕ) → W v u → Wide v u) {q t : ℕ} where
-  unfoldable pub external-wider : MetExternal A W q t → MetExternal A Wide q t
-  external-wider m =
-      record {
-        flow = m .flow;
-        atLeastOne = m .atLeastOne;
-        layer0 = m .layer0;
-        layer1 = m .layer1;
-        layer2 = m .layer2;
-        related = λ v u l k some. wider v u (m .related v u l k some);
-        before = m .before;
-        after = m .after;
-        target = m .target;
-      }
+pub widerBy : {met : StepRule} {movement : ℕ → Movement} {More : Besides} → ByMovement met movement More → MetWider met
+widerBy by A W Wide wider q t m =
+    let o = by .to A W q t m in
+    by .from A Wide q t
+    (record {
+      flow = o .flow;
+      atLeastOne = o .atLeastOne;
+      moves = o .moves;
+      couples = couplesCong (λ v u i j. wider v u) refl (λ u i. refl) (o .couples);
+      more = o .more;
+    })
 
-  unfoldable pub internal-wider : MetInternal A W q t → MetInternal A Wide q t
-  internal-wider m =
-      record {
-        flow = m .flow;
-        atLeastOne = m .atLeastOne;
-        layer0 = m .layer0;
-        related = λ v u l k some. wider v u (m .related v u l k some);
-        move = m .move;
-        target = m .target;
-      }
-
-  met-wider : Met A W q t → Met A Wide q t
-  met-wider m = record { internal = λ e. internal-wider (m .internal e); external = λ n. external-wider (m .external n) }
-
+-- document 01's rule
 pub plainWider : MetWider Met
-plainWider A W Wide wider q t m = met-wider wider m
+plainWider = widerBy plainBy

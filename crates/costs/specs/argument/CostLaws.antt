@@ -11,7 +11,7 @@ use Rattle.bisimulation.specs.argument.ChoiceLaws.{same, notSame}
 use Rattle.bisimulation.specs.argument.SumLaws.{sumCong, sumZero, sumTimes}
 use Rattle.bisimulation.specs.argument.Value.{value}
 use Rattle.bisimulation.specs.argument.ValueLaws.{valueSame}
-use Rattle.bisimulation.specs.argument.Own.{once, none}
+use Rattle.bisimulation.specs.argument.Once.{once, none}
 use Rattle.bisimulation.specs.argument.Respelled.{multiple, respelledLayer, respelledDenominator}
 use Rattle.costs.specs.definitions.CostStepRule.{costOfLayer, layers, costEquation}
 

@@ -4,9 +4,7 @@ use Rattle.bisimulation.specs.definitions.Rule.{Rule}
 use Rattle.costs.specs.definitions.CostStepRule.{CostMet}
 use Rattle.costs.specs.definitions.CostRefutation.{CostRefutes}
 use Rattle.costs.specs.argument.CostDuality.{costDuality}
-use Rattle.costs.specs.argument.CostOwn.{costOwn}
-use Rattle.costs.specs.argument.CostRespelled.{costRespelled}
-use Rattle.costs.specs.argument.CostWider.{costWider}
+use Rattle.costs.specs.argument.CostMoves.{costOwn, costRespelled, costWider}
 
 -- the rule for the costs of one model
 abbrev pub costRule : (cost : ℕ → ℕ) → Rule

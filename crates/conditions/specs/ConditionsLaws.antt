@@ -20,7 +20,7 @@ use Rattle.bisimulation.specs.definitions.Prices.{priceAt, priceOfTargets}
 use Rattle.rules.specs.definitions.Limits.{limits}
 use Rattle.rules.specs.definitions.Reading.{statesOf, countOf, entriesAt}
 use Rattle.rules.specs.definitions.Faults.{Fault}
-use Rattle.rules.specs.definitions.PlainRule.{allWithAction}
+use Rattle.rules.specs.definitions.PlainRule.{priceCondition, allWithAction, below, lastFault}
 use Rattle.rules.specs.argument.BreakLaws.{by-test}
 use Rattle.costs.specs.definitions.CostPrices.{priceWithCost}
 use Rattle.cost_files.specs.definitions.CostModel.{highestCost}
@@ -130,7 +130,7 @@ side-fits a small e = omega (arith, ap natAbs (e .back), side-small a small, cos
 
 -- it and d times the price of the source are the two sides of the condition
 pub condition-is : {kind : Kind} {s : List ℕ} {r : ℕ} {f : Fields} {l : ℤ} {y : List ℤ} {z : ℤ} (x : List ℤ) → FieldsOf s r f → IsSide kind s r l y z → leZ (toZ w64 (ofZ w64 z)) (pos (f .denominator) *ℤ priceIn x (f .source)) ≡ costCondition (costIn kind s) (automatonIn s) l (priceIn x) (priceIn y) r
-unfolding costCondition priceAt
+unfolding priceCondition priceAt
 condition-is x h e = ap₂ leZ (e .back) (ap₂ (λ (d v : ℕ). pos d *ℤ priceIn x v) (h .denominator) (h .source))
 
 -- d times the price of t and it are the two sides of the last condition
@@ -181,7 +181,7 @@ module _ {kind : Kind} {s places : List ℕ} {count q t : ℕ} {l : ℤ} {x g : 
 
   -- the remainder of 16 fits 8 bytes
   pub last-fits : mag (lastCostFault (costIn kind s) (automatonIn s) l (priceIn x) (priceIn g) q t .remainder) < 2 ^ 48 * (1 + costIn kind s q)
-  unfolding lastCostFault
+  unfolding lastFault below
   last-fits = by-test (λ (f : Fault). mag (f .remainder) < 2 ^ 48 * (1 + costIn kind s q)) _ (λ e. omega arith) (λ e. off-fits)
 
   -- so the machine reads it back from its bits

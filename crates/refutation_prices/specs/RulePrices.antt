@@ -17,10 +17,11 @@ use Rattle.rules.specs.definitions.Bytes.{signedAt}
 use Rattle.rules.specs.definitions.Reading.{statesOf, modelAt}
 use Rattle.rules.specs.argument.SoundModelLaws.{sound-automaton}
 use Rattle.rules.specs.definitions.Faults as rules
-use Rattle.rules.specs.definitions.PlainRule.{byKind, plainPriceCount, allRelated, plainPricesFault}
+use Rattle.rules.specs.definitions.PlainRule.{byKind, plainPriceCount, priceCondition, allRelated, below, lastFault, internalPricesFault, externalPricesFault, plainPricesFault}
 use Rattle.rules.specs.argument.PlainDecides.{AlikeOnStates, price-same}
+use Rattle.costs.specs.definitions.CostPrices.{priceWithCost}
 use Rattle.costs.specs.definitions.CostRefutation.{priceAfter}
-use Rattle.cost_files.specs.definitions.CostFile.{costCondition, lastCostFault, internalCostPricesFault, externalCostPricesFault, costPricesFault}
+use Rattle.cost_files.specs.definitions.CostFile.{costCondition, lastCostFault, costPricesFault}
 use Rattle.cost_files.specs.argument.CostDecides.{with-cost-same}
 use Rattle.rule_kind.specs.declared.Kind.{Kind}
 use Rattle.rule_kind.specs.declared.Kind.the-variants.{Plain, Costs}
@@ -105,12 +106,12 @@ module _ (cost : ℕ → ℕ) (A : Automaton) (L : ℤ) (R : Pairs) (q t : ℕ) 
   abbrev rest : (X Y G : ℕ → ℤ) → rules.Fault
   rest X Y G = unlessTrue (allRelated A R Y G) (rules.fault 15) (lastCostFault cost A L X G q t)
 
-  conditions-internal : (X G : ℕ → ℤ) → conditionsFault cost A L R 0 q t X X G ≡ internalCostPricesFault cost A R q t X G L
-  unfolding conditionsFault internalCostPricesFault
+  conditions-internal : (X G : ℕ → ℤ) → conditionsFault cost A L R 0 q t X X G ≡ internalPricesFault A (priceWithCost cost A L) R q t X G
+  unfolding conditionsFault internalPricesFault
   conditions-internal X G = ap (λ (b : Bool). unlessTrue b (rules.fault 15) (rest X X G)) (fair-internal cost A L X)
 
-  conditions-external : (X Y G : ℕ → ℤ) → 0 < A .action q → conditionsFault cost A L R (A .action q) q t X Y G ≡ externalCostPricesFault cost A R q t X Y G L
-  unfolding conditionsFault externalCostPricesFault
+  conditions-external : (X Y G : ℕ → ℤ) → 0 < A .action q → conditionsFault cost A L R (A .action q) q t X Y G ≡ externalPricesFault A (priceWithCost cost A L) R q t X Y G
+  unfolding conditionsFault externalPricesFault
   conditions-external X Y G external =
       ap (λ (b : Bool). unlessTrue b (rules.fault 15) (rest X Y G)) (fair-external cost A L (A .action q) X Y external)
       ∙ unless-both _ _ _ _
@@ -122,12 +123,12 @@ record Alike (A : Automaton) (X X′ : ℕ → ℤ) : Type 0 where
 
 module _ {A : Automaton} {X X′ G G′ : ℕ → ℤ} (x : Alike A X X′) (g : Alike A G G′) (cost : ℕ → ℕ) (L : ℤ) where
   condition-same : SoundAutomaton A → (r : ℕ) → r < A .transitions → costCondition cost A L X G r ≡ costCondition cost A L X′ G′ r
-  unfolding costCondition SoundAutomaton
+  unfolding priceCondition SoundAutomaton
   condition-same sound r less =
       ap₂ leZ (with-cost-same cost A L G G′ (g .held) r) (price-same A X X′ (x .held) r (A .source r) (sound r less .from))
 
   last-same : (q t : ℕ) → t < A .states → lastCostFault cost A L X G q t ≡ lastCostFault cost A L X′ G′ q t
-  unfolding lastCostFault
+  unfolding lastFault below
   last-same q t less =
       ap₂ (λ (l r : ℤ). unlessTrue (ltZ l r) (rules.faultBy 16 t (l -ℤ r)) rules.noFault)
       (price-same A X X′ (x .held) q t less) (with-cost-same cost A L G G′ (g .held) q)
@@ -153,18 +154,18 @@ module _ {A : Automaton} {X X′ Y Y′ G G′ : ℕ → ℤ} (x : Alike A X X�
       ∙ ap (λ (f : rules.Fault). unlessTrue (allFair cost A L a X′ Y′) (rules.fault 15) (unlessTrue (allRelated A R Y′ G′) (rules.fault 15) f)) (last-same x g cost L q t less)
 
 -- with the costs of the rule they are the rule's: of a rule without costs by the cost 0
-rule-internal : (kind : Kind) (s : List ℕ) (A : Automaton) (R : Pairs) (q t : ℕ) (C : List ℕ) (at : ℕ) {L : ℤ} → L ≡ furtherAt kind C (at + 4 * (2 * A .states)) → A .action q ≡ 0 → internalCostPricesFault (costIn kind s) A R q t (λ v. signedAt C (at + 4 * v)) (λ v. signedAt C (at + 4 * (A .states + v))) L ≡ ruleOf kind s .pricesFault A R q t (λ i. signedAt C (at + 4 * i))
+rule-internal : (kind : Kind) (s : List ℕ) (A : Automaton) (R : Pairs) (q t : ℕ) (C : List ℕ) (at : ℕ) {L : ℤ} → L ≡ furtherAt kind C (at + 4 * (2 * A .states)) → A .action q ≡ 0 → internalPricesFault A (priceWithCost (costIn kind s) A L) R q t (λ v. signedAt C (at + 4 * v)) (λ v. signedAt C (at + 4 * (A .states + v))) ≡ ruleOf kind s .pricesFault A R q t (λ i. signedAt C (at + 4 * i))
 unfolding plainPricesFault costPricesFault byKind priceAfter
 rule-internal Plain s A R q t C at {L} further internal = free-internal A L R q t _ _ ∙ same _ internal refl
 rule-internal Costs s A R q t C at further internal =
-    ap (internalCostPricesFault (costIn Costs s) A R q t (λ v. signedAt C (at + 4 * v)) (λ v. signedAt C (at + 4 * (A .states + v)))) further
+    ap (λ (z : ℤ). internalPricesFault A (priceWithCost (costIn Costs s) A z) R q t (λ v. signedAt C (at + 4 * v)) (λ v. signedAt C (at + 4 * (A .states + v)))) further
     ∙ same _ internal refl
 
-rule-external : (kind : Kind) (s : List ℕ) (A : Automaton) (R : Pairs) (q t : ℕ) (C : List ℕ) (at : ℕ) {L : ℤ} → L ≡ furtherAt kind C (at + 4 * (3 * A .states)) → (A .action q ≡ 0 → ⊥) → externalCostPricesFault (costIn kind s) A R q t (λ v. signedAt C (at + 4 * v)) (λ v. signedAt C (at + 4 * (A .states + v))) (λ v. signedAt C (at + 4 * (2 * A .states + v))) L ≡ ruleOf kind s .pricesFault A R q t (λ i. signedAt C (at + 4 * i))
+rule-external : (kind : Kind) (s : List ℕ) (A : Automaton) (R : Pairs) (q t : ℕ) (C : List ℕ) (at : ℕ) {L : ℤ} → L ≡ furtherAt kind C (at + 4 * (3 * A .states)) → (A .action q ≡ 0 → ⊥) → externalPricesFault A (priceWithCost (costIn kind s) A L) R q t (λ v. signedAt C (at + 4 * v)) (λ v. signedAt C (at + 4 * (A .states + v))) (λ v. signedAt C (at + 4 * (2 * A .states + v))) ≡ ruleOf kind s .pricesFault A R q t (λ i. signedAt C (at + 4 * i))
 unfolding plainPricesFault costPricesFault byKind priceAfter
 rule-external Plain s A R q t C at {L} further external = free-external A L R q t _ _ _ ∙ notSame _ external refl
 rule-external Costs s A R q t C at further external =
-    ap (externalCostPricesFault (costIn Costs s) A R q t (λ v. signedAt C (at + 4 * v)) (λ v. signedAt C (at + 4 * (A .states + v))) (λ v. signedAt C (at + 4 * (2 * A .states + v)))) further
+    ap (λ (z : ℤ). externalPricesFault A (priceWithCost (costIn Costs s) A z) R q t (λ v. signedAt C (at + 4 * v)) (λ v. signedAt C (at + 4 * (A .states + v))) (λ v. signedAt C (at + 4 * (2 * A .states + v)))) further
     ∙ notSame _ external refl
 
 -- the tests of the prices that the tables hold are those of the prices in the record

@@ -3,7 +3,6 @@ use Prim.Native.Nat.{ℕ, suc, _+_, _*_, _<_}
 use mathlib.Core.Path.{_≡_, refl, sym, ap}
 use mathlib.Core.Bool.{true, false}
 use lib.IntN.{ℤ}
-use lib.Signed.{_≤ℤ_, _<ℤ_}
 use native.Mathlib.Omega.{arith}
 use Rattle.bisimulation.specs.definitions.Choice.{ifLess, ifSame}
 use Rattle.bisimulation.specs.argument.ChoiceLaws.{false-not}
@@ -11,22 +10,18 @@ use Rattle.bisimulation.specs.definitions.Sum.{sum}
 use Rattle.bisimulation.specs.argument.SumLaws.{sumZero, termLe}
 use Rattle.bisimulation.specs.definitions.Automaton.{Automaton, SoundAutomaton}
 use Rattle.bisimulation.specs.definitions.StepRule.{Flow, StepRule, Met}
-use Rattle.bisimulation.specs.definitions.Prices.{priceAt, priceOfTargets}
+use Rattle.bisimulation.specs.definitions.Prices.{Side, priceOfTargets}
 use Rattle.bisimulation.specs.definitions.Pairs.{Pairs}
-use Rattle.bisimulation.specs.definitions.Refutation.{RelatedCondition, PlainRefutes}
+use Rattle.bisimulation.specs.definitions.Refutation.{PriceCondition, RelatedCondition, LastCondition, RefutesInternal, RefutesExternal, PlainRefutes}
 use Rattle.bisimulation.specs.definitions.Rule.{PriceRule, WeakDuality}
 use Rattle.bisimulation.specs.argument.Once.{none}
 use Rattle.bisimulation.specs.argument.Value.{value}
 use Rattle.bisimulation.specs.argument.ValueLaws.{valueSame}
-use Rattle.bisimulation.specs.argument.Moves.{Movement, internalMovement, externalMovement, plainMovement, start, MetBy, Besides, Nothing, ByMovement}
+use Rattle.bisimulation.specs.argument.Moves.{Movement, internalMovement, externalMovement, start, MetBy, Besides, ByMovement}
 use Rattle.bisimulation.specs.argument.PlainMoves.{eitherMovement, threeLayers, plainBy}
 use Rattle.bisimulation.specs.argument.Layers.{brought, LayerPriced, movesPriced, coupled, targetContradiction}
 use Rattle.bisimulation.specs.argument.Raised.{Raised, raise, RaisedBy, magnitudes}
 use Rattle.bisimulation.specs.argument.RaisedLaws.{raisedLe, raisedLt, raisedMore, magnitudesEnough, priceAtRaised, priceOfTargetsRaised, relatedRaised}
-
--- the side of the targets of a price condition: of given prices and a transition
-abbrev pub Side : Type 0
-Side = (ℕ → ℤ) → ℕ → ℤ
 
 -- what a side adds to the sum of p(v)A(v): for prices that are raised by c it is a on this side, b on the other
 pub record Adds (A : Automaton) (side : Side) (a b : ℕ → ℕ) : Type 0 where
@@ -40,10 +35,10 @@ Paid A n q f a = A .denominator q * brought A (f .k) a n ≡ f .D * a q
 pub record RefutesBy (A : Automaton) (m : Movement) (side : Side) (R : Pairs) (q t : ℕ) : Type 0 where
   pub prices : ℕ → ℕ → ℤ
   pub G : ℕ → ℤ
-  pub layers : (i : ℕ) → i < m .count → (r : ℕ) → r < A .transitions → A .action r ≡ m .layer i .action → side (prices (suc i)) r ≤ℤ priceAt A (prices i) r (A .source r)
+  pub layers : (i : ℕ) → i < m .count → PriceCondition A side (m .layer i .action) (prices i) (prices (suc i))
   pub kept : (i : ℕ) → i < m .count → m .layer i .step ≡ false → prices i ≡ prices (suc i)
   pub related : RelatedCondition A R (prices (m .count)) G
-  pub last : priceAt A (prices 0) q t <ℤ side G q
+  pub last : LastCondition A side q t (prices 0) G
 
 module _ (A : Automaton) (sound : SoundAutomaton A) (m : Movement) {side : Side} {a b : ℕ → ℕ} (adds : Adds A side a b) (R : Pairs) (q t : ℕ) (h : RefutesBy A m side R q t) where
   -- raised by so much, no price is negative
@@ -66,12 +61,12 @@ module _ (A : Automaton) (sound : SoundAutomaton A) (m : Movement) {side : Side}
         valueSame (A .states) t (o .flow .D) (λ v. raise enough (h .prices 0 v)) j,
         coupled A (o .flow .w) (λ v. raise enough (h .prices (m .count) v)) (λ u. raise enough (h .G u)) (λ v u k l z. relatedRaised A enough (pricesRaised (m .count) (omega arith)) targetsRaised (h .related) v u k l (inside v u (o .couples .related v u k l z))),
       ))
-      (raisedLt (raisedMore (b q) (priceAtRaised A enough (h .prices 0) (pricesRaised 0 (omega arith)) q t j)) (adds .raised targetsRaised q i) (h .last))
+      (raisedLt (raisedMore (b q) (priceAtRaised A enough (h .prices 0) (pricesRaised 0 (omega arith)) q t j)) (adds .raised targetsRaised q i) (h .last .holds))
     where
       priced : (i : ℕ) → i < m .count → LayerPriced A (m .layer i) a b (λ v. raise enough (h .prices i v)) (λ v. raise enough (h .prices (suc i) v))
       priced i l =
           record {
-            feasible = λ r k e. raisedLe (adds .raised (pricesRaised (suc i) (omega arith)) r k) (raisedMore (b r) (priceAtRaised A enough (h .prices i) (pricesRaised i (omega arith)) r (A .source r) (sound r k .from))) (h .layers i l r k e);
+            feasible = λ r k e. raisedLe (adds .raised (pricesRaised (suc i) (omega arith)) r k) (raisedMore (b r) (priceAtRaised A enough (h .prices i) (pricesRaised i (omega arith)) r (A .source r) (sound r k .from))) (h .layers i l .holds r k e);
             kept = λ s v k. ap (λ (X : ℕ → ℤ). raise enough (X v)) (h .kept i l s);
           }
 
@@ -91,25 +86,21 @@ dualityBy by refuted A sound R q t p i j h W inside m =
     let paid = x .paid (o .flow) (o .more) in
     contradiction A sound _ (x .adds) R q t (x .refutes) _ W inside i j o (paid .0) (paid .1)
 
--- the conditions of document 01's movements, whatever the side of the targets: for each transition with the action a, from the prices X of its
--- source to the prices Y of its targets
-module _ (A : Automaton) (side : Side) (R : Pairs) (q t : ℕ) where
-  abbrev Condition : ℕ → (X Y : ℕ → ℤ) → Type 0
-  Condition a X Y = (r : ℕ) → r < A .transitions → A .action r ≡ a → side Y r ≤ℤ priceAt A X r (A .source r)
+-- the conditions of each kind of challenger, whatever the side of the targets
+module _ {A : Automaton} {side : Side} {R : Pairs} {q t : ℕ} where
+  pub internalRefutes : {X G : ℕ → ℤ} → RefutesInternal A side R q t X G → RefutesBy A internalMovement side R q t
+  internalRefutes {X} {G} h = record { prices = λ i. X; G = G; layers = λ i l. h .internal; kept = λ i l s. refl; related = h .related; last = h .last }
 
-  pub internalRefutes : (X G : ℕ → ℤ) → Condition 0 X X → RelatedCondition A R X G → priceAt A X q t <ℤ side G q → RefutesBy A internalMovement side R q t
-  internalRefutes X G internal related last = record { prices = λ i. X; G = G; layers = λ i l. internal; kept = λ i l s. refl; related = related; last = last }
-
-  pub externalRefutes : (X Y G : ℕ → ℤ) → Condition 0 X X → Condition 0 Y Y → Condition (A .action q) X Y → RelatedCondition A R Y G → priceAt A X q t <ℤ side G q → RefutesBy A (externalMovement (A .action q)) side R q t
+  pub externalRefutes : {X Y G : ℕ → ℤ} → RefutesExternal A side R q t X Y G → RefutesBy A (externalMovement (A .action q)) side R q t
   unfolding ifLess ifSame
-  externalRefutes X Y G before after move related last =
+  externalRefutes {X} {Y} {G} h =
       record {
         prices = λ i. ifLess i 2 X Y;
         G = G;
-        layers = threeLayers (λ i. Condition (externalMovement (A .action q) .layer i .action) (ifLess i 2 X Y) (ifLess (suc i) 2 X Y)) before move after;
+        layers = threeLayers (λ i. PriceCondition A side (externalMovement (A .action q) .layer i .action) (ifLess i 2 X Y) (ifLess (suc i) 2 X Y)) (h .before) (h .move) (h .after);
         kept = threeLayers (λ i. externalMovement (A .action q) .layer i .step ≡ false → ifLess i 2 X Y ≡ ifLess (suc i) 2 X Y) (λ s. refl) (λ s. absurd (false-not (sym s))) (λ s. refl);
-        related = related;
-        last = last;
+        related = h .related;
+        last = h .last;
       }
 
 -- document 01's rule: nothing is added
@@ -128,8 +119,6 @@ plainDuality =
       b = none;
       adds = record { raised = λ {c} {Y} y r i. raisedMore 0 (priceOfTargetsRaised A c Y y r (sound r i)) };
       refutes =
-          eitherMovement (λ m. RefutesBy A m (priceOfTargets A) R q t)
-          (λ e. let x = h .internal e in internalRefutes A _ R q t _ _ (x .internal .holds) (x .related) (x .last .holds))
-          (λ n. let x = h .external n in externalRefutes A _ R q t _ _ _ (x .before .holds) (x .after .holds) (x .move .holds) (x .related) (x .last .holds));
+          eitherMovement (λ m. RefutesBy A m (priceOfTargets A) R q t) (λ e. internalRefutes (h .internal e)) (λ n. externalRefutes (h .external n));
       paid = λ f more. (nonePaid A _ q f, nonePaid A _ q f);
     })

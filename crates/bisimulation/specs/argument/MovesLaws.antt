@@ -1,6 +1,6 @@
 -- The laws of movements: amounts that are equal, scaled, or stay; a transition done once; what is coupled.
 use Prim.Native.Nat.{ℕ, suc, _*_, _≤_, _<_}
-use mathlib.Core.Path.{_≡_, refl, sym, _∙_, ap, subst}
+use mathlib.Core.Path.{_≡_, refl, sym, _∙_, ap, ap₂, subst}
 use mathlib.Core.Logic.{_⊎_, inl, inr}
 use mathlib.Core.Bool.{true}
 use native.Mathlib.Decide.{ℕ-discrete, decLt}
@@ -83,6 +83,25 @@ pub record Scaled (A B : Automaton) (c : ℕ) (k h : ℕ → ℕ) : Type 0 where
   pub arrives : (v : ℕ) → v < A .states → arriving B h v ≡ c * arriving A k v
   pub leaves : (v : ℕ) → v < A .states → leaving B h v ≡ c * leaving A k v
 
+-- it is so where its products with d and p(v) are, for transitions with the same sources and actions
+pub scaled : {A B : Automaton} {c : ℕ} {k h : ℕ → ℕ} → A .transitions ≡ B .transitions → ((r : ℕ) → r < A .transitions → A .source r ≡ B .source r) → ((r : ℕ) → r < A .transitions → A .action r ≡ B .action r) → ((r : ℕ) → 0 < h r → 0 < k r) → ((r : ℕ) → r < B .transitions → h r * B .denominator r ≡ c * (k r * A .denominator r)) → ((r v : ℕ) → r < B .transitions → v < A .states → h r * B .weight r v ≡ c * (k r * A .weight r v)) → Scaled A B c k h
+unfolding arriving leaving
+scaled {A} {B} {c} {k} {h} e source action used denominator weight =
+    record {
+      uses = λ a u r l z. sym (action r (omega arith)) ∙ u r (omega arith) (used r z);
+      arrives = λ v j. all _ _ (λ r l. weight r v l j);
+      leaves = λ v j. all _ _ (λ r l. left r v l);
+    }
+  where
+    all : (f g : ℕ → ℕ) → ((r : ℕ) → r < B .transitions → f r ≡ c * g r) → sum (B .transitions) f ≡ c * sum (A .transitions) g
+    all f g row = sumCong (B .transitions) f (λ r. c * g r) row ∙ sumTimes (B .transitions) c g ∙ ap (λ (n : ℕ). c * sum n g) (sym e)
+
+    left : (r v : ℕ) → r < B .transitions → ifSame (B .source r) v (h r * B .denominator r) 0 ≡ c * ifSame (A .source r) v (k r * A .denominator r) 0
+    left r v l =
+        ap₂ (λ (s z : ℕ). ifSame s v z 0) (sym (source r (omega arith))) (denominator r l ∙ mul-comm c _)
+        ∙ sym (timesSame (A .source r) v (k r * A .denominator r) c)
+        ∙ mul-comm _ c
+
 pub movesScaled : {A B : Automaton} {m : Movement} {k h : ℕ → ℕ → ℕ} {x y : ℕ → ℕ} (c : ℕ) → B .states ≡ A .states → ((i : ℕ) → Scaled A B c (k i) (h i)) → Moves A m k x y → Moves B m h (λ v. c * x v) (λ v. c * y v)
 movesScaled {A} {m = m} c e s o =
     record {
@@ -97,30 +116,9 @@ movesScaled {A} {m = m} c e s o =
     }
 
 -- every number times c
-module _ (A : Automaton) (c : ℕ) where
-  arrivingTimes : (k : ℕ → ℕ) (v : ℕ) → arriving A (λ r. c * k r) v ≡ c * arriving A k v
-  unfolding arriving
-  arrivingTimes k v = sumCong (A .transitions) _ _ (λ r l. omega arith) ∙ sumTimes (A .transitions) c (λ r. k r * A .weight r v)
-
-  leavingTimes : (k : ℕ → ℕ) (v : ℕ) → leaving A (λ r. c * k r) v ≡ c * leaving A k v
-  unfolding leaving
-  leavingTimes k v = sumCong (A .transitions) _ _ (λ r l. row r) ∙ sumTimes (A .transitions) c (λ r. ifSame (A .source r) v (k r * A .denominator r) 0)
-    where
-      row : (r : ℕ) → ifSame (A .source r) v (c * k r * A .denominator r) 0 ≡ c * ifSame (A .source r) v (k r * A .denominator r) 0
-      row r =
-          let e : c * k r * A .denominator r ≡ k r * A .denominator r * c = omega arith in
-          ap (λ (z : ℕ). ifSame (A .source r) v z 0) e
-          ∙ sym (timesSame (A .source r) v (k r * A .denominator r) c)
-          ∙ mul-comm _ c
-
-  pub movesTimes : {m : Movement} {k : ℕ → ℕ → ℕ} {x y : ℕ → ℕ} → Moves A m k x y → Moves A m (λ i r. c * k i r) (λ v. c * x v) (λ v. c * y v)
-  movesTimes {k = k} =
-      movesScaled c refl
-      (λ i. record {
-        uses = λ a h r l u. h r l (usedTimes (k i r) c (omega arith));
-        arrives = λ v l. arrivingTimes (k i) v;
-        leaves = λ v l. leavingTimes (k i) v;
-      })
+pub movesTimes : (A : Automaton) (c : ℕ) {m : Movement} {k : ℕ → ℕ → ℕ} {x y : ℕ → ℕ} → Moves A m k x y → Moves A m (λ i r. c * k i r) (λ v. c * x v) (λ v. c * y v)
+movesTimes A c {k = k} =
+    movesScaled c refl (λ i. scaled refl (λ r l. refl) (λ r l. refl) (λ r u. usedTimes (k i r) c (omega arith)) (λ r l. omega arith) (λ r v l j. omega arith))
 
 pub startTimes : (c t D v : ℕ) → c * start t D v ≡ start t (c * D) v
 unfolding start

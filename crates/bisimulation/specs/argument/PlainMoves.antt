@@ -1,6 +1,6 @@
 -- Document 01's step rule says what its movements say, and they can do the challenger once.
 use Prim.Native.Nat.{ℕ, zero, suc, _<_}
-use mathlib.Core.Path.{_≡_, refl, sym, _∙_, subst}
+use mathlib.Core.Path.{_≡_, refl, sym, subst}
 use mathlib.Core.Logic.{_≢_}
 use mathlib.Core.Bool.{true}
 use native.Mathlib.Decide.{ℕ-discrete}
@@ -9,7 +9,7 @@ use Rattle.bisimulation.specs.definitions.Choice.{ifLess, ifSame}
 use Rattle.bisimulation.specs.argument.ChoiceLaws.{same, notSame, false-not}
 use Rattle.bisimulation.specs.definitions.Automaton.{Automaton}
 use Rattle.bisimulation.specs.definitions.StepRule.{Flow, arriving, leaving, overTargets, overSources, beforeMove, afterMove, internalMove, atTarget, MetExternal, MetInternal, Met}
-use Rattle.bisimulation.specs.argument.Moves.{Movement, internalMovement, externalMovement, plainMovement, start, Through, Moves, MetBy, Nothing, ByMovement, DoesOnce}
+use Rattle.bisimulation.specs.argument.Moves.{Movement, internalMovement, externalMovement, plainMovement, start, Through, MetBy, Nothing, ByMovement, DoesOnce}
 
 -- the movement by the challenger's kind
 byInternal : {a : ℕ} → a ≡ 0 → internalMovement ≡ plainMovement a

@@ -2,19 +2,17 @@
 -- that no probability changes.
 use Prim.Native.Nat.{ℕ, _*_, _/_, _<_}
 use mathlib.Core.Path.{_≡_, sym, _∙_, ap}
-use native.Mathlib.Nat.{mul-pos, mul-comm, div-mul-cancel, eq-of-mul-eq-mul-left}
+use native.Mathlib.Nat.{mul-pos, div-mul-cancel, eq-of-mul-eq-mul-left}
 use native.Mathlib.Omega.{arith}
-use Rattle.bisimulation.specs.definitions.Choice.{ifSame}
-use Rattle.bisimulation.specs.argument.ChoiceLaws.{timesSame}
 use Rattle.bisimulation.specs.definitions.Sum.{sum}
-use Rattle.bisimulation.specs.argument.SumLaws.{sumCong, sumTimes}
+use Rattle.bisimulation.specs.argument.SumLaws.{sumTimes}
 use Rattle.bisimulation.specs.argument.Product.{product}
 use Rattle.bisimulation.specs.argument.ProductLaws.{productPositive, factorDivides}
 use Rattle.bisimulation.specs.definitions.Rule.{MetRespelled}
 use Rattle.bisimulation.specs.definitions.Automaton.{Automaton, SoundAutomaton, SameProbabilities}
-use Rattle.bisimulation.specs.definitions.StepRule.{Flow, arriving, leaving, overTargets, StepRule, Met}
+use Rattle.bisimulation.specs.definitions.StepRule.{Flow, overTargets, StepRule, Met}
 use Rattle.bisimulation.specs.argument.Moves.{Movement, Besides, ByMovement}
-use Rattle.bisimulation.specs.argument.MovesLaws.{usedTimes, movesCong, Scaled, movesScaled, startTimes}
+use Rattle.bisimulation.specs.argument.MovesLaws.{usedTimes, movesCong, Scaled, scaled, movesScaled, startTimes}
 use Rattle.bisimulation.specs.argument.PlainMoves.{plainBy}
 
 -- the product of the denominators
@@ -55,39 +53,16 @@ module _ (A B : Automaton) (soundA : SoundAutomaton A) (soundB : SoundAutomaton 
     respelledWeight v j = omega (arith, ap (λ (z : ℕ). k r * A .weight r v * z) (share r l), ap (λ (z : ℕ). k r * (multiple B / B .denominator r) * z) (e .probability r v (omega arith) j))
 
   -- each side of an equation is scaled
-  pub arrivingRespelled : (k : ℕ → ℕ) (v : ℕ) → v < A .states → arriving B (respelledLayer A B k) v ≡ multiple B * arriving A k v
-  unfolding arriving
-  arrivingRespelled k v j =
-      sumCong (B .transitions) _ _ (λ r l. respelledWeight k r l v j)
-      ∙ sumTimes (B .transitions) (multiple B) (λ r. k r * A .weight r v)
-      ∙ ap (λ (n : ℕ). multiple B * sum n (λ r. k r * A .weight r v)) (sym (e .transitions))
-
-  pub leavingRespelled : (k : ℕ → ℕ) (v : ℕ) → leaving B (respelledLayer A B k) v ≡ multiple B * leaving A k v
-  unfolding leaving
-  leavingRespelled k v =
-      sumCong (B .transitions) _ _ (λ r l. row r l)
-      ∙ sumTimes (B .transitions) (multiple B) (λ r. ifSame (A .source r) v (k r * A .denominator r) 0)
-      ∙ ap (λ (n : ℕ). multiple B * sum n (λ r. ifSame (A .source r) v (k r * A .denominator r) 0)) (sym (e .transitions))
-    where
-      row : (r : ℕ) → r < B .transitions → ifSame (B .source r) v (respelledLayer A B k r * B .denominator r) 0 ≡ multiple B * ifSame (A .source r) v (k r * A .denominator r) 0
-      row r l =
-          ap (λ (s : ℕ). ifSame s v (respelledLayer A B k r * B .denominator r) 0) (sym (e .source r (omega arith)))
-          ∙ ap (λ (z : ℕ). ifSame (A .source r) v z 0) (respelledDenominator k r l ∙ mul-comm _ _)
-          ∙ sym (timesSame (A .source r) v (k r * A .denominator r) (multiple B))
-          ∙ mul-comm _ _
+  layerRespelled : (k : ℕ → ℕ) → Scaled A B (multiple B) k (respelledLayer A B k)
+  unfolding respelledLayer
+  layerRespelled k =
+      scaled (e .transitions) (e .source) (e .action)
+      (λ r u. usedTimes (k r) (A .denominator r) (usedTimes (k r * A .denominator r) (multiple B / B .denominator r) u))
+      (respelledDenominator k) (λ r v l. respelledWeight k r l v)
 
   pub overTargetsRespelled : (w : ℕ → ℕ → ℕ) (v : ℕ) → overTargets B (λ x u. multiple B * w x u) v ≡ multiple B * overTargets A w v
   unfolding overTargets
   overTargetsRespelled w v = sumTimes (B .states) (multiple B) (λ u. w v u) ∙ ap (λ (n : ℕ). multiple B * sum n (λ u. w v u)) (sym (e .states))
-
-  layerRespelled : (k : ℕ → ℕ) → Scaled A B (multiple B) k (respelledLayer A B k)
-  unfolding respelledLayer
-  layerRespelled k =
-      record {
-        uses = λ a h r l u. sym (e .action r (omega arith)) ∙ h r (omega arith) (usedTimes (k r) (A .denominator r) (usedTimes (k r * A .denominator r) (multiple B / B .denominator r) u));
-        arrives = λ v l. arrivingRespelled k v l;
-        leaves = λ v l. leavingRespelled k v;
-      }
 
   -- the equations at the targets
   targetRespelled : (w : ℕ → ℕ → ℕ) (D q u : ℕ) → q < A .transitions → u < A .states → A .denominator q * sum (A .states) (λ v. w v u) ≡ A .weight q u * D → B .denominator q * sum (B .states) (λ v. multiple B * w v u) ≡ B .weight q u * (multiple B * D)

@@ -9,6 +9,10 @@ use Rattle.bisimulation.specs.definitions.Automaton.{Automaton}
 unfoldable pub priceAt : Automaton → (ℕ → ℤ) → ℕ → ℕ → ℤ
 priceAt A X q x = pos (A .denominator q) *ℤ X x
 
+-- the side of the targets: of prices, and a transition
+abbrev pub Side : Type 0
+Side = (ℕ → ℤ) → ℕ → ℤ
+
 -- 'the sum of p(v)A(v)' for the weights of the transition q
-unfoldable pub priceOfTargets : Automaton → (ℕ → ℤ) → ℕ → ℤ
+unfoldable pub priceOfTargets : Automaton → Side
 priceOfTargets A X q = sumℤ (A .states) (λ v. pos (A .weight q v) *ℤ X v)

@@ -8,18 +8,17 @@ use native.Mathlib.Omega.{arith}
 use Rattle.bisimulation.specs.argument.ChoiceLaws.{eitherSame}
 use Rattle.bisimulation.specs.definitions.Automaton.{Automaton}
 use Rattle.bisimulation.specs.definitions.StepRule.{Flow}
-use Rattle.bisimulation.specs.definitions.Prices.{priceAt}
 use Rattle.bisimulation.specs.definitions.Pairs.{Pairs}
 use Rattle.rules.specs.definitions.Faults.{Fault, noFault}
 use Rattle.rules.specs.definitions.PlainRule.{byKind}
 use Rattle.rules.specs.argument.AnyRule.{Covers, NoneOr, AnswersOnly, CertificateRule}
 use Rattle.rules.specs.argument.FaultLaws.{told-fault, either-first}
 use Rattle.rules.specs.argument.LargestBlocks.{internal-met, external-met}
-use Rattle.rules.specs.argument.PlainRules.{PlainNumber, Own, none, price, orTrue, last-condition, plain-answers}
+use Rattle.rules.specs.argument.PlainRules.{PlainNumber, Own, none, internal-prices, external-prices, plain-answers}
 use Rattle.costs.specs.definitions.CostPrices.{priceWithCost}
 use Rattle.costs.specs.argument.Costs.{costRule}
 use Rattle.cost_files.specs.definitions.CostModel.{costOf}
-use Rattle.cost_files.specs.definitions.CostFile.{lastCostFault, internalCostPricesFault, externalCostPricesFault, costPricesFault, costEquationFault, costEquationsFault, costFile}
+use Rattle.cost_files.specs.definitions.CostFile.{costPricesFault, costEquationFault, costEquationsFault, costFile}
 use Rattle.cost_files.specs.definitions.CostSays.{costSays}
 use Rattle.cost_files.specs.argument.CostDecides.{cost-decides}
 
@@ -53,15 +52,9 @@ unfolding CostNumber
 own f h = record { number = ⊎-elim (λ z. inl z) (λ z. inr (inl z)) (h .number); told = h .told }
 
 module _ (cost : ℕ → ℕ) (A : Automaton) where
-  last : (L : ℤ) (X G : ℕ → ℤ) (q t : ℕ) → Own (lastCostFault cost A L X G q t)
-  unfolding lastCostFault
-  last L X G q t = last-condition (priceAt A X q t) (priceWithCost cost A L G q) t
-
   prices : (R : Pairs) (q t : ℕ) (p : ℕ → ℤ) → Own (costPricesFault cost A R q t p)
-  unfolding costPricesFault byKind internalCostPricesFault externalCostPricesFault
-  prices R q t p =
-      eitherSame Own _ _ (orTrue _ (orTrue _ (last _ _ _ q t) price) price)
-      (orTrue _ (orTrue _ (orTrue _ (orTrue _ (last _ _ _ q t) price) price) price) price)
+  unfolding costPricesFault byKind
+  prices R q t p = eitherSame Own _ _ (internal-prices A (priceWithCost cost A _) R q t _ _) (external-prices A (priceWithCost cost A _) R q t _ _ _)
 
   equation : (q : ℕ) (f : Flow) → NoneOr CostNumber (costEquationFault cost A q f)
   unfolding costEquationFault CostNumber

@@ -17,7 +17,7 @@ use Rattle.rules.specs.definitions.Reading.{statesOf, actionsOf, countOf, range
 use Rattle.rules.specs.definitions.Certificate.{refutationCount, certificateHeadFault, challengerAt, defenderAt, pricesAt, afterRefutation, pairFault, refutationFault, pairsAfter, blocksAt, numberedFault, sameBlock, agree, pairsFault, blocksFault, kCountAt, afterK, wCountAt, afterFlow, kOf, wOf, flowAt, kFault, wFault, flowFault}
 use Rattle.rules.specs.definitions.Encoding.{fourBytes, complement, priceBytes}
 use Rattle.rules.specs.definitions.Faults.{faultBy, fault, firstOf, openFault}
-use Rattle.rules.specs.definitions.PlainRule.{byKind, plainPriceCount, allWithAction, allRelated, internalInQuestion, externalInQuestion, plainInQuestion, breakFrom, firstBreak, internalEquationsFault, externalEquationsFault, plainEquationsFault, plainRule}
+use Rattle.rules.specs.definitions.PlainRule.{byKind, plainPriceCount, priceCondition, allWithAction, allRelated, below, lastFault, internalPricesFault, externalPricesFault, internalInQuestion, externalInQuestion, plainInQuestion, breakFrom, firstBreak, internalEquationsFault, externalEquationsFault, plainEquationsFault, plainRule}
 use Rattle.rules.specs.definitions.Judging.{accepted, rejected, rejectAt, questionsOfPair, questionsOfState, questionsFrom, questions, judgeFlows, judgeBlocks, judgeRefutations, judgeCertificate, judgeReading, judge}
 use Rattle.rules.specs.definitions.Answers.{Outcome, refusalIn, answerWithoutPlace, fileOf, judgementAnswer, unwritten, filled, judgedOutcome, readOutcome, pairOutcome, writesBlocks}
 use Rattle.rules.specs.cases.MoreCases.{FilesCase, outcomeOf}
@@ -26,7 +26,7 @@ use Rattle.costs.specs.definitions.CostRefutation.{priceAfter}
 use Rattle.costs.specs.definitions.CostStepRule.{costOfLayer, layers, costEquation}
 use Rattle.cost_files.specs.definitions.CostModel.{costOf, costsBytes, costModelBytes, transitionsEnd, costsIn, withoutCosts}
 use Rattle.cost_files.specs.definitions.CostReading.{costFault, scanCosts, scanCostRecord, scanCostModel, readCosts}
-use Rattle.cost_files.specs.definitions.CostFile.{costPriceCount, costCondition, lastCostFault, internalCostPricesFault, externalCostPricesFault, costPricesFault, costEquationFault, costEquationsFault, costFile}
+use Rattle.cost_files.specs.definitions.CostFile.{costPriceCount, costPricesFault, costEquationFault, costEquationsFault, costFile}
 
 -- three states with label 0, each goes to itself by action 1, state 0 with 2/2
 unfoldable pub senders : Model
@@ -196,7 +196,7 @@ cost-model-cases = (refl, refl, refl, refl, refl, refl)
 
 -- the tables; and for document 01's calls a cost model has bytes left, and a cost certificate another mark
 pub cost-cases : Each (λ (c : FilesCase). judge limits (readCosts limits) (costFile (costsIn (c .model))) (c .model) (c .certificate) ≡ c .expected) costCases × (judge limits (readWhole limits) plainRule sendersFile sendersCertificate ≡ rejected (fault 9) 1 41) × (judge limits (readWhole limits) plainRule (withoutCosts sendersFile) sendersCertificate ≡ rejected (fault 12) 2 0) × Each (λ (c : CostOutcomeCase). pairOutcome limits (readCosts limits) (costFile (costsIn (c .model))) writesBlocks (c .model) sendersCertificate (c .before) ≡ c .expected) costOutcomeCases
-unfolding ifLess ifSame ifTrue allBelow sum sumℤ arriving leaving overTargets overSources beforeMove afterMove internalMove atTarget priceAt priceOfTargets byteAt twoAt threeAt fourAt signedAt twoBytes fourBytes complement priceBytes weightOf automatonOf openFault statesOf actionsOf countOf rangeFault headFault labelFault labelsFault sourceAt actionAt denominatorAt entryCountAt afterTransition fixedFault fixedFaultAt entriesFault transitionFault refuseAt scanTransitions scanModel refuseBytesLeft scanWhole entriesAt transitionAt transitionsAt modelAt readingOf readWhole placeOf firstOf both equalLabels isPair removed refutationCount certificateHeadFault challengerAt defenderAt pricesAt afterRefutation pairFault refutationFault pairsAfter blocksAt numberedFault sameBlock agree pairsFault blocksFault kCountAt afterK wCountAt afterFlow kOf wOf flowAt kFault wFault flowFault byKind plainPriceCount allWithAction allRelated internalInQuestion externalInQuestion plainInQuestion breakFrom firstBreak internalEquationsFault externalEquationsFault plainEquationsFault rejectAt questionsOfPair questionsOfState questionsFrom questions judgeFlows judgeBlocks judgeRefutations judgeCertificate judgeReading judge Each priceWithCost priceAfter costOfLayer layers costEquation costOf costsBytes transitionsEnd costsIn withoutCosts costFault scanCosts scanCostRecord scanCostModel readCosts costPriceCount costCondition lastCostFault internalCostPricesFault externalCostPricesFault costPricesFault costEquationFault costEquationsFault sendersFile sendersCertificate stepsFile stepsCertificate stepsMetCertificate laterFile laterCertificate stillFile withPrice costCases refusalIn answerWithoutPlace fileOf judgementAnswer unwritten filled judgedOutcome readOutcome pairOutcome costOutcomeCases
+unfolding ifLess ifSame ifTrue allBelow sum sumℤ arriving leaving overTargets overSources beforeMove afterMove internalMove atTarget priceAt priceOfTargets byteAt twoAt threeAt fourAt signedAt twoBytes fourBytes complement priceBytes weightOf automatonOf openFault statesOf actionsOf countOf rangeFault headFault labelFault labelsFault sourceAt actionAt denominatorAt entryCountAt afterTransition fixedFault fixedFaultAt entriesFault transitionFault refuseAt scanTransitions scanModel refuseBytesLeft scanWhole entriesAt transitionAt transitionsAt modelAt readingOf readWhole placeOf firstOf both equalLabels isPair removed refutationCount certificateHeadFault challengerAt defenderAt pricesAt afterRefutation pairFault refutationFault pairsAfter blocksAt numberedFault sameBlock agree pairsFault blocksFault kCountAt afterK wCountAt afterFlow kOf wOf flowAt kFault wFault flowFault byKind plainPriceCount allWithAction allRelated internalInQuestion externalInQuestion plainInQuestion breakFrom firstBreak internalEquationsFault externalEquationsFault plainEquationsFault rejectAt questionsOfPair questionsOfState questionsFrom questions judgeFlows judgeBlocks judgeRefutations judgeCertificate judgeReading judge Each priceWithCost priceAfter costOfLayer layers costEquation costOf costsBytes transitionsEnd costsIn withoutCosts costFault scanCosts scanCostRecord scanCostModel readCosts costPriceCount priceCondition below lastFault internalPricesFault externalPricesFault costPricesFault costEquationFault costEquationsFault sendersFile sendersCertificate stepsFile stepsCertificate stepsMetCertificate laterFile laterCertificate stillFile withPrice costCases refusalIn answerWithoutPlace fileOf judgementAnswer unwritten filled judgedOutcome readOutcome pairOutcome costOutcomeCases
 cost-cases = (
   (refl, (refl, (refl, (refl, (refl, (refl, (refl, (refl, (refl, (refl, (refl, (refl, (refl, (refl, (refl, (refl, (refl, (refl, (refl, (refl, (refl, (refl, (refl, (refl, (refl, (refl, (refl, (refl, (refl, tt))))))))))))))))))))))))))))),
   refl,

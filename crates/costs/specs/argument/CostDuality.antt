@@ -1,5 +1,5 @@
 -- Weak duality with costs, for L of either sign: what is refuted is met for no relation inside the related pairs.
-use Prim.Native.Nat.{ℕ, _+_, _*_, _<_}
+use Prim.Native.Nat.{ℕ, _*_}
 use mathlib.Core.Path.{_≡_, _∙_, ap}
 use lib.IntN.{ℤ, natAbs}
 use native.Mathlib.Nat.{le-refl}
@@ -58,6 +58,6 @@ costDuality cost =
     dualityBy (costBy cost)
     (λ A sound R q t p h.
     eitherMovement (λ m. m .count ≡ layers A q → Refuted A m (KeepsCosts cost A q t) R q t)
-    (λ e. let x = h .internal e in costRefuted cost A sound _ R q t (internalRefutes A _ R q t _ _ (x .internal .holds) (x .related) (x .last .holds)))
-    (λ n. let x = h .external n in costRefuted cost A sound _ R q t (externalRefutes A _ R q t _ _ _ (x .before .holds) (x .after .holds) (x .move .holds) (x .related) (x .last .holds)))
+    (λ e. costRefuted cost A sound _ R q t (internalRefutes (h .internal e)))
+    (λ n. costRefuted cost A sound _ R q t (externalRefutes (h .external n)))
     (allLayers A q))

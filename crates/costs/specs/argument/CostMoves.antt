@@ -1,7 +1,7 @@
 -- The step rule with costs says what document 01's movements say, of flows that keep the cost equation too; so what is proved of flows by a
 -- movement holds with costs, where the cost equation of the flow is kept.
 use Prim.Native.Nat.{ℕ, _*_, _<_}
-use mathlib.Core.Path.{_≡_, refl, sym, _∙_, ap}
+use mathlib.Core.Path.{_≡_, sym, _∙_, ap}
 use native.Mathlib.Omega.{arith}
 use Rattle.bisimulation.specs.definitions.Choice.{ifSame}
 use Rattle.bisimulation.specs.definitions.Sum.{sum}

@@ -5,7 +5,7 @@ use mir.Facts.{toZ-ofZ}
 use borrow.Author.Tests.{not-true, not-false}
 use Rattle.bisimulation.specs.argument.ChoiceLaws.{isTrue, isFalse}
 use Rattle.rules.specs.definitions.Faults.{faultBy}
-use Rattle.cost_files.specs.definitions.CostFile.{lastCostFault}
+use Rattle.rules.specs.definitions.PlainRule.{below, lastFault}
 use Rattle.transition.specs.KnownLaws.{known-states, few-states}
 use Rattle.conditions.specs.Conditions.{conditionsFault}
 use Rattle.conditions.specs.ConditionsLaws.{off-back, off-tells}
@@ -62,7 +62,7 @@ broken-requires c κs =
     let asked = c .before .before .before .before .before .before .before .pre .0 in omega (arith, asked .defender, few-states (asked .known))
 
 returns-3 : tie.Need-returns-3
-unfolding conditionsFault lastCostFault
+unfolding conditionsFault lastFault below
 returns-3 c =
     let last = c .before .before in
     let related = last .before .before in
@@ -83,7 +83,7 @@ none-requires : tie.Need-none-requires
 none-requires c κs = search needs
 
 returns-4 : tie.Need-returns-4
-unfolding conditionsFault lastCostFault
+unfolding conditionsFault lastFault below
 returns-4 c =
     let last = c .before .before in
     let related = last .before .before in

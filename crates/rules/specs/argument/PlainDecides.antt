@@ -15,10 +15,10 @@ use Rattle.bisimulation.specs.definitions.Automaton.{Automaton, SoundAutomaton}
 use Rattle.bisimulation.specs.argument.SumLaws.{sumℤCong}
 use Rattle.bisimulation.specs.definitions.StepRule.{Flow, Sides, Holds, beforeMove, afterMove, internalMove, atTarget}
 use Rattle.bisimulation.specs.definitions.Pairs.{Pairs}
-use Rattle.bisimulation.specs.definitions.Prices.{priceAt, priceOfTargets}
+use Rattle.bisimulation.specs.definitions.Prices.{Side, priceAt, priceOfTargets}
 use Rattle.bisimulation.specs.definitions.Refutation.{PriceCondition, RelatedCondition, LastCondition, RefutesInternal, RefutesExternal, PlainRefutes}
 use Rattle.rules.specs.argument.AnyRule.{Decides}
-use Rattle.rules.specs.definitions.Faults.{noFault, Passes}
+use Rattle.rules.specs.definitions.Faults.{Fault, noFault, Passes}
 use Rattle.rules.specs.definitions.PlainRule.{byKind, plainPriceCount, priceCondition, allWithAction, allRelated, below, lastFault, internalPricesFault, externalPricesFault, plainPricesFault, internalInQuestion, externalInQuestion, plainInQuestion, firstBreak, internalEquationsFault, externalEquationsFault, plainEquationsFault, plainRule}
 use Rattle.rules.specs.argument.FaultLaws.{pass-on, pass-unlessTrue, none-first, first-none}
 use Rattle.rules.specs.argument.BreakLaws.{break-none, break-passed}
@@ -76,14 +76,6 @@ module _ (A : Automaton) where
       go r l (yes isA) = sym (same true isA (sym (h r l isA)))
       go r l (no n) = sym (notSame (f r) n refl)
 
-  all-conditions : (a : ℕ) (X Y : ℕ → ℤ) → allWithAction A a (priceCondition A X Y) ≡ true → PriceCondition A a X Y
-  unfolding priceCondition
-  all-conditions a X Y e = record { holds = λ r l isA. record { le = holds-T (all-with-action a _ e r l isA) } }
-
-  conditions-all : (a : ℕ) (X Y : ℕ → ℤ) → PriceCondition A a X Y → allWithAction A a (priceCondition A X Y) ≡ true
-  unfolding priceCondition
-  conditions-all a X Y h = with-action-all a _ (λ r l isA. T-holds _ (h .holds r l isA .le))
-
   -- 'for each related v, u'
   pub all-related : (R : Pairs) (X G : ℕ → ℤ) → allRelated A R X G ≡ true → RelatedCondition A R X G
   unfolding allRelated
@@ -101,29 +93,39 @@ module _ (A : Automaton) where
       go v u l k true e = T-holds _ (h .holds v u l k e .le)
       go v u l k false e = refl
 
+-- the price conditions, whatever the side of the targets
+module _ (A : Automaton) (side : Side) where
+  all-conditions : (a : ℕ) (X Y : ℕ → ℤ) → allWithAction A a (priceCondition A side X Y) ≡ true → PriceCondition A side a X Y
+  unfolding priceCondition
+  all-conditions a X Y e = record { holds = λ r l isA. record { le = holds-T (all-with-action A a _ e r l isA) } }
+
+  conditions-all : (a : ℕ) (X Y : ℕ → ℤ) → PriceCondition A side a X Y → allWithAction A a (priceCondition A side X Y) ≡ true
+  unfolding priceCondition
+  conditions-all a X Y h = with-action-all A a _ (λ r l isA. T-holds _ (h .holds r l isA .le))
+
   -- the last condition
-  last-holds : (X G : ℕ → ℤ) (q t : ℕ) → below A X G q t ≡ true → LastCondition A q t X G
+  last-holds : (X G : ℕ → ℤ) (q t : ℕ) → below A side X G q t ≡ true → LastCondition A side q t X G
   unfolding below
   last-holds X G q t e = record { holds = record { lt = holds-T e } }
 
-  holds-last : (X G : ℕ → ℤ) (q t : ℕ) → LastCondition A q t X G → below A X G q t ≡ true
+  holds-last : (X G : ℕ → ℤ) (q t : ℕ) → LastCondition A side q t X G → below A side X G q t ≡ true
   unfolding below
   holds-last X G q t h = T-holds _ (h .holds .lt)
 
   -- prices without fault refute
-  internal-refutes : (R : Pairs) (q t : ℕ) (X G : ℕ → ℤ) → Passes (internalPricesFault A R q t X G) ↔ RefutesInternal A R q t X G
+  pub internal-refutes : (R : Pairs) (q t : ℕ) (X G : ℕ → ℤ) → Passes (internalPricesFault A side R q t X G) ↔ RefutesInternal A side R q t X G
   unfolding internalPricesFault lastFault
   internal-refutes R q t X G = (
     λ e.
         let a = pass-unlessTrue _ _ _ e (omega arith) in
         let b = pass-unlessTrue _ _ _ (a .1) (omega arith) in
         let c = pass-unlessTrue _ _ _ (b .1) (omega arith) in
-        record { internal = all-conditions 0 X X (a .0); related = all-related R X G (b .0); last = last-holds X G q t (c .0) },
+        record { internal = all-conditions 0 X X (a .0); related = all-related A R X G (b .0); last = last-holds X G q t (c .0) },
     λ h.
-        pass-on (isTrue _ (conditions-all 0 X X (h .internal)) (isTrue _ (related-all R X G (h .related)) (isTrue _ (holds-last X G q t (h .last)) refl))) refl,
+        pass-on (isTrue _ (conditions-all 0 X X (h .internal)) (isTrue _ (related-all A R X G (h .related)) (isTrue _ (holds-last X G q t (h .last)) refl))) refl,
   )
 
-  external-refutes : (R : Pairs) (q t : ℕ) (X Y G : ℕ → ℤ) → Passes (externalPricesFault A R q t X Y G) ↔ RefutesExternal A R q t X Y G
+  pub external-refutes : (R : Pairs) (q t : ℕ) (X Y G : ℕ → ℤ) → Passes (externalPricesFault A side R q t X Y G) ↔ RefutesExternal A side R q t X Y G
   unfolding externalPricesFault lastFault
   external-refutes R q t X Y G = (
     λ e.
@@ -136,7 +138,7 @@ module _ (A : Automaton) where
           before = all-conditions 0 X X (a .0);
           after = all-conditions 0 Y Y (b .0);
           move = all-conditions (A .action q) X Y (c .0);
-          related = all-related R Y G (d .0);
+          related = all-related A R Y G (d .0);
           last = last-holds X G q t (f .0);
         },
     λ h.
@@ -144,24 +146,27 @@ module _ (A : Automaton) where
         (isTrue _ (conditions-all 0 X X (h .before))
         (isTrue _ (conditions-all 0 Y Y (h .after))
         (isTrue _ (conditions-all (A .action q) X Y (h .move))
-        (isTrue _ (related-all R Y G (h .related)) (isTrue _ (holds-last X G q t (h .last)) refl)))))
+        (isTrue _ (related-all A R Y G (h .related)) (isTrue _ (holds-last X G q t (h .last)) refl)))))
         refl,
   )
 
-  pub plain-refutes : (R : Pairs) (q t : ℕ) (p : ℕ → ℤ) → Passes (plainPricesFault A R q t p) ↔ PlainRefutes A R q t p
-  unfolding plainPricesFault
-  plain-refutes R q t p = (
-    λ e.
-        record {
-          internal = λ i. internal-refutes R q t p (λ v. p (A .states + v)) .0 (pass-on (sym (kind-internal q _ _ i)) e);
-          external = λ n. external-refutes R q t p (λ v. p (A .states + v)) (λ v. p (2 * A .states + v)) .0 (pass-on (sym (kind-external q _ _ n)) e);
-        },
+-- of a choice by the challenger's kind
+module _ (A : Automaton) where
+  pub by-kind : (q : ℕ) (x y : Fault) {P Q : Type 0} → Passes x ↔ P → Passes y ↔ Q → Passes (byKind A q x y) ↔ ((A .action q ≡ 0 → P) × (A .action q ≢ 0 → Q))
+  by-kind q x y {P} {Q} internal external = (
+    λ e. (λ i. internal .0 (pass-on (sym (kind-internal A q _ _ i)) e), λ n. external .0 (pass-on (sym (kind-external A q _ _ n)) e)),
     λ h. go h (ℕ-discrete (A .action q) 0),
   )
     where
-      go : PlainRefutes A R q t p → Dec (A .action q ≡ 0) → Passes (byKind A q (internalPricesFault A R q t p (λ v. p (A .states + v))) (externalPricesFault A R q t p (λ v. p (A .states + v)) (λ v. p (2 * A .states + v))))
-      go h (yes i) = pass-on (kind-internal q _ _ i) (internal-refutes R q t p (λ v. p (A .states + v)) .1 (h .internal i))
-      go h (no n) = pass-on (kind-external q _ _ n) (external-refutes R q t p (λ v. p (A .states + v)) (λ v. p (2 * A .states + v)) .1 (h .external n))
+      go : (A .action q ≡ 0 → P) × (A .action q ≢ 0 → Q) → Dec (A .action q ≡ 0) → Passes (byKind A q x y)
+      go h (yes i) = pass-on (kind-internal A q _ _ i) (internal .1 (h .0 i))
+      go h (no n) = pass-on (kind-external A q _ _ n) (external .1 (h .1 n))
+
+  pub plain-refutes : (R : Pairs) (q t : ℕ) (p : ℕ → ℤ) → Passes (plainPricesFault A R q t p) ↔ PlainRefutes A R q t p
+  unfolding plainPricesFault
+  plain-refutes R q t p =
+      let both = by-kind q _ _ (internal-refutes A (priceOfTargets A) R q t p (λ v. p (A .states + v))) (external-refutes A (priceOfTargets A) R q t p (λ v. p (A .states + v)) (λ v. p (2 * A .states + v))) in
+      (λ e. let h = both .0 e in record { internal = h .0; external = h .1 }, λ h. both .1 (h .internal, h .external))
 
   -- equations without fault hold
   pub all-hold : (number : ℕ) (e : ℕ → Sides) → (number ≡ 0 → ⊥) → Passes (firstBreak A number e) → (v : ℕ) → v < A .states → Holds (e v)
@@ -202,18 +207,9 @@ module _ (A : Automaton) where
 
   pub plain-equations : (q t : ℕ) (f : Flow) → Passes (plainEquationsFault A q t f) ↔ PlainEquations A q t f
   unfolding plainEquationsFault
-  plain-equations q t f = (
-    λ e.
-        record {
-          internal = λ i. internal-equations q t f .0 (pass-on (sym (kind-internal q _ _ i)) e);
-          external = λ n. external-equations q t f .0 (pass-on (sym (kind-external q _ _ n)) e);
-        },
-    λ h. go h (ℕ-discrete (A .action q) 0),
-  )
-    where
-      go : PlainEquations A q t f → Dec (A .action q ≡ 0) → Passes (byKind A q (internalEquationsFault A q t f) (externalEquationsFault A q t f))
-      go h (yes i) = pass-on (kind-internal q _ _ i) (internal-equations q t f .1 (h .internal i))
-      go h (no n) = pass-on (kind-external q _ _ n) (external-equations q t f .1 (h .external n))
+  plain-equations q t f =
+      let both = by-kind q _ _ (internal-equations q t f) (external-equations q t f) in
+      (λ e. let h = both .0 e in record { internal = h .0; external = h .1 }, λ h. both .1 (h .internal, h .external))
 
   -- the conditions look at prices of states alone
   abbrev pub AlikeOnStates : (X Y : ℕ → ℤ) → Type 0
@@ -227,49 +223,45 @@ module _ (A : Automaton) where
   unfolding priceAt
   price-same X Y h r x l = ap (λ (z : ℤ). pos (A .denominator r) *ℤ z) (h x l)
 
-  module _ (sound : SoundAutomaton A) where
-    condition-same : (a : ℕ) (X X′ Y Y′ : ℕ → ℤ) → AlikeOnStates X X′ → AlikeOnStates Y Y′ → PriceCondition A a X Y → PriceCondition A a X′ Y′
-    unfolding SoundAutomaton
-    condition-same a X X′ Y Y′ h k c =
+-- two sides that are the same for such prices: the conditions of each kind of challenger
+module _ (A : Automaton) (sound : SoundAutomaton A) {side side′ : Side} (sides : (X Y : ℕ → ℤ) → AlikeOnStates A X Y → (r : ℕ) → side X r ≡ side′ Y r) where
+  condition-same : (a : ℕ) {X X′ Y Y′ : ℕ → ℤ} → AlikeOnStates A X X′ → AlikeOnStates A Y Y′ → PriceCondition A side a X Y → PriceCondition A side′ a X′ Y′
+  unfolding SoundAutomaton
+  condition-same a h k c = record { holds = λ r l isA. subst₂ _≤ℤ_ (sides _ _ k r) (price-same A _ _ h r (A .source r) (sound r l .from)) (c .holds r l isA) }
+
+  related-same : (R : Pairs) {X X′ G G′ : ℕ → ℤ} → AlikeOnStates A X X′ → AlikeOnStates A G G′ → RelatedCondition A R X G → RelatedCondition A R X′ G′
+  related-same R h k c = record { holds = λ v u l m e. subst₂ _≤ℤ_ (k u m) (h v l) (c .holds v u l m e) }
+
+  last-same : (q t : ℕ) {X X′ G G′ : ℕ → ℤ} → t < A .states → AlikeOnStates A X X′ → AlikeOnStates A G G′ → LastCondition A side q t X G → LastCondition A side′ q t X′ G′
+  last-same q t l h k c = record { holds = subst₂ _<ℤ_ (price-same A _ _ h q t l) (sides _ _ k q) (c .holds) }
+
+  module _ (R : Pairs) (q t : ℕ) (l : t < A .states) {p p′ : ℕ → ℤ} where
+    pub internal-same : ((i : ℕ) → i < 2 * A .states → p i ≡ p′ i) → RefutesInternal A side R q t p (λ v. p (A .states + v)) → RefutesInternal A side′ R q t p′ (λ v. p′ (A .states + v))
+    internal-same h d =
+        let x : AlikeOnStates A p p′ = λ v m. h v (omega arith) in
+        let g : AlikeOnStates A (λ v. p (A .states + v)) (λ v. p′ (A .states + v)) = λ v m. h (A .states + v) (omega arith) in
+        record { internal = condition-same 0 x x (d .internal); related = related-same R x g (d .related); last = last-same q t l x g (d .last) }
+
+    pub external-same : ((i : ℕ) → i < 3 * A .states → p i ≡ p′ i) → RefutesExternal A side R q t p (λ v. p (A .states + v)) (λ v. p (2 * A .states + v)) → RefutesExternal A side′ R q t p′ (λ v. p′ (A .states + v)) (λ v. p′ (2 * A .states + v))
+    external-same h d =
+        let x : AlikeOnStates A p p′ = λ v m. h v (omega arith) in
+        let y : AlikeOnStates A (λ v. p (A .states + v)) (λ v. p′ (A .states + v)) = λ v m. h (A .states + v) (omega arith) in
+        let g : AlikeOnStates A (λ v. p (2 * A .states + v)) (λ v. p′ (2 * A .states + v)) = λ v m. h (2 * A .states + v) (omega arith) in
         record {
-          holds = λ r l isA.
-              subst₂ _≤ℤ_ (targets-same Y Y′ k r) (price-same X X′ h r (A .source r) (sound r l .from)) (c .holds r l isA);
+          before = condition-same 0 x x (d .before);
+          after = condition-same 0 y y (d .after);
+          move = condition-same (A .action q) x y (d .move);
+          related = related-same R y g (d .related);
+          last = last-same q t l x g (d .last);
         }
 
-    pub related-same : (R : Pairs) (X X′ G G′ : ℕ → ℤ) → AlikeOnStates X X′ → AlikeOnStates G G′ → RelatedCondition A R X G → RelatedCondition A R X′ G′
-    related-same R X X′ G G′ h k c = record { holds = λ v u l m e. subst₂ _≤ℤ_ (k u m) (h v l) (c .holds v u l m e) }
-
-    last-same : (q t : ℕ) (X X′ G G′ : ℕ → ℤ) → t < A .states → AlikeOnStates X X′ → AlikeOnStates G G′ → LastCondition A q t X G → LastCondition A q t X′ G′
-    last-same q t X X′ G G′ l h k c = record { holds = subst₂ _<ℤ_ (price-same X X′ h q t l) (targets-same G G′ k q) (c .holds) }
-
-    pub only-prices : (R : Pairs) (q t : ℕ) (p p′ : ℕ → ℤ) → t < A .states → ((i : ℕ) → i < plainPriceCount A q → p i ≡ p′ i) → PlainRefutes A R q t p → PlainRefutes A R q t p′
-    unfolding plainPriceCount
-    only-prices R q t p p′ l h c =
-        record {
-          internal = λ i.
-              let n : plainPriceCount A q ≡ 2 * A .states = sym (kind-internal q _ _ i) in
-              let d = c .internal i in
-              let x : AlikeOnStates p p′ = λ v m. h v (omega arith) in
-              let g : AlikeOnStates (λ v. p (A .states + v)) (λ v. p′ (A .states + v)) = λ v m. h (A .states + v) (omega arith) in
-              record {
-                internal = condition-same 0 _ _ _ _ x x (d .internal);
-                related = related-same R _ _ _ _ x g (d .related);
-                last = last-same q t _ _ _ _ l x g (d .last);
-              };
-          external = λ i.
-              let n : plainPriceCount A q ≡ 3 * A .states = sym (kind-external q _ _ i) in
-              let d = c .external i in
-              let x : AlikeOnStates p p′ = λ v m. h v (omega arith) in
-              let y : AlikeOnStates (λ v. p (A .states + v)) (λ v. p′ (A .states + v)) = λ v m. h (A .states + v) (omega arith) in
-              let g : AlikeOnStates (λ v. p (2 * A .states + v)) (λ v. p′ (2 * A .states + v)) = λ v m. h (2 * A .states + v) (omega arith) in
-              record {
-                before = condition-same 0 _ _ _ _ x x (d .before);
-                after = condition-same 0 _ _ _ _ y y (d .after);
-                move = condition-same (A .action q) _ _ _ _ x y (d .move);
-                related = related-same R _ _ _ _ y g (d .related);
-                last = last-same q t _ _ _ _ l x g (d .last);
-              };
-        }
+pub only-prices : (A : Automaton) → SoundAutomaton A → (R : Pairs) (q t : ℕ) (p p′ : ℕ → ℤ) → t < A .states → ((i : ℕ) → i < plainPriceCount A q → p i ≡ p′ i) → PlainRefutes A R q t p → PlainRefutes A R q t p′
+unfolding plainPriceCount
+only-prices A sound R q t p p′ l h c =
+    record {
+      internal = λ i. internal-same A sound (targets-same A) R q t l (λ j m. h j (omega (arith, kind-internal A q (2 * A .states) (3 * A .states) i))) (c .internal i);
+      external = λ n. external-same A sound (targets-same A) R q t l (λ j m. h j (omega (arith, kind-external A q (2 * A .states) (3 * A .states) n))) (c .external n);
+    }
 
 -- document 01's tests decide its propositions
 pub plain-decides : Decides plainRule plainSays

@@ -12,7 +12,7 @@ use Rattle.bisimulation.specs.definitions.Choice.{ifTrue, unlessTrue}
 use Rattle.bisimulation.specs.argument.ChoiceLaws.{eitherSame, eitherTrue}
 use Rattle.bisimulation.specs.definitions.Automaton.{Automaton}
 use Rattle.bisimulation.specs.definitions.StepRule.{Flow, Sides, beforeMove, afterMove, internalMove, atTarget}
-use Rattle.bisimulation.specs.definitions.Prices.{priceAt, priceOfTargets}
+use Rattle.bisimulation.specs.definitions.Prices.{Side, priceAt, priceOfTargets}
 use Rattle.bisimulation.specs.definitions.Pairs.{Pairs}
 use Rattle.bisimulation.specs.argument.Plain.{plain}
 use Rattle.rules.specs.definitions.Limits.{Limits, limits}
@@ -41,15 +41,15 @@ Own f = NoneOr PlainNumber f
 pub none : Own noFault
 none = record { number = inl refl; told = told-fault 0 (omega arith) }
 
-pub price : Own (fault 15)
+price : Own (fault 15)
 unfolding PlainNumber
 price = record { number = inr (inl (omega arith, omega arith)); told = told-fault 15 (omega arith) }
 
-pub orTrue : (b : Bool) {x y : Fault} → Own x → Own y → Own (ifTrue b x y)
+orTrue : (b : Bool) {x y : Fault} → Own x → Own y → Own (ifTrue b x y)
 orTrue b p q = eitherTrue Own b p q
 
 -- a last condition, of which the left side is to be below the right
-pub last-condition : (left right : ℤ) (t : ℕ) → Own (unlessTrue (ltZ left right) (faultBy 16 t (left -ℤ right)) noFault)
+last-condition : (left right : ℤ) (t : ℕ) → Own (unlessTrue (ltZ left right) (faultBy 16 t (left -ℤ right)) noFault)
 unfolding PlainNumber
 last-condition left right t =
     by-test Own _ (λ e. none)
@@ -64,15 +64,23 @@ last-condition left right t =
           };
     })
 
-last : (A : Automaton) (X G : ℕ → ℤ) (q t : ℕ) → Own (lastFault A X G q t)
-unfolding lastFault below
-last A X G q t = last-condition (priceAt A X q t) (priceOfTargets A G q) t
+-- the price conditions, whatever the side of the targets
+module _ (A : Automaton) (side : Side) (R : Pairs) (q t : ℕ) where
+  last : (X G : ℕ → ℤ) → Own (lastFault A side X G q t)
+  unfolding lastFault below
+  last X G = last-condition (priceAt A X q t) (side G q) t
+
+  pub internal-prices : (X G : ℕ → ℤ) → Own (internalPricesFault A side R q t X G)
+  unfolding internalPricesFault
+  internal-prices X G = orTrue _ (orTrue _ (last X G) price) price
+
+  pub external-prices : (X Y G : ℕ → ℤ) → Own (externalPricesFault A side R q t X Y G)
+  unfolding externalPricesFault
+  external-prices X Y G = orTrue _ (orTrue _ (orTrue _ (orTrue _ (last X G) price) price) price) price
 
 prices : (A : Automaton) (R : Pairs) (q t : ℕ) (p : ℕ → ℤ) → Own (plainPricesFault A R q t p)
-unfolding plainPricesFault byKind internalPricesFault externalPricesFault
-prices A R q t p =
-    eitherSame Own _ _ (orTrue _ (orTrue _ (last A _ _ q t) price) price)
-    (orTrue _ (orTrue _ (orTrue _ (orTrue _ (last A _ _ q t) price) price) price) price)
+unfolding plainPricesFault byKind
+prices A R q t p = eitherSame Own _ _ (internal-prices A (priceOfTargets A) R q t _ _) (external-prices A (priceOfTargets A) R q t _ _ _)
 
 -- a break tells by how much the sides differ
 first-break : (A : Automaton) (number : ℕ) (e : ℕ → Sides) → (number ≡ 20) ⊎ (number ≡ 21) → Own (firstBreak A number e)

@@ -7,7 +7,7 @@ use lib.Signed.{leZ, ltZ}
 use Rattle.bisimulation.specs.definitions.Choice.{ifSame, ifTrue, unlessSame, unlessTrue, allBelow}
 use Rattle.bisimulation.specs.definitions.Automaton.{Automaton}
 use Rattle.bisimulation.specs.definitions.StepRule.{Flow, Sides, beforeMove, afterMove, internalMove, atTarget}
-use Rattle.bisimulation.specs.definitions.Prices.{priceAt, priceOfTargets}
+use Rattle.bisimulation.specs.definitions.Prices.{Side, priceAt, priceOfTargets}
 use Rattle.bisimulation.specs.definitions.Pairs.{Pairs}
 use Rattle.rules.specs.definitions.Certificate.{FileRule}
 use Rattle.rules.specs.definitions.Faults.{Fault, faultBy, fault, noFault, firstOf}
@@ -59,10 +59,6 @@ module _ (A : Automaton) where
   unfoldable pub plainPriceCount : ℕ → ℕ
   plainPriceCount q = byKind q (2 * A .states) (3 * A .states)
 
-  -- 'd times A(source) is at least the sum of p(v)A(v)': from the prices X of the source to the prices Y of the targets
-  unfoldable pub priceCondition : (ℕ → ℤ) → (ℕ → ℤ) → ℕ → Bool
-  priceCondition X Y r = leZ (priceOfTargets A Y r) (priceAt A X r (A .source r))
-
   -- 'for each transition with its action'
   unfoldable pub allWithAction : ℕ → (ℕ → Bool) → Bool
   allWithAction a f = allBelow (A .transitions) (λ r. ifSame (A .action r) a (f r) true)
@@ -71,38 +67,45 @@ module _ (A : Automaton) where
   unfoldable pub allRelated : Pairs → (ℕ → ℤ) → (ℕ → ℤ) → Bool
   allRelated R X G = allBelow (A .states) (λ v. allBelow (A .states) (λ u. ifTrue (R v u) (leZ (G u) (X v)) true))
 
+-- the price conditions, whatever the side of the targets: document 01's is 'the sum of p(v)A(v)', another rule may add to it
+module _ (A : Automaton) (side : Side) where
+  -- 'd times A(source) is at least the sum of p(v)A(v)': from the prices X of the source to the prices Y of the targets
+  unfoldable pub priceCondition : (ℕ → ℤ) → (ℕ → ℤ) → ℕ → Bool
+  priceCondition X Y r = leZ (side Y r) (priceAt A X r (A .source r))
+
   -- 'Lastly d0 times A(t) is below the sum of p0(u)G(u)'
   unfoldable pub below : (ℕ → ℤ) → (ℕ → ℤ) → (q t : ℕ) → Bool
-  below X G q t = ltZ (priceAt A X q t) (priceOfTargets A G q)
+  below X G q t = ltZ (priceAt A X q t) (side G q)
 
   -- 16, 'the last breaks'; document 02, K2: 't, and the last condition's left side less its right'
   unfoldable pub lastFault : (ℕ → ℤ) → (ℕ → ℤ) → (q t : ℕ) → Fault
   lastFault X G q t =
-      unlessTrue (below X G q t) (faultBy 16 t (priceAt A X q t -ℤ priceOfTargets A G q))
+      unlessTrue (below X G q t) (faultBy 16 t (priceAt A X q t -ℤ side G q))
       noFault
 
   -- the price conditions of an internal challenger: 15, 'a price condition other than the last breaks'; 16
   unfoldable pub internalPricesFault : Pairs → (q t : ℕ) → (X G : ℕ → ℤ) → Fault
   internalPricesFault R q t X G =
-      unlessTrue (allWithAction 0 (priceCondition X X)) (fault 15)
-      (unlessTrue (allRelated R X G) (fault 15)
+      unlessTrue (allWithAction A 0 (priceCondition X X)) (fault 15)
+      (unlessTrue (allRelated A R X G) (fault 15)
       (lastFault X G q t))
 
   -- those of an external challenger
   unfoldable pub externalPricesFault : Pairs → (q t : ℕ) → (X Y G : ℕ → ℤ) → Fault
   externalPricesFault R q t X Y G =
-      unlessTrue (allWithAction 0 (priceCondition X X)) (fault 15)
-      (unlessTrue (allWithAction 0 (priceCondition Y Y)) (fault 15)
-      (unlessTrue (allWithAction (A .action q) (priceCondition X Y)) (fault 15)
-      (unlessTrue (allRelated R Y G) (fault 15)
+      unlessTrue (allWithAction A 0 (priceCondition X X)) (fault 15)
+      (unlessTrue (allWithAction A 0 (priceCondition Y Y)) (fault 15)
+      (unlessTrue (allWithAction A (A .action q) (priceCondition X Y)) (fault 15)
+      (unlessTrue (allRelated A R Y G) (fault 15)
       (lastFault X G q t))))
 
+module _ (A : Automaton) where
   -- the prices of a record, by the challenger's kind
   unfoldable pub plainPricesFault : Pairs → (q t : ℕ) → (ℕ → ℤ) → Fault
   plainPricesFault R q t p =
-      byKind q
-      (internalPricesFault R q t p (λ v. p (A .states + v)))
-      (externalPricesFault R q t p (λ v. p (A .states + v)) (λ v. p (2 * A .states + v)))
+      byKind A q
+      (internalPricesFault A (priceOfTargets A) R q t p (λ v. p (A .states + v)))
+      (externalPricesFault A (priceOfTargets A) R q t p (λ v. p (A .states + v)) (λ v. p (2 * A .states + v)))
 
   -- an equation at some state breaks; K2: 'the first v', 'the first u'
   unfoldable pub firstBreak : (number : ℕ) → (ℕ → Sides) → Fault
@@ -123,7 +126,7 @@ module _ (A : Automaton) where
 
   -- the equations of a record, by the challenger's kind
   unfoldable pub plainEquationsFault : (q t : ℕ) → Flow → Fault
-  plainEquationsFault q t f = byKind q (internalEquationsFault q t f) (externalEquationsFault q t f)
+  plainEquationsFault q t f = byKind A q (internalEquationsFault q t f) (externalEquationsFault q t f)
 
 -- a certificate whose head's mark is 43 54
 abbrev pub plainRule : FileRule

@@ -23,7 +23,7 @@ use Rattle.bisimulation.specs.argument.Parts.{parts, nothing}
 use Rattle.bisimulation.specs.argument.PartsLaws.{byParts, inFirst, inSecond}
 use Rattle.bisimulation.specs.argument.Moves.{plainMovement, start, Moves, Couples, MetBy, Nothing}
 use Rattle.bisimulation.specs.argument.MovesLaws.{movesCong, nothingCouples, couplesCong, movesTimes, startTimes, ownLayers, ownMoves}
-use Rattle.bisimulation.specs.argument.PlainMoves.{plainBy, plainOnce}
+use Rattle.bisimulation.specs.argument.PlainMoves.{plainBy, plainOnce, plainAnySource}
 use Rattle.bisimulation.specs.argument.JoinedMoves.{eachTransition, nothingFor, firstAnswers, secondAnswers, firstMet, secondMet}
 
 -- being linked as a set of pairs
@@ -91,7 +91,7 @@ module _ (A Q J : Automaton) (block : ℕ → ℕ) (soundA : SoundAutomaton A) (
 
   -- a merged state asks itself
   pub mergedItself : (q : ℕ) → q < Q .transitions → Met J (Linked A Q block) (A .transitions + q) (A .states + Q .source q)
-  mergedItself q l = secondMet A Q J j soundA plainBy (λ v u. v ≡ u) Link (λ v u i k e. link u _ _ (omega arith) (omega arith) (blockSecond v ∙ e) (blockSecond u)) q (Q .source q) l (plainOwn Q soundQ (λ v u. v ≡ u) (λ s i. refl) q l)
+  mergedItself q l = secondMet A Q J j soundA plainBy plainAnySource (λ v u. v ≡ u) Link (λ v u i k e. link u _ _ (omega arith) (omega arith) (blockSecond v ∙ e) (blockSecond u)) q (Q .source q) l (plainOwn Q soundQ (λ v u. v ≡ u) (λ s i. refl) q l)
 
   -- an original state asks a merged one: the transition that stands for the challenger, alone
   module _ (r q : ℕ) (below : r < A .transitions) (l : q < Q .transitions) (s : StandsFor A Q block q r) where
@@ -102,13 +102,13 @@ module _ (A Q J : Automaton) (block : ℕ → ℕ) (soundA : SoundAutomaton A) (
     back : ℕ → ℕ → ℕ
     back c u = ifSame (block u) c (A .weight r u * Q .denominator q) 0
 
-    backMoves : Moves Q (plainMovement (J .action r)) (λ i c. d * ownLayers q (plainOnce (Q .action q) .layer) i c) (start (Q .source q) (d * Q .denominator q)) (λ c. overTargets A back c + overTargets Q nothing c)
+    backMoves : Moves Q (plainMovement (J .action r)) (λ i c. d * ownLayers q (plainOnce (Q .action q) (Q .source q) .layer) i c) (start (Q .source q) (d * Q .denominator q)) (λ c. overTargets A back c + overTargets Q nothing c)
     unfolding overTargets back weightInto
     backMoves =
         movesCong (λ v i. startTimes d (Q .source q) (Q .denominator q) v)
         (λ c i. omega (arith, s .probability c i, blockTimes n block (A .weight r) (Q .denominator q) c, nothingFor Q c))
         (ap plainMovement (s .action ∙ sym (j .firstAction r below)))
-        (movesTimes Q d (ownMoves Q q l (plainOnce (Q .action q))))
+        (movesTimes Q d (ownMoves Q q l (plainOnce (Q .action q) (Q .source q))))
 
     backCouples : Couples (λ c u. Link (n + c) u) (Q .states) n d (d * Q .denominator q) (A .weight r) back
     unfolding back
@@ -122,7 +122,7 @@ module _ (A Q J : Automaton) (block : ℕ → ℕ) (soundA : SoundAutomaton A) (
     unfolding SoundAutomaton
     originalAsksMerged =
         plainBy .from J Link r (n + Q .source q)
-        (secondAnswers A Q J j soundA Link r (Q .source q) (d * Q .denominator q) (mul-pos (soundA r below .positive) (soundQ q l .positive)) back nothing
+        (secondAnswers A Q J j soundA (plainAnySource _) Link r (Q .source q) (d * Q .denominator q) (mul-pos (soundA r below .positive) (soundQ q l .positive)) back nothing
         backMoves
         (couplesCong (λ c u k i e. e) (j .firstDenominator r below) (λ u i. j .firstWeight r u below i) backCouples)
         (nothingCouples (λ u i. j .firstOnly r (n + u) below (omega arith))))
@@ -130,7 +130,7 @@ module _ (A Q J : Automaton) (block : ℕ → ℕ) (soundA : SoundAutomaton A) (
   module _ (Same : ℕ → ℕ → Type 0) (shares : SharesBlocks A block Same) where
     -- an original state asks another
     pub originalAsksOriginal : (r t : ℕ) → r < A .transitions → t < A .states → Met A Same r t → Met J (Linked A Q block) r t
-    originalAsksOriginal r t l below m = firstMet A Q J j soundA plainBy Same Link (λ v u i k e. link (block u) v u (omega arith) (omega arith) (blockFirst v i ∙ shares v u i k .0 e) (blockFirst u k)) r t l below m
+    originalAsksOriginal r t l below m = firstMet A Q J j soundA plainBy plainAnySource Same Link (λ v u i k e. link (block u) v u (omega arith) (omega arith) (blockFirst v i ∙ shares v u i k .0 e) (blockFirst u k)) r t l below m
 
     -- a merged state asks an original one: the flow against the transition that it stands for
     module _ (r q : ℕ) (below : r < A .transitions) (l : q < Q .transitions) (s : StandsFor A Q block q r) (t : ℕ) (state : t < A .states) (m : Met A Same r t) where
@@ -185,7 +185,7 @@ module _ (A Q J : Automaton) (block : ℕ → ℕ) (soundA : SoundAutomaton A) (
       pub mergedAsksOriginal : Met J (Linked A Q block) (A .transitions + q) t
       mergedAsksOriginal =
           plainBy .from J Link (A .transitions + q) t
-          (firstAnswers A Q J j soundA Link (A .transitions + q) t (x .flow .D) (x .atLeastOne) nothing over state
+          (firstAnswers A Q J j soundA (plainAnySource _) Link (A .transitions + q) t (x .flow .D) (x .atLeastOne) nothing over state
           overMoves
           (nothingCouples (λ u i. j .secondOnly q u l i))
           (couplesCong (λ v c i k e. e) (j .secondDenominator q l) (λ c k. j .secondWeight q c l k) overCouples))

@@ -1,6 +1,6 @@
 -- Two automata as one: what a flow of one of them is in both, for any two automata.
 use Prim.Native.Nat.{ℕ, _+_, _*_, _≤_, _<_}
-use mathlib.Core.Path.{_≡_, refl, sym, _∙_, ap, ap₂}
+use mathlib.Core.Path.{_≡_, refl, sym, _∙_, ap, ap₂, subst}
 use native.Mathlib.Omega.{arith}
 use Rattle.bisimulation.specs.definitions.Choice.{ifSame}
 use Rattle.bisimulation.specs.argument.ChoiceLaws.{notSame}
@@ -12,7 +12,7 @@ use Rattle.bisimulation.specs.definitions.StepRule.{arriving, leaving, o
 use Rattle.bisimulation.specs.definitions.Joined.{IsJoined}
 use Rattle.bisimulation.specs.argument.Parts.{parts, nothing, square}
 use Rattle.bisimulation.specs.argument.PartsLaws.{byParts, inFirst, inSecond, partsCong, raisedSame, sumSplit, atFirsts, atOver, atBack, atSeconds}
-use Rattle.bisimulation.specs.argument.Moves.{Layer, Movement, start, Uses, Through, Moves, Relates, Couples, MetBy, Nothing, ByMovement}
+use Rattle.bisimulation.specs.argument.Moves.{Layer, Movement, start, Through, Moves, Relates, Couples, MetBy, Nothing, ByMovement, OfAnySource}
 use Rattle.bisimulation.specs.argument.MovesLaws.{movesCong, still, nothingCouples, couplesCong}
 
 -- nothing is linked
@@ -139,16 +139,13 @@ module _ (A B J : Automaton) (j : IsJoined A B J) where
 
   -- one moves beside the other
   module _ (sound : SoundAutomaton A) where
-    usesBeside : (b : ℕ) (k h : ℕ → ℕ) → Uses A b k → Uses B b h → Uses J b (parts a k h)
-    usesBeside b k h first second =
-        eachTransition (λ r. 0 < parts a k h r → J .action r ≡ b)
-        (λ r l u. j .firstAction r l ∙ first r l (omega (arith, inFirst a k h r l)))
-        (λ r l u. j .secondAction r l ∙ second r l (omega (arith, inSecond a k h r)))
-
-    throughBeside : {l : Layer} {k h x y x′ y′ : ℕ → ℕ} → Through A l k x y → Through B l h x′ y′ → Through J l (parts a k h) (parts n x x′) (parts n y y′)
-    throughBeside {l} {k} {h} {x} {y} {x′} {y′} first second =
+    throughBeside : {l : Layer} {k h x y x′ y′ : ℕ → ℕ} → ((s v b : ℕ) → l .allows s b → l .allows v b) → Through A l k x y → Through B l h x′ y′ → Through J l (parts a k h) (parts n x x′) (parts n y y′)
+    throughBeside {l} {k} {h} {x} {y} {x′} {y′} any first second =
         record {
-          uses = usesBeside (l .action) k h (first .uses) (second .uses);
+          uses =
+              eachTransition (λ r. 0 < parts a k h r → l .allows (J .source r) (J .action r))
+              (λ r i u. any _ _ _ (subst (l .allows _) (sym (j .firstAction r i)) (first .uses r i (omega (arith, inFirst a k h r i)))))
+              (λ r i u. any _ _ _ (subst (l .allows _) (sym (j .secondAction r i)) (second .uses r i (omega (arith, inSecond a k h r)))));
           balance =
               eachState (λ v. parts n x x′ v + arriving J (parts a k h) v ≡ leaving J (parts a k h) v + parts n y y′ v)
               (λ v i. omega (arith, inFirst n x x′ v i, inFirst n y y′ v i, arrivingFirst k h v i, leavingFirst k h v i, first .balance v i))
@@ -159,12 +156,12 @@ module _ (A B J : Automaton) (j : IsJoined A B J) where
               (λ v i. leavingSecond k h sound v ∙ second .all s v i ∙ sym (inSecond n x x′ v));
         }
 
-    pub movesBeside : {m : Movement} {k h : ℕ → ℕ → ℕ} {x y x′ y′ : ℕ → ℕ} → Moves A m k x y → Moves B m h x′ y′ → Moves J m (λ i. parts (A .transitions) (k i) (h i)) (parts (A .states) x x′) (parts (A .states) y y′)
-    movesBeside first second =
+    pub movesBeside : {m : Movement} {k h : ℕ → ℕ → ℕ} {x y x′ y′ : ℕ → ℕ} → OfAnySource m → Moves A m k x y → Moves B m h x′ y′ → Moves J m (λ i. parts (A .transitions) (k i) (h i)) (parts (A .states) x x′) (parts (A .states) y y′)
+    movesBeside any first second =
         record {
           between = λ i. parts n (first .between i) (second .between i);
           starts = endsBoth (first .starts) (second .starts);
-          through = λ i l. throughBeside (first .through i l) (second .through i l);
+          through = λ i l. throughBeside (any i l) (first .through i l) (second .through i l);
           ends = endsBoth (first .ends) (second .ends);
         }
       where
@@ -175,29 +172,29 @@ module _ (A B J : Automaton) (j : IsJoined A B J) where
             (λ v l. inSecond n x x′ v ∙ s v l ∙ sym (inSecond n y y′ v))
 
     -- one moves and the other does not
-    pub movesFirst : {m : Movement} {k : ℕ → ℕ → ℕ} {y : ℕ → ℕ} (t D : ℕ) → t < A .states → Moves A m k (start t D) y → Moves J m (λ i. parts (A .transitions) (k i) none) (start t D) (parts (A .states) y none)
+    pub movesFirst : {m : Movement} {k : ℕ → ℕ → ℕ} {y : ℕ → ℕ} (t D : ℕ) → t < A .states → OfAnySource m → Moves A m k (start t D) y → Moves J m (λ i. parts (A .transitions) (k i) none) (start t D) (parts (A .states) y none)
     unfolding start none
-    movesFirst {m} t D below o =
+    movesFirst {m} t D below any o =
         movesCong
         (eachState (λ v. parts n (start t D) none v ≡ start t D v) (λ v l. inFirst n _ _ v l) (λ v l. inSecond n _ _ v ∙ notSame _ (omega arith) refl))
-        (λ v l. refl) refl (movesBeside o (still B m))
+        (λ v l. refl) refl (movesBeside any o (still B m))
 
-    pub movesSecond : {m : Movement} {k : ℕ → ℕ → ℕ} {y : ℕ → ℕ} (t D : ℕ) → Moves B m k (start t D) y → Moves J m (λ i. parts (A .transitions) none (k i)) (start (A .states + t) D) (parts (A .states) none y)
+    pub movesSecond : {m : Movement} {k : ℕ → ℕ → ℕ} {y : ℕ → ℕ} (t D : ℕ) → OfAnySource m → Moves B m k (start t D) y → Moves J m (λ i. parts (A .transitions) none (k i)) (start (A .states + t) D) (parts (A .states) none y)
     unfolding start none
-    movesSecond {m} t D o =
+    movesSecond {m} t D any o =
         movesCong
         (eachState (λ v. parts n none (start t D) v ≡ start (n + t) D v) (λ v l. inFirst n _ _ v l ∙ notSame _ (omega arith) refl) (λ v l. inSecond n _ _ v ∙ sym (raisedSame n v t D 0)))
-        (λ v l. refl) refl (movesBeside (still A m) o)
+        (λ v l. refl) refl (movesBeside any (still A m) o)
 
     -- a state of one of them answers a challenger of both
-    module _ {m : Movement} {k : ℕ → ℕ → ℕ} (W : ℕ → ℕ → Type 0) (q t D : ℕ) (one : 1 ≤ D) where
+    module _ {m : Movement} (any : OfAnySource m) {k : ℕ → ℕ → ℕ} (W : ℕ → ℕ → Type 0) (q t D : ℕ) (one : 1 ≤ D) where
       pub firstAnswers : (firsts over : ℕ → ℕ → ℕ) → t < A .states → Moves A m k (start t D) (λ v. overTargets A firsts v + overTargets B over v) → Couples W (A .states) (A .states) (J .denominator q) D (J .weight q) firsts → Couples (λ v u. W v (A .states + u)) (A .states) (B .states) (J .denominator q) D (λ u. J .weight q (A .states + u)) over → MetBy J m (Nothing J q t) W q t
       unfolding overSources
       firstAnswers firsts over below moves f o =
           record {
             flow = record { D = D; k = λ i. parts a (k i) none; w = square n firsts over nothing nothing };
             atLeastOne = one;
-            moves = movesCong (λ v l. refl) (λ v l. partsCong n (λ x. refl) (nothingTo A B) v ∙ overTargetsParts firsts over nothing nothing v l) refl (movesFirst t D below moves);
+            moves = movesCong (λ v l. refl) (λ v l. partsCong n (λ x. refl) (nothingTo A B) v ∙ overTargetsParts firsts over nothing nothing v l) refl (movesFirst t D below any moves);
             couples =
                 record {
                   related = relatesParts firsts over nothing nothing W (f .related) (o .related) (nothingRelated _ _ _) (nothingRelated _ _ _);
@@ -215,7 +212,7 @@ module _ (A B J : Automaton) (j : IsJoined A B J) where
           record {
             flow = record { D = D; k = λ i. parts a none (k i); w = square n nothing nothing back seconds };
             atLeastOne = one;
-            moves = movesCong (λ v l. refl) (λ v l. partsCong n (nothingTo A B) (λ x. refl) v ∙ overTargetsParts nothing nothing back seconds v l) refl (movesSecond t D moves);
+            moves = movesCong (λ v l. refl) (λ v l. partsCong n (nothingTo A B) (λ x. refl) v ∙ overTargetsParts nothing nothing back seconds v l) refl (movesSecond t D any moves);
             couples =
                 record {
                   related = relatesParts nothing nothing back seconds W (nothingRelated _ _ _) (nothingRelated _ _ _) (b .related) (s .related);
@@ -228,12 +225,12 @@ module _ (A B J : Automaton) (j : IsJoined A B J) where
           }
 
     -- what is met in one of them by a movement is met in both, for a relation that has its pairs there
-    module _ {met : StepRule} {movement : ℕ → Movement} (by : ByMovement met movement Nothing) (W Wide : ℕ → ℕ → Type 0) where
+    module _ {met : StepRule} {movement : ℕ → Movement} (by : ByMovement met (λ a t. movement a) Nothing) (any : (a : ℕ) → OfAnySource (movement a)) (W Wide : ℕ → ℕ → Type 0) where
       pub firstMet : ((v u : ℕ) → v < A .states → u < A .states → W v u → Wide v u) → (q t : ℕ) → q < A .transitions → t < A .states → met A W q t → met J Wide q t
       firstMet wider q t l below m =
           let x = by .to A W q t m in
           by .from J Wide q t
-          (firstAnswers Wide q t (x .flow .D) (x .atLeastOne) (x .flow .w) nothing below
+          (firstAnswers (any _) Wide q t (x .flow .D) (x .atLeastOne) (x .flow .w) nothing below
           (movesCong (λ v i. refl) (λ v i. omega (arith, nothingFor B v)) (ap movement (sym (j .firstAction q l))) (x .moves))
           (couplesCong wider (j .firstDenominator q l) (λ u i. j .firstWeight q u l i) (x .couples))
           (nothingCouples (λ u i. j .firstOnly q (n + u) l (omega arith))))
@@ -242,7 +239,7 @@ module _ (A B J : Automaton) (j : IsJoined A B J) where
       secondMet wider q t l m =
           let x = by .to B W q t m in
           by .from J Wide (a + q) (n + t)
-          (secondAnswers Wide (a + q) t (x .flow .D) (x .atLeastOne) nothing (x .flow .w)
+          (secondAnswers (any _) Wide (a + q) t (x .flow .D) (x .atLeastOne) nothing (x .flow .w)
           (movesCong (λ v i. refl) (λ v i. omega (arith, nothingFor A v)) (ap movement (sym (j .secondAction q l))) (x .moves))
           (nothingCouples (λ u i. j .secondOnly q u l i))
           (couplesCong wider (j .secondDenominator q l) (λ u i. j .secondWeight q u l i) (x .couples)))

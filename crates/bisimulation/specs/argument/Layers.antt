@@ -54,10 +54,10 @@ module _ (A : Automaton) where
   unfoldable pub brought : (k : ℕ → ℕ → ℕ) (a : ℕ → ℕ) → ℕ → ℕ
   brought k a n = sum n (λ i. sum (A .transitions) (λ r. k i r * a r))
 
-  -- from the prices X before a layer to the prices Y after it: 'd times A(source) is at least the sum of p(v)A(v)' for each transition with
-  -- its action, up to what is added to the two sides; a layer that is no step keeps the prices
+  -- from the prices X before a layer to the prices Y after it: 'd times A(source) is at least the sum of p(v)A(v)' for each transition that
+  -- it may use, up to what is added to the two sides; a layer that is no step keeps the prices
   pub record LayerPriced (l : Layer) (a b X Y : ℕ → ℕ) : Type 0 where
-    pub feasible : (r : ℕ) → r < A .transitions → A .action r ≡ l .action → value (A .states) (A .weight r) Y + a r ≤ A .denominator r * X (A .source r) + b r
+    pub feasible : (r : ℕ) → r < A .transitions → l .allows (A .source r) (A .action r) → value (A .states) (A .weight r) Y + a r ≤ A .denominator r * X (A .source r) + b r
     pub kept : l .step ≡ false → (v : ℕ) → v < A .states → X v ≡ Y v
 
   -- then the value of the amounts after the layer is at most that before it

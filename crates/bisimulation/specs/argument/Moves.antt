@@ -8,26 +8,27 @@ use Rattle.bisimulation.specs.definitions.Sum.{sum}
 use Rattle.bisimulation.specs.definitions.Automaton.{Automaton}
 use Rattle.bisimulation.specs.definitions.StepRule.{Flow, arriving, leaving, overTargets, StepRule}
 
--- a layer: the action of its transitions, and whether it is a step that all of what is there takes once, or each part takes as many as it will
-pub record Layer : Type 0 where
-  pub action : ℕ
+-- a layer: which transitions it may use, by source and action, and whether it is a step, that all of what is there takes once, or each part
+-- of it takes as many as it will
+pub record Layer : Type 1 where
+  pub allows : (source action : ℕ) → Type 0
   pub step : Bool
 
 -- a movement: so many layers, one after the other
-pub record Movement : Type 0 where
+pub record Movement : Type 1 where
   pub count : ℕ
   pub layer : ℕ → Layer
 
 -- the layer of internal transitions
 abbrev pub internally : Layer
-internally = record { action = 0; step = false }
+internally = record { allows = λ s b. b ≡ 0; step = false }
 
 -- document 01's: layer 0 for an internal challenger, layers 0, 1 and 2 for an external one, with its action a in layer 1
 abbrev pub internalMovement : Movement
 internalMovement = record { count = 1; layer = λ i. internally }
 
 abbrev pub externalMovement : ℕ → Movement
-externalMovement a = record { count = 3; layer = λ i. ifSame i 1 (record { action = a; step = true }) internally }
+externalMovement a = record { count = 3; layer = λ i. ifSame i 1 (record { allows = λ s b. b ≡ a; step = true }) internally }
 
 unfoldable pub plainMovement : (a : ℕ) → Movement
 plainMovement a = ifSame a 0 internalMovement (externalMovement a)
@@ -36,13 +37,13 @@ plainMovement a = ifSame a 0 internalMovement (externalMovement a)
 unfoldable pub start : (t D : ℕ) → ℕ → ℕ
 start t D v = ifSame v t D 0
 
--- a layer uses only transitions with the action a: a k of another is 0
-abbrev pub Uses : Automaton → (a : ℕ) → (ℕ → ℕ) → Type 0
-Uses A a k = (r : ℕ) → r < A .transitions → 0 < k r → A .action r ≡ a
+-- a layer uses only transitions that are allowed: a k of another is 0
+abbrev pub Uses : Automaton → (allows : (source action : ℕ) → Type 0) → (ℕ → ℕ) → Type 0
+Uses A allows k = (r : ℕ) → r < A .transitions → 0 < k r → allows (A .source r) (A .action r)
 
 -- k takes the amounts x at the states to y, in one layer
 pub record Through (A : Automaton) (l : Layer) (k x y : ℕ → ℕ) : Type 0 where
-  pub uses : Uses A (l .action) k
+  pub uses : Uses A (l .allows) k
   pub balance : (v : ℕ) → v < A .states → x v + arriving A k v ≡ leaving A k v + y v
   pub all : l .step ≡ true → (v : ℕ) → v < A .states → leaving A k v ≡ x v
 
@@ -77,14 +78,18 @@ Besides = Automaton → (q t : ℕ) → Flow → Type 0
 abbrev pub Nothing : Besides
 Nothing A q t f = Unit {0}
 
--- a step rule says what a movement for each challenger's action says
-pub record ByMovement (met : StepRule) (movement : ℕ → Movement) (More : Besides) : Type 1 where
-  pub to : (A : Automaton) (W : ℕ → ℕ → Type 0) (q t : ℕ) → met A W q t → MetBy A (movement (A .action q)) (More A q t) W q t
-  pub from : (A : Automaton) (W : ℕ → ℕ → Type 0) (q t : ℕ) → MetBy A (movement (A .action q)) (More A q t) W q t → met A W q t
+-- a step rule says what a movement says, one for each challenger's action a and defender t
+pub record ByMovement (met : StepRule) (movement : (a t : ℕ) → Movement) (More : Besides) : Type 1 where
+  pub to : (A : Automaton) (W : ℕ → ℕ → Type 0) (q t : ℕ) → met A W q t → MetBy A (movement (A .action q) t) (More A q t) W q t
+  pub from : (A : Automaton) (W : ℕ → ℕ → Type 0) (q t : ℕ) → MetBy A (movement (A .action q) t) (More A q t) W q t → met A W q t
 
--- a movement can do a transition with the action a once: in one layer, where no other is a step
-pub record DoesOnce (m : Movement) (a : ℕ) : Type 0 where
+-- a movement can do a transition of s with the action a once: in one layer, where no other is a step
+pub record DoesOnce (m : Movement) (s a : ℕ) : Type 0 where
   pub layer : ℕ
   pub below : layer < m .count
-  pub action : m .layer layer .action ≡ a
+  pub allows : m .layer layer .allows s a
   pub others : (j : ℕ) → j < m .count → (j ≡ layer → ⊥) → m .layer j .step ≡ true → ⊥
+
+-- a movement whose layers may use transitions of any source
+abbrev pub OfAnySource : Movement → Type 0
+OfAnySource m = (i : ℕ) → i < m .count → (s v a : ℕ) → m .layer i .allows s a → m .layer i .allows v a

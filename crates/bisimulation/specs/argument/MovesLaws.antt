@@ -1,6 +1,6 @@
 -- The laws of movements: amounts that are equal, scaled, or stay; a transition done once; what is coupled.
 use Prim.Native.Nat.{ℕ, suc, _*_, _≤_, _<_}
-use mathlib.Core.Path.{_≡_, refl, sym, _∙_, ap, ap₂, subst}
+use mathlib.Core.Path.{_≡_, refl, sym, _∙_, ap, ap₂, subst, subst₂}
 use mathlib.Core.Logic.{_⊎_, inl, inr}
 use mathlib.Core.Bool.{true}
 use native.Mathlib.Decide.{ℕ-discrete, decLt}
@@ -78,8 +78,8 @@ usedTimes x y l = go (eq-zero-or-pos x)
     go (inr h) = h
 
 -- h of B is c times k of A: in which actions it uses, in what arrives and in what leaves
-pub record Scaled (A B : Automaton) (c : ℕ) (k h : ℕ → ℕ) : Type 0 where
-  pub uses : (a : ℕ) → Uses A a k → Uses B a h
+pub record Scaled (A B : Automaton) (c : ℕ) (k h : ℕ → ℕ) : Type 1 where
+  pub uses : (allows : (source action : ℕ) → Type 0) → Uses A allows k → Uses B allows h
   pub arrives : (v : ℕ) → v < A .states → arriving B h v ≡ c * arriving A k v
   pub leaves : (v : ℕ) → v < A .states → leaving B h v ≡ c * leaving A k v
 
@@ -88,7 +88,7 @@ pub scaled : {A B : Automaton} {c : ℕ} {k h : ℕ → ℕ} → A .transitions 
 unfolding arriving leaving
 scaled {A} {B} {c} {k} {h} e source action used denominator weight =
     record {
-      uses = λ a u r l z. sym (action r (omega arith)) ∙ u r (omega arith) (used r z);
+      uses = λ allows u r l z. subst₂ allows (source r (omega arith)) (action r (omega arith)) (u r (omega arith) (used r z));
       arrives = λ v j. all _ _ (λ r l. weight r v l j);
       leaves = λ v j. all _ _ (λ r l. left r v l);
     }
@@ -108,7 +108,7 @@ movesScaled {A} {m = m} c e s o =
       between = λ i v. c * o .between i v;
       starts = λ v l. ap (λ (z : ℕ). c * z) (o .starts v (omega arith));
       through = λ i l. let t = o .through i l in record {
-        uses = s i .uses (m .layer i .action) (t .uses);
+        uses = s i .uses (m .layer i .allows) (t .uses);
         balance = λ v j. let b : v < A .states = omega arith in omega (arith, s i .arrives v b, s i .leaves v b, ap (λ (z : ℕ). c * z) (t .balance v b));
         all = λ p v j. let b : v < A .states = omega arith in s i .leaves v b ∙ ap (λ (z : ℕ). c * z) (t .all p v b);
       };
@@ -130,17 +130,17 @@ ownLayers q layer i = ifSame i layer (once q) none
 
 -- it takes its denominator at its source to its weights
 module _ (A : Automaton) (q : ℕ) (l : q < A .transitions) where
-  throughOnce : (y : Layer) → y .action ≡ A .action q → Through A y (once q) (start (A .source q) (A .denominator q)) (A .weight q)
+  throughOnce : (y : Layer) → y .allows (A .source q) (A .action q) → Through A y (once q) (start (A .source q) (A .denominator q)) (A .weight q)
   unfolding start
-  throughOnce y e =
+  throughOnce y may =
       let leaves : (v : ℕ) → leaving A (once q) v ≡ start (A .source q) (A .denominator q) v = λ v. leavingOnce A q l v ∙ turned (A .source q) v (A .denominator q) 0 in
       record {
-        uses = λ r i u. ap (A .action) (onceUsed q r u) ∙ sym e;
+        uses = λ r i u. subst (λ (z : ℕ). y .allows (A .source z) (A .action z)) (sym (onceUsed q r u)) may;
         balance = λ v i. omega (arith, leaves v, arrivingOnce A q l v);
         all = λ s v i. leaves v;
       }
 
-  pub ownMoves : {m : Movement} (does : DoesOnce m (A .action q)) → Moves A m (ownLayers q (does .layer)) (start (A .source q) (A .denominator q)) (A .weight q)
+  pub ownMoves : {m : Movement} (does : DoesOnce m (A .source q) (A .action q)) → Moves A m (ownLayers q (does .layer)) (start (A .source q) (A .denominator q)) (A .weight q)
   unfolding ownLayers
   ownMoves {m} does =
       record {
@@ -166,7 +166,7 @@ module _ (A : Automaton) (q : ℕ) (l : q < A .transitions) where
       at : (i : ℕ) → i < m .count → Dec (i ≡ does .layer) → Through A (m .layer i) (ifSame i (does .layer) (once q) none) (between i) (between (suc i))
       at i j (yes e) =
           subst (λ (k : ℕ → ℕ). Through A (m .layer i) k (between i) (between (suc i))) (same none e refl)
-          (throughCong (λ v b. sym (early i v (omega arith))) (λ v b. sym (late (suc i) v (omega arith))) (throughOnce (m .layer i) (ap (λ (z : ℕ). m .layer z .action) e ∙ does .action)))
+          (throughCong (λ v b. sym (early i v (omega arith))) (λ v b. sym (late (suc i) v (omega arith))) (throughOnce (m .layer i) (subst (λ (z : ℕ). m .layer z .allows (A .source q) (A .action q)) (sym e) (does .allows))))
       at i j (no n) =
           subst (λ (k : ℕ → ℕ). Through A (m .layer i) k (between i) (between (suc i))) (notSame (once q) n refl)
           (stays A (m .layer i) (between i) (between (suc i)) (λ v b. unmoved i v n (decLt (does .layer) i)) (λ s. absurd (does .others i j n s)))

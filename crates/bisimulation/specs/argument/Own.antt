@@ -14,14 +14,14 @@ use Rattle.bisimulation.specs.argument.PlainMoves.{plainBy, plainOnce}
 abbrev pub ownFlow : Automaton → (q layer : ℕ) → Flow
 ownFlow A q layer = record { D = A .denominator q; k = ownLayers q layer; w = diagonal (A .weight q) }
 
-pub ownBy : {met : StepRule} {movement : ℕ → Movement} {More : Besides} → ByMovement met movement More → (does : (a : ℕ) → DoesOnce (movement a) a) → ((A : Automaton) (q : ℕ) → q < A .transitions → More A q (A .source q) (ownFlow A q (does (A .action q) .layer))) → MeetsOwn met
+pub ownBy : {met : StepRule} {movement : (a t : ℕ) → Movement} {More : Besides} → ByMovement met movement More → (does : (a s : ℕ) → DoesOnce (movement a s) s a) → ((A : Automaton) (q : ℕ) → q < A .transitions → More A q (A .source q) (ownFlow A q (does (A .action q) (A .source q) .layer))) → MeetsOwn met
 unfolding SoundAutomaton overSources
 ownBy by does more A sound W reflexive q l =
     by .from A W q (A .source q)
     (record {
-      flow = ownFlow A q (does (A .action q) .layer);
+      flow = ownFlow A q (does (A .action q) (A .source q) .layer);
       atLeastOne = sound q l .positive;
-      moves = movesCong (λ v i. refl) (λ v i. sym (overTargetsDiagonal A (A .weight q) v i)) refl (ownMoves A q l (does (A .action q)));
+      moves = movesCong (λ v i. refl) (λ v i. sym (overTargetsDiagonal A (A .weight q) v i)) refl (ownMoves A q l (does (A .action q) (A .source q)));
       couples = record {
         related = λ v u i j z. subst (λ (x : ℕ). W v x) (diagonalUsed (A .weight q) v u z) (reflexive v i);
         target = λ u i. omega (arith, ap (λ (z : ℕ). A .denominator q * z) (overSourcesDiagonal A (A .weight q) u i));

@@ -9,7 +9,7 @@ use Rattle.bisimulation.specs.definitions.Choice.{ifLess, ifSame}
 use Rattle.bisimulation.specs.argument.ChoiceLaws.{same, notSame, false-not}
 use Rattle.bisimulation.specs.definitions.Automaton.{Automaton}
 use Rattle.bisimulation.specs.definitions.StepRule.{Flow, arriving, leaving, overTargets, overSources, beforeMove, afterMove, internalMove, atTarget, MetExternal, MetInternal, Met}
-use Rattle.bisimulation.specs.argument.Moves.{Movement, internalMovement, externalMovement, plainMovement, start, Through, MetBy, Nothing, ByMovement, DoesOnce}
+use Rattle.bisimulation.specs.argument.Moves.{Movement, internalMovement, externalMovement, plainMovement, start, Through, MetBy, Nothing, ByMovement, DoesOnce, OfAnySource}
 
 -- the movement by the challenger's kind
 byInternal : {a : ℕ} → a ≡ 0 → internalMovement ≡ plainMovement a
@@ -118,7 +118,7 @@ module _ (A : Automaton) (More : Flow → Type 0) (W : ℕ → ℕ → Type 0) (
         target = λ u l. record { equal = m .couples .target u l };
       }
 
-pub plainBy : ByMovement Met plainMovement Nothing
+pub plainBy : ByMovement Met (λ a t. plainMovement a) Nothing
 plainBy =
     record {
       to = λ A W q t m. eitherMovement (λ o. MetBy A o (Nothing A q t) W q t) (λ e. internalBy A _ W q t (m .internal e) tt) (λ n. externalBy A _ W q t (m .external n) tt);
@@ -129,14 +129,20 @@ plainBy =
     }
 
 -- the challenger is done in layer 0 if it is internal, else in layer 1
-pub plainOnce : (a : ℕ) → DoesOnce (plainMovement a) a
+pub plainOnce : (a s : ℕ) → DoesOnce (plainMovement a) s a
 unfolding ifSame
-plainOnce a =
-    eitherMovement (λ m. DoesOnce m a)
-    (λ e. record { layer = 0; below = omega arith; action = sym e; others = λ j l n s. false-not s })
+plainOnce a s =
+    eitherMovement (λ m. DoesOnce m s a)
+    (λ e. record { layer = 0; below = omega arith; allows = e; others = λ j l n s. false-not s })
     (λ n. record {
       layer = 1;
       below = omega arith;
-      action = refl;
+      allows = refl;
       others = threeLayers (λ j. (j ≡ 1 → ⊥) → externalMovement a .layer j .step ≡ true → ⊥) (λ o s. false-not s) (λ o s. o refl) (λ o s. false-not s);
     })
+
+pub plainAnySource : (a : ℕ) → OfAnySource (plainMovement a)
+unfolding ifSame
+plainAnySource a =
+    eitherMovement OfAnySource (λ e i l s v b h. h)
+    (λ n. threeLayers (λ i. (s v b : ℕ) → externalMovement a .layer i .allows s b → externalMovement a .layer i .allows v b) (λ s v b h. h) (λ s v b h. h) (λ s v b h. h))

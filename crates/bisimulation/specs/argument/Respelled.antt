@@ -73,7 +73,7 @@ module _ (A B : Automaton) (soundA : SoundAutomaton A) (soundB : SoundAutomaton 
       (omega (arith, ap (λ (z : ℕ). B .denominator q * multiple B * z) h, ap (λ (z : ℕ). multiple B * D * z) (e .probability q u i j)))
 
 -- what is met by a movement is met by the scaled flow
-pub respelledBy : {met : StepRule} {movement : ℕ → Movement} {More : Besides} → ByMovement met movement More → ((A B : Automaton) → SoundAutomaton A → SoundAutomaton B → SameProbabilities A B → (q t : ℕ) (f : Flow) → q < A .transitions → More A q t f → More B q t (respelledFlow A B f)) → MetRespelled met
+pub respelledBy : {met : StepRule} {movement : (a t : ℕ) → Movement} {More : Besides} → ByMovement met movement More → ((A B : Automaton) → SoundAutomaton A → SoundAutomaton B → SameProbabilities A B → (q t : ℕ) (f : Flow) → q < A .transitions → More A q t f → More B q t (respelledFlow A B f)) → MetRespelled met
 unfolding respelledFlow
 respelledBy {movement = movement} by more A B soundA soundB e W q t i m =
     let o = by .to A W q t m in
@@ -83,7 +83,7 @@ respelledBy {movement = movement} by more A B soundA soundB e W q t i m =
       flow = respelledFlow A B f;
       atLeastOne = mul-pos (multiplePositive A B soundA soundB e) (o .atLeastOne);
       moves =
-          movesCong (λ v l. startTimes (multiple B) t (f .D) v) (λ v l. sym (overTargetsRespelled A B soundA soundB e (f .w) v)) (ap movement (e .action q i))
+          movesCong (λ v l. startTimes (multiple B) t (f .D) v) (λ v l. sym (overTargetsRespelled A B soundA soundB e (f .w) v)) (ap (λ (a : ℕ). movement a t) (e .action q i))
           (movesScaled (multiple B) (sym (e .states)) (λ l. layerRespelled A B soundA soundB e (f .k l)) (o .moves));
       couples = record {
         related = λ v u l j z. o .couples .related v u (omega (arith, e .states)) (omega (arith, e .states)) (usedTimes (f .w v u) (multiple B) (omega arith));

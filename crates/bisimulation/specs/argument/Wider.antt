@@ -7,7 +7,7 @@ use Rattle.bisimulation.specs.argument.Moves.{Movement, Besides, ByMovem
 use Rattle.bisimulation.specs.argument.MovesLaws.{couplesCong}
 use Rattle.bisimulation.specs.argument.PlainMoves.{plainBy}
 
-pub widerBy : {met : StepRule} {movement : ℕ → Movement} {More : Besides} → ByMovement met movement More → MetWider met
+pub widerBy : {met : StepRule} {movement : (a t : ℕ) → Movement} {More : Besides} → ByMovement met movement More → MetWider met
 widerBy by A W Wide wider q t m =
     let o = by .to A W q t m in
     by .from A Wide q t

@@ -30,7 +30,7 @@ module _ (cost : ℕ → ℕ) where
   abbrev pub KeepsCosts : Besides
   KeepsCosts A q t f = Holds (costEquation cost A f q)
 
-  pub costBy : ByMovement (CostMet cost) plainMovement KeepsCosts
+  pub costBy : ByMovement (CostMet cost) (λ a t. plainMovement a) KeepsCosts
   unfolding internalFrom externalFrom
   costBy =
       record {
@@ -45,18 +45,18 @@ module _ (cost : ℕ → ℕ) where
   costWider = widerBy costBy
 
   -- the challenger done once has the challenger's cost
-  ownEquation : (A : Automaton) (q : ℕ) → q < A .transitions → KeepsCosts A q (A .source q) (ownFlow A q (plainOnce (A .action q) .layer))
+  ownEquation : (A : Automaton) (q : ℕ) → q < A .transitions → KeepsCosts A q (A .source q) (ownFlow A q (plainOnce (A .action q) (A .source q) .layer))
   unfolding costEquation ownLayers
   ownEquation A q l =
       record {
         equal =
             sumCong (layers A q) _ _ (λ i j. ofSame (costOfLayer cost A) i layer (once q) none ∙ ap (λ (z : ℕ). ifSame i layer (costOfLayer cost A (once q)) z) (costNone cost A))
-            ∙ sumSame (layers A q) layer (λ i. costOfLayer cost A (once q)) (omega (arith, plainOnce (A .action q) .below, allLayers A q))
+            ∙ sumSame (layers A q) layer (λ i. costOfLayer cost A (once q)) (omega (arith, plainOnce (A .action q) (A .source q) .below, allLayers A q))
             ∙ omega (arith, costOnce cost A q l);
       }
     where
       layer : ℕ
-      layer = plainOnce (A .action q) .layer
+      layer = plainOnce (A .action q) (A .source q) .layer
 
   pub costOwn : MeetsOwn (CostMet cost)
   costOwn = ownBy costBy plainOnce ownEquation

@@ -4,7 +4,7 @@ use mathlib.Core.Bool.{Bool, true}
 use mathlib.Core.List.{List}
 use lib.IntN.{ℤ, natAbs, _-ℤ_}
 use lib.Signed.{mag, ltZ}
-use Rattle.bisimulation.specs.definitions.Choice.{ifSame, unlessTrue, both, allBelow}
+use Rattle.bisimulation.specs.definitions.Choice.{unlessTrue, both, allBelow}
 use Rattle.bisimulation.specs.definitions.Automaton.{Automaton}
 use Rattle.bisimulation.specs.definitions.Pairs.{Pairs}
 use Rattle.bisimulation.specs.definitions.Prices.{priceAt}
@@ -14,7 +14,10 @@ use Rattle.rules.specs.definitions.PlainRule.{allRelated}
 use Rattle.costs.specs.definitions.CostPrices.{priceWithCost}
 use Rattle.cost_files.specs.definitions.CostFile.{costCondition, lastCostFault}
 use Rattle.rule_kind.specs.declared.Kind.{Kind}
+use Rattle.rule_kind.specs.declared.Condition.{Condition}
+use Rattle.rule_kind.specs.declared.Condition.the-variants.{Across, Within, Unasked}
 use Rattle.rule_kind.specs.Kinds.{KindStands, CostAsked}
+use Rattle.rule_kind.specs.Steps.{conditionBy}
 use Rattle.transition.specs.Known.{Known}
 use Rattle.prices.specs.Prices.{SmallPrices}
 
@@ -24,18 +27,24 @@ module _ (cost : ℕ → ℕ) (A : Automaton) (L : ℤ) where
   unfoldable pub fairTwice : (X Y : ℕ → ℤ) → ℕ → Bool
   fairTwice X Y r = both (costCondition cost A L X X r) (costCondition cost A L Y Y r)
 
-  -- what a challenger with the action a asks of a transition; for an internal one Y is X
-  unfoldable pub fairTo : ℕ → (X Y : ℕ → ℤ) → ℕ → Bool
-  fairTo a X Y r = ifSame (A .action r) a (costCondition cost A L X Y r) (ifSame (A .action r) 0 (fairTwice X Y r) true)
+  -- what a condition says of a transition, for X before the move and Y after it
+  unfoldable pub fairBy : Condition → (X Y : ℕ → ℤ) → ℕ → Bool
+  fairBy Across X Y r = costCondition cost A L X Y r
+  fairBy Within X Y r = fairTwice X Y r
+  fairBy Unasked X Y r = true
+
+  -- what a challenger with the action a asks of a transition; where there is no move Y is X
+  unfoldable pub fairTo : Kind → ℕ → (X Y : ℕ → ℤ) → ℕ → Bool
+  fairTo kind a X Y r = fairBy (conditionBy kind a (A .action r)) X Y r
 
   -- what it asks of the transitions
-  unfoldable pub allFair : ℕ → (X Y : ℕ → ℤ) → Bool
-  allFair a X Y = allBelow (A .transitions) (fairTo a X Y)
+  unfoldable pub allFair : Kind → ℕ → (X Y : ℕ → ℤ) → Bool
+  allFair kind a X Y = allBelow (A .transitions) (fairTo kind a X Y)
 
-  -- 15 and 16, of the challenger q with the action a against t; for an internal one Y is X
-  unfoldable pub conditionsFault : Pairs → (a q t : ℕ) → (X Y G : ℕ → ℤ) → Fault
-  conditionsFault R a q t X Y G =
-      unlessTrue (allFair a X Y) (fault 15)
+  -- 15 and 16, of the challenger q with the action a against t; where there is no move Y is X
+  unfoldable pub conditionsFault : Kind → Pairs → (a q t : ℕ) → (X Y G : ℕ → ℤ) → Fault
+  conditionsFault kind R a q t X Y G =
+      unlessTrue (allFair kind a X Y) (fault 15)
       (unlessTrue (allRelated A R Y G) (fault 15)
       (lastCostFault cost A L X G q t))
 

@@ -28,7 +28,11 @@ use Rattle.cost_files.specs.definitions.CostFile.{costCondition, lastCostFault}
 use Rattle.cost_files.specs.argument.CostReadingLaws.{cost-at}
 use Rattle.rule_kind.specs.declared.Kind.{Kind}
 use Rattle.rule_kind.specs.declared.Kind.the-variants.{Plain, Costs}
+use Rattle.rule_kind.specs.declared.Condition.{Condition}
+use Rattle.rule_kind.specs.declared.Condition.the-variants.{Across, Within, Unasked}
 use Rattle.rule_kind.specs.Kinds.{costIn, CostAsked, CostIs}
+use Rattle.rule_kind.specs.Steps.{conditionBy}
+use Rattle.rule_kind.specs.StepsLaws.{across, within, unasked}
 use Rattle.signed.specs.Terms.{Addable, WithTerm}
 use Rattle.signed.specs.TermsLaws.{abs-add, abs-less, abs-term, mag-abs}
 use Rattle.transition_record.specs.declared.Fields.{Fields}
@@ -36,7 +40,7 @@ use Rattle.transition.specs.Known.{automatonIn, Known, KnownTransition, FieldsO
 use Rattle.transition.specs.KnownLaws.{few-states, known-transitions, known-transition, entries-known}
 use Rattle.prices.specs.Prices.{priceIn, SmallPrices, IsSum}
 use Rattle.prices.specs.PricesLaws.{price-back, sum-back, targets-small, sum-is}
-use Rattle.conditions.specs.Conditions.{fairTwice, fairTo, allFair, lastHolds, lastOff, AllPriced, CostPriced, CostAddable, LastAsked}
+use Rattle.conditions.specs.Conditions.{fairTwice, fairBy, fairTo, allFair, lastHolds, lastOff, AllPriced, CostPriced, CostAddable, LastAsked}
 
 -- a state has a price, and d is small
 pub state-price : {s places : List ℕ} {r v : ℕ} {f : Fields} {table : List ℤ} → KnownTransition s places r → FieldsOf s r f → SmallPrices (statesOf s) table → v < statesOf s → (f .denominator < 65536) × (v < limits .states) × (mag (priceIn table v) < 2 ^ 31)
@@ -203,25 +207,43 @@ module _ (cost : ℕ → ℕ) (A : Automaton) (L : ℤ) (X Y : ℕ → ℤ) (r :
   unfolding fairTwice both
   twice-then e q = q ∙ ap (λ (t : Bool). cond t (costCondition cost A L Y Y r) false) (sym e)
 
+-- what each condition says of a transition whose action was read
+module _ (cost : ℕ → ℕ) (A : Automaton) (L : ℤ) (kind : Kind) (a : ℕ) (X Y : ℕ → ℤ) (r : ℕ) {action : ℕ} {condition : Condition} (is : condition ≡ conditionBy kind a action) (read : action ≡ A .action r) where
+  fair-as : {z : Bool} {told : Condition} → condition ≡ told → z ≡ fairBy cost A L told X Y r → z ≡ fairTo cost A L kind a X Y r
+  unfolding fairTo
+  fair-as e f = f ∙ ap (λ (c : Condition). fairBy cost A L c X Y r) (sym e ∙ is ∙ ap (conditionBy kind a) read)
+
+  pub fair-across : {z : Bool} → condition ≡ Across → z ≡ costCondition cost A L X Y r → z ≡ fairTo cost A L kind a X Y r
+  unfolding fairBy
+  fair-across e f = fair-as e f
+
+  pub fair-within : {z : Bool} → condition ≡ Within → z ≡ fairTwice cost A L X Y r → z ≡ fairTo cost A L kind a X Y r
+  unfolding fairBy
+  fair-within e f = fair-as e f
+
+  pub fair-unasked : condition ≡ Unasked → true ≡ fairTo cost A L kind a X Y r
+  unfolding fairBy
+  fair-unasked e = fair-as e refl
+
 -- the transitions of the head are all of them
-pub all-of-count : {s places : List ℕ} {n count : ℕ} → Known s n count places → (cost : ℕ → ℕ) (L : ℤ) (a : ℕ) (X Y : ℕ → ℤ) → allBelow count (fairTo cost (automatonIn s) L a X Y) ≡ allFair cost (automatonIn s) L a X Y
+pub all-of-count : {s places : List ℕ} {n count : ℕ} → Known s n count places → (cost : ℕ → ℕ) (L : ℤ) (kind : Kind) (a : ℕ) (X Y : ℕ → ℤ) → allBelow count (fairTo cost (automatonIn s) L kind a X Y) ≡ allFair cost (automatonIn s) L kind a X Y
 unfolding allFair
-all-of-count {s} k cost L a X Y = ap (λ (n : ℕ). allBelow n (fairTo cost (automatonIn s) L a X Y)) (sym (known-transitions k))
+all-of-count {s} k cost L kind a X Y = ap (λ (n : ℕ). allBelow n (fairTo cost (automatonIn s) L kind a X Y)) (sym (known-transitions k))
 
 -- what the tests of each kind of challenger come to
-module _ (cost : ℕ → ℕ) (A : Automaton) (L : ℤ) where
-  pub fair-internal : (X : ℕ → ℤ) → allFair cost A L 0 X X ≡ allWithAction A 0 (costCondition cost A L X X)
-  unfolding allFair allWithAction fairTo
+module _ (cost : ℕ → ℕ) (A : Automaton) (L : ℤ) (kind : Kind) where
+  pub fair-internal : (X : ℕ → ℤ) → allFair cost A L kind 0 X X ≡ allWithAction A 0 (costCondition cost A L X X)
+  unfolding allFair allWithAction
   fair-internal X = allBelowCong (A .transitions) _ _ (λ r l. go r (ℕ-discrete (A .action r) 0))
     where
-      go : (r : ℕ) → Dec (A .action r ≡ 0) → fairTo cost A L 0 X X r ≡ ifSame (A .action r) 0 (costCondition cost A L X X r) true
-      go r (yes e) = same true e (sym (same _ e refl))
-      go r (no e) = notSame (costCondition cost A L X X r) e (sym (notSame (costCondition cost A L X X r) e (notSame (fairTwice cost A L X X r) e refl)))
+      go : (r : ℕ) → Dec (A .action r ≡ 0) → fairTo cost A L kind 0 X X r ≡ ifSame (A .action r) 0 (costCondition cost A L X X r) true
+      go r (yes e) = sym (fair-across cost A L kind 0 X X r refl refl (across kind 0 (A .action r) e) refl) ∙ same true e refl
+      go r (no e) = sym (fair-unasked cost A L kind 0 X X r refl refl (unasked kind 0 (A .action r) e e)) ∙ notSame (costCondition cost A L X X r) e refl
 
-  module _ (a : ℕ) (X Y : ℕ → ℤ) (external : 0 < a) where
-    each-fair : (r : ℕ) → fairTo cost A L a X Y r ≡ both (both (ifSame (A .action r) 0 (costCondition cost A L X X r) true) (ifSame (A .action r) 0 (costCondition cost A L Y Y r) true)) (ifSame (A .action r) a (costCondition cost A L X Y r) true)
-    unfolding fairTo fairTwice both
-    each-fair r = go (ℕ-discrete (A .action r) 0)
+  module _ (a : ℕ) (X Y : ℕ → ℤ) (external : a ≡ 0 → ⊥) where
+    each-fair : (r : ℕ) → fairTo cost A L kind a X Y r ≡ both (both (ifSame (A .action r) 0 (costCondition cost A L X X r) true) (ifSame (A .action r) 0 (costCondition cost A L Y Y r) true)) (ifSame (A .action r) a (costCondition cost A L X Y r) true)
+    unfolding fairTwice both
+    each-fair r = go (ℕ-discrete (A .action r) 0) (ℕ-discrete (A .action r) a)
       where
         move : Bool
         move = ifSame (A .action r) a (costCondition cost A L X Y r) true
@@ -230,19 +252,23 @@ module _ (cost : ℕ → ℕ) (A : Automaton) (L : ℤ) where
         after true = refl
         after false = refl
 
-        go : Dec (A .action r ≡ 0) → fairTo cost A L a X Y r ≡ cond (cond (ifSame (A .action r) 0 (costCondition cost A L X X r) true) (ifSame (A .action r) 0 (costCondition cost A L Y Y r) true) false) move false
-        go (yes e) =
-            let other : A .action r ≡ a → ⊥ = λ q. omega arith in
-            sym (notSame (costCondition cost A L X Y r) other (same true e refl)) ∙ after _
+        apart : (A .action r ≡ 0 → ⊥) → move ≡ cond (cond (ifSame (A .action r) 0 (costCondition cost A L X X r) true) (ifSame (A .action r) 0 (costCondition cost A L Y Y r) true) false) move false
+        apart e =
+            ap (λ (b : Bool). cond b move false)
+            (ap₂ (λ (b c : Bool). cond b c false) (notSame (costCondition cost A L X X r) e refl) (notSame (costCondition cost A L Y Y r) e refl))
+
+        go : Dec (A .action r ≡ 0) → Dec (A .action r ≡ a) → fairTo cost A L kind a X Y r ≡ cond (cond (ifSame (A .action r) 0 (costCondition cost A L X X r) true) (ifSame (A .action r) 0 (costCondition cost A L Y Y r) true) false) move false
+        go (yes e) (yes q) = absurd (external (sym q ∙ e))
+        go (yes e) (no other) =
+            sym (fair-within cost A L kind a X Y r refl refl (within kind a (A .action r) other e) refl) ∙ after _
             ∙ ap₂ (λ (b c : Bool). cond b c false)
             (ap₂ (λ (b c : Bool). cond b c false) (same true e refl) (same true e refl))
             (notSame (costCondition cost A L X Y r) other refl)
-        go (no e) =
-            ap (ifSame (A .action r) a (costCondition cost A L X Y r)) (sym (notSame (fairTwice cost A L X Y r) e refl))
-            ∙ ap (λ (b : Bool). cond b move false)
-            (ap₂ (λ (b c : Bool). cond b c false) (notSame (costCondition cost A L X X r) e refl) (notSame (costCondition cost A L Y Y r) e refl))
+        go (no e) (yes q) = sym (fair-across cost A L kind a X Y r refl refl (across kind a (A .action r) q) refl) ∙ same true q refl ∙ apart e
+        go (no e) (no other) =
+            sym (fair-unasked cost A L kind a X Y r refl refl (unasked kind a (A .action r) other e)) ∙ notSame (costCondition cost A L X Y r) other refl ∙ apart e
 
-    pub fair-external : allFair cost A L a X Y ≡ both (both (allWithAction A 0 (costCondition cost A L X X)) (allWithAction A 0 (costCondition cost A L Y Y))) (allWithAction A a (costCondition cost A L X Y))
+    pub fair-external : allFair cost A L kind a X Y ≡ both (both (allWithAction A 0 (costCondition cost A L X X)) (allWithAction A 0 (costCondition cost A L Y Y))) (allWithAction A a (costCondition cost A L X Y))
     unfolding allFair allWithAction
     fair-external =
         allBelowCong (A .transitions) _ _ (λ r l. each-fair r)

@@ -13,6 +13,7 @@ ghost use Rattle.prices.specs.Prices.{priceIn, SmallPrices};
 ghost use Rattle.conditions.specs.Conditions.{fairTwice, fairTo, allFair, lastOff, AllPriced, CostPriced, CostAddable, LastAsked};
 use model::Places;
 use prices::Prices;
+use rule_kind::Condition;
 use rule_kind::Kind;
 
 // d times the price of v is at least the sum.
@@ -117,16 +118,14 @@ fn fair_to(
     y: &Prices,
 ) -> bool
     requires { ⌜ CostPriced kind (now s) count (now places) r l × SmallPrices (statesOf (now s)) (now x) × SmallPrices (statesOf (now s)) (now y) ⌝ }
-    ensures { λ z. ⌜ z ≡ fairTo (costIn kind (now (s .entry))) (automatonIn (now (s .entry))) l a (priceIn (now (x .entry))) (priceIn (now (y .entry))) r ⌝ }
+    ensures { λ z. ⌜ z ≡ fairTo (costIn kind (now (s .entry))) (automatonIn (now (s .entry))) l kind a (priceIn (now (x .entry))) (priceIn (now (y .entry))) r ⌝ }
 {
     let action = transition::fields_of(s, places, r).action;
-    if action == a {
-        return fair(kind, s, count, places, r, l, x, y);
+    match rule_kind::condition_of(kind, a, action) {
+        Condition::Across => fair(kind, s, count, places, r, l, x, y),
+        Condition::Within => fair_twice(kind, s, count, places, r, l, x, y),
+        Condition::Unasked => true,
     }
-    if action == 0 {
-        return fair_twice(kind, s, count, places, r, l, x, y);
-    }
-    true
 }
 
 // What it asks of the transitions.
@@ -141,7 +140,7 @@ pub fn all_fair(
     y: &Prices,
 ) -> bool
     requires { ⌜ AllPriced kind (now s) count (now places) l × SmallPrices (statesOf (now s)) (now x) × SmallPrices (statesOf (now s)) (now y) ⌝ }
-    ensures { λ z. ⌜ z ≡ allFair (costIn kind (now (s .entry))) (automatonIn (now (s .entry))) l a (priceIn (now (x .entry))) (priceIn (now (y .entry))) ⌝ }
+    ensures { λ z. ⌜ z ≡ allFair (costIn kind (now (s .entry))) (automatonIn (now (s .entry))) l kind a (priceIn (now (x .entry))) (priceIn (now (y .entry))) ⌝ }
 {
     let mut r = 0;
     while r < count {

@@ -20,23 +20,17 @@ use Rattle.field.specs.Taken.{taken-at}
 use Rattle.cost_files.specs.definitions.CostModel.{highestCost}
 use Rattle.rule_kind.specs.declared.Kind.{Kind}
 use Rattle.rule_kind.specs.Kinds.{costIn, KindStands, CostIs}
+use Rattle.rule_kind.specs.Steps.{Tests, arrivalOf, departureOf}
+use Rattle.rule_kind.specs.StepsLaws.{arrival-most, departure-most}
 use Rattle.transition_record.specs.declared.Fields.{Fields}
 use Rattle.transition.specs.Known.{automatonIn, Known, FieldsOf, entriesOf}
 use Rattle.transition.specs.KnownLaws.{few-transitions, known-own, known-transition, known-transitions}
 use Rattle.entries_k.specs.declared.Taken.{Taken}
 use Rattle.remainders.specs.Nonzero.{nonzeroIn, Counted, Became}
 use Rattle.remainders.specs.Moving.{arrived, departed, Room, CanMove}
-use Rattle.entries_k.specs.Taking.{arrivalOf, departureOf, Tests, WrongK, unordered, absent, unasked, nothing, RightK, TellsK, tookK, tookKs, CanTake, kSum, costOfK, mostCostOfK, PayAsked, PaidIs, mostKs, CanTakeKs, TookKs}
+use Rattle.entries_k.specs.Taking.{WrongK, unordered, absent, unasked, nothing, RightK, TellsK, tookK, tookKs, CanTake, kSum, costOfK, mostCostOfK, PayAsked, PaidIs, mostKs, CanTakeKs, TookKs}
 use Rattle.signed.specs.TermsLaws.{minus-small}
 use Rattle.remainders.specs.MovingLaws.{room-fewer, arrived-length, arrived-room, departed-room}
-
-pub arrival-most : (layer : ℕ) → arrivalOf layer ≤ limits .states
-unfolding arrivalOf
-arrival-most layer = eitherSame (λ (x : ℕ). x ≤ limits .states) layer 0 (omega arith) (omega arith)
-
-departure-most : (layer : ℕ) → departureOf layer ≤ limits .states
-unfolding departureOf
-departure-most layer = eitherSame (λ (x : ℕ). x ≤ limits .states) layer 2 (omega arith) (omega arith)
 
 -- a k entry's transition arrives, then leaves
 module _ {s places : List ℕ} {r k : ℕ} {remainders : List ℤ} {nonzero : ℕ} (c : CanTake s places r k remainders nonzero) (layer : ℕ) where
@@ -129,6 +123,10 @@ module _ (s C : List ℕ) (left : ℕ) {at layer r k : ℕ} (e : KRead C at laye
       ap (λ (x : ℕ). x + kSum C (costOfK cost (automatonIn s)) left (at + 7))
       (ap (λ (i : ℕ). costOfK cost (automatonIn s) layer i k) (e .transition-is)
       ∙ ap (costOfK cost (automatonIn s) layer (twoAt C (at + 1))) (e .k-is))
+
+-- the machine's answer to whether a transition's action is asked for
+pub asked-by : (test : ℕ → Bool) {action other : ℕ} {answer b : Bool} → answer ≡ test action → action ≡ other → answer ≡ b → test other ≡ b
+asked-by test e f g = ap test (sym f) ∙ sym e ∙ g
 
 -- the test's two answers
 module _ {count lowest layer r k : ℕ} {asked : Bool} where

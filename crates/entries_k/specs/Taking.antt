@@ -1,44 +1,23 @@
 -- What the k entries of a flow change in the remainders, and what they cost.
 use Prim.Native.Nat.{ℕ, zero, suc, _+_, _*_, _^_, _≤_, _<_}
 use mathlib.Core.Path.{_≡_}
-use mathlib.Core.Logic.{_↔_}
 use mathlib.Core.Bool.{Bool, true, false}
 use mathlib.Core.List.{List}
 use lib.ListN.{length}
 use lib.IntN.{ℤ, pos, negℤ}
-use Rattle.bisimulation.specs.definitions.Choice.{ifSame}
 use Rattle.rules.specs.definitions.Bytes.{byteAt, twoAt, fourAt}
 use Rattle.bisimulation.specs.definitions.Automaton.{Automaton}
 use Rattle.rules.specs.definitions.Certificate.{FileRule, kFault}
 use Rattle.rules.specs.definitions.Faults.{fault, Passes}
 use Rattle.rules.specs.definitions.Limits.{limits}
-use Rattle.rules.specs.definitions.PlainRule.{plainInQuestion}
-use Rattle.rules.specs.definitions.PlainSays.{InPlainQuestion}
 use Rattle.cost_files.specs.definitions.CostModel.{highestCost}
 use Rattle.rule_kind.specs.declared.Kind.{Kind}
 use Rattle.rule_kind.specs.Kinds.{KindStands, CostAsked}
+use Rattle.rule_kind.specs.Steps.{arrivalOf, departureOf}
 use Rattle.transition.specs.Known.{automatonIn, Known, KnownTransition, entriesOf}
 use Rattle.remainders.specs.Nonzero.{Counted, Became}
 use Rattle.remainders.specs.Moving.{arrived, departed, Room}
 use Rattle.entries_k.specs.declared.Taken.{Taken}
-
--- where the remainders begin that a layer leads to, or that w leaves by the challenger's action
-unfoldable pub arrivalOf : ℕ → ℕ
-arrivalOf layer = ifSame layer 0 0 (limits .states)
-
--- where the remainders begin that a layer leaves
-unfoldable pub departureOf : ℕ → ℕ
-departureOf layer = ifSame layer 2 (limits .states) 0
-
--- whether a layer may have an action, by the six cases; document 02, K5: 'An entry passes this test exactly when ..'
-pub record TellsLayer (challenger layer action : ℕ) (b : Bool) : Type 0 where
-  pub is : b ≡ plainInQuestion challenger layer action
-  pub exactly : (b ≡ true) ↔ InPlainQuestion challenger layer action
-
--- a test of a layer's actions is the rule's, and it allows three layers
-pub record Tests (test : (challenger layer action : ℕ) → Bool) (rule : FileRule) : Type 0 where
-  pub is : (A : Automaton) (q t layer r : ℕ) → test (A .action q) layer (A .action r) ≡ rule .inQuestion A q t layer r
-  pub layers : (challenger layer action : ℕ) → test challenger layer action ≡ true → layer ≤ 2
 
 -- what is wrong with a k entry, or that nothing is
 pub data WrongK (count lowest layer r k : ℕ) (asked : Bool) : Type 0 where

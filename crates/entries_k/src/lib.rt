@@ -1,12 +1,10 @@
 // The k entries of a flow judged, and taken into its equations.
-ghost use mathlib.Core.Path.{_≡_};
-ghost use Rattle.rules.specs.definitions.PlainRule.{plainInQuestion};
 ghost use Rattle.rule_kind.specs.Kinds.{ruleOf, costIn};
+ghost use Rattle.rule_kind.specs.Steps.{inQuestionBy};
 ghost use Rattle.transition.specs.Known.{automatonIn};
 ghost use Rattle.remainders.specs.Nonzero.{Became};
-ghost use Rattle.entries_k.specs.Taking.{arrivalOf, departureOf, TellsLayer, CanTest, TellsK, tookK, CanTake, PayAsked, PaidIs, CanTakeKs, TookKs};
+ghost use Rattle.entries_k.specs.Taking.{CanTest, TellsK, tookK, CanTake, PayAsked, PaidIs, CanTakeKs, TookKs};
 use field::Cursor;
-use limits::STATES;
 use model::Places;
 use remainders::Remainders;
 use rule_kind::Kind;
@@ -18,50 +16,6 @@ pub struct Taken {
     pub nonzero: usize,
     pub paid: usize,
     pub next: Cursor,
-}
-
-// Which actions may stand in which layer (document 02, K5). Each case is a group of constraints in definition 2 of source document 003: tr is
-// the entry's transition, from v to v' by ρ, a the challenger's action, and τ is action 0. 003 prints ρ(v'_a) in the last two, where 001 has
-// ρ(v').
-fn in_question(challenger: usize, layer: usize, action: usize) -> bool
-    ensures { λ r. ⌜ TellsLayer challenger layer action r ⌝ }
-{
-    match challenger {
-        // An internal challenger: 'without the last two groups of constraints'.
-        0 => match layer {
-            0 => action == 0, // f(v^tr,v') - ρ(v')f(v,v^tr) = 0, for each tr = v -τ-> ρ
-            1 => false, // without f(v_a^tr,v'_a) - ρ(v')f(v,v_a^tr) = 0
-            2 => false, // without f(v_a^tr,v'_a) - ρ(v')f(v_a,v_a^tr) = 0
-            _ => false, // no such layer
-        },
-        // An external one.
-        _ => match layer {
-            0 => action == 0, // before the move: f(v^tr,v') - ρ(v')f(v,v^tr) = 0, for each tr = v -τ-> ρ
-            1 => action == challenger, // the move: f(v_a^tr,v'_a) - ρ(v')f(v,v_a^tr) = 0, for each tr = v -a-> ρ
-            2 => action == 0, // after the move: f(v_a^tr,v'_a) - ρ(v')f(v_a,v_a^tr) = 0, for each tr = v -τ-> ρ
-            _ => false, // no such layer either
-        },
-    }
-}
-
-// Where the remainders begin that a layer leads to, or that w leaves by the challenger's action.
-pub fn arrival(layer: usize) -> usize
-    ensures { λ r. ⌜ r ≡ arrivalOf layer ⌝ }
-{
-    if layer == 0 {
-        return 0;
-    }
-    STATES
-}
-
-// Where the remainders begin that a layer leaves.
-fn departure(layer: usize) -> usize
-    ensures { λ r. ⌜ r ≡ departureOf layer ⌝ }
-{
-    if layer == 2 {
-        return STATES;
-    }
-    0
 }
 
 // One k entry taken into the equations.
@@ -77,13 +31,21 @@ fn take_k(
     requires { ⌜ CanTake (now s) (now places) r k (now remainders) nonzero ⌝ }
     ensures { λ x. ⌜ Became (tookK (now (s .entry)) layer r k (now (remainders .entry))) (now (remainders .exit)) x ⌝ }
 {
-    let arrived = remainders::arrive(s, places, r, k as i64, arrival(layer), remainders, nonzero);
+    let arrived = remainders::arrive(
+        s,
+        places,
+        r,
+        k as i64,
+        rule_kind::arrival(layer),
+        remainders,
+        nonzero,
+    );
     remainders::leave(
         s,
         places,
         r,
         signed::minus(k),
-        departure(layer),
+        rule_kind::departure(layer),
         remainders,
         arrived,
     )
@@ -111,6 +73,7 @@ fn pay(
 
 // A k entry is in order, its transition is there and in the question, and it is not zero.
 fn stands(
+    kind: Kind,
     s: &[u8],
     count: usize,
     places: &Places,
@@ -121,7 +84,7 @@ fn stands(
     k: usize,
 ) -> bool
     requires { ⌜ CanTest (now s) (now places) count layer r ⌝ }
-    ensures { λ x. ⌜ TellsK count lowest layer r k (plainInQuestion action layer (automatonIn (now (s .entry)) .action r)) x ⌝ }
+    ensures { λ x. ⌜ TellsK count lowest layer r k (inQuestionBy kind action layer (automatonIn (now (s .entry)) .action r)) x ⌝ }
 {
     let key = layer * 65536 + r;
     if key < lowest {
@@ -130,7 +93,12 @@ fn stands(
     if count <= r {
         return false;
     }
-    if !in_question(action, layer, transition::fields_of(s, places, r).action) {
+    if !rule_kind::in_question(
+        kind,
+        action,
+        layer,
+        transition::fields_of(s, places, r).action,
+    ) {
         return false;
     }
     if k == 0 {
@@ -167,7 +135,7 @@ pub fn take_ks(
         let l = layer.value;
         let r = which.value;
         let k = amount.value;
-        if !stands(s, count, places, action, lowest, l, r, k) {
+        if !stands(kind, s, count, places, action, lowest, l, r, k) {
             return Taken {
                 good: false,
                 nonzero,

@@ -1,9 +1,10 @@
 -- The two sides of a flow's equations as sums over its entries, in their order: what the remainders hold is left less right.
 use Prim.Native.Nat.{ℕ, zero, suc, _+_, _*_}
 use mathlib.Core.Path.{_≡_}
+use mathlib.Core.Bool.{Bool}
 use mathlib.Core.List.{List}
 use lib.IntN.{ℤ}
-use Rattle.bisimulation.specs.definitions.Choice.{ifSame, unlessSame}
+use Rattle.bisimulation.specs.definitions.Choice.{ifSame, ifTrue, unlessSame}
 use Rattle.bisimulation.specs.definitions.Automaton.{Automaton}
 use Rattle.bisimulation.specs.definitions.Pairs.{Pairs}
 use Rattle.bisimulation.specs.definitions.StepRule.{Sides}
@@ -51,19 +52,19 @@ module _ (A : Automaton) (C : List ℕ) (q t at : ℕ) where
   abbrev pub wTotal : (ℕ → ℕ → ℕ → ℕ) → ℕ
   wTotal f = wSum C f (wCountAt C at) (afterK C at + 2)
 
-  -- before the move, or of an internal challenger, from whom w leaves here
+  -- before the move; where there is none w leaves here
   unfoldable pub firstLeft : ℕ → ℕ
   firstLeft v = ifSame v t (fourAt C (at + 2)) 0 + kTotal (beforeLeft A v)
 
-  unfoldable pub firstRight : ℕ → ℕ
-  firstRight v = kTotal (beforeRight A v) + ifSame (A .action q) 0 (wTotal (takenAt v)) 0
+  unfoldable pub firstRight : (moves : Bool) → ℕ → ℕ
+  firstRight moves v = kTotal (beforeRight A v) + ifTrue moves 0 (wTotal (takenAt v))
 
   -- after the move
   unfoldable pub secondLeft : ℕ → ℕ
   secondLeft v = kTotal (afterLeft A v)
 
-  unfoldable pub secondRight : ℕ → ℕ
-  secondRight v = kTotal (afterRight A v) + ifSame (A .action q) 0 0 (wTotal (takenAt v))
+  unfoldable pub secondRight : (moves : Bool) → ℕ → ℕ
+  secondRight moves v = kTotal (afterRight A v) + ifTrue moves (wTotal (takenAt v)) 0
 
   -- at each u
   unfoldable pub targetLeft : ℕ → ℕ
@@ -84,12 +85,12 @@ abbrev pub sidesOf : (left right : ℕ → ℕ) → ℕ → Sides
 sidesOf left right v = record { left = left v; right = right v }
 
 module _ (A : Automaton) (C : List ℕ) (q t at : ℕ) where
-  -- the first break before the move, or of an internal challenger; after the move; and at the targets
-  abbrev pub beforeBreak : Fault
-  beforeBreak = firstBreak A 20 (sidesOf (firstLeft A C q t at) (firstRight A C q t at))
+  -- the first break before the move, after it, and at the targets
+  abbrev pub beforeBreak : (moves : Bool) → Fault
+  beforeBreak moves = firstBreak A 20 (sidesOf (firstLeft A C q t at) (firstRight A C q t at moves))
 
-  abbrev pub afterBreak : Fault
-  afterBreak = firstBreak A 20 (sidesOf (secondLeft A C q t at) (secondRight A C q t at))
+  abbrev pub afterBreak : (moves : Bool) → Fault
+  afterBreak moves = firstBreak A 20 (sidesOf (secondLeft A C q t at) (secondRight A C q t at moves))
 
   abbrev pub targetBreak : Fault
   targetBreak = firstBreak A 21 (sidesOf (targetLeft A C q t at) (targetRight A C q t at))
@@ -99,16 +100,16 @@ unfoldable pub costBreak : (paid owed : ℕ) → Fault
 costBreak paid owed = unlessSame paid owed (fault 30) noFault
 
 -- the sums decide the rule's equations, in this order
-pub record Decided (rule : FileRule) (cost : ℕ → ℕ) (A : Automaton) (C : List ℕ) (q t at : ℕ) : Type 0 where
-  pub is : firstOf (beforeBreak A C q t at) (firstOf (afterBreak A C q t at) (firstOf (targetBreak A C q t at) (costBreak (costLeft A C q t at cost) (costRight A C q t at cost)))) ≡ rule .equationsFault A q t (flowAt C at)
+pub record Decided (rule : FileRule) (cost : ℕ → ℕ) (moves : Bool) (A : Automaton) (C : List ℕ) (q t at : ℕ) : Type 0 where
+  pub is : firstOf (beforeBreak A C q t at moves) (firstOf (afterBreak A C q t at moves) (firstOf (targetBreak A C q t at) (costBreak (costLeft A C q t at cost) (costRight A C q t at cost)))) ≡ rule .equationsFault A q t (flowAt C at)
 
--- they do so for entries without fault
-abbrev pub DecidesEquations : FileRule → (cost : ℕ → ℕ) → Type 0
-DecidesEquations rule cost =
+-- they do so for entries without fault; whether there is a move is told by the challenger's action
+abbrev pub DecidesEquations : FileRule → (cost : ℕ → ℕ) → (moves : ℕ → Bool) → Type 0
+DecidesEquations rule cost moves =
     (A : Automaton) (C : List ℕ) (R : Pairs) (q t at : ℕ)
     → Passes (kFault rule A C q t (kCountAt C at) (at + 8) 0)
     → Passes (wFault A C R (wCountAt C at) (afterK C at + 2) 0)
-    → Decided rule cost A C q t at
+    → Decided rule cost (moves (A .action q)) A C q t at
 
 -- the first of the remainders left, from v on, that is not zero; they begin at `first` in a table
 unfoldable pub remainderBreak : (number : ℕ) → List ℤ → (first left v : ℕ) → Fault

@@ -10,7 +10,7 @@ use borrow.Author.Tests.{ltb-true, ltb-false}
 use native.Mathlib.Nat.{zero-add}
 use native.Mathlib.Omega.{arith}
 use native.Mathlib.Decide.{ℕ-discrete, decLt}
-use Rattle.bisimulation.specs.definitions.Choice.{ifSame}
+use Rattle.bisimulation.specs.definitions.Choice.{ifSame, ifTrue}
 use Rattle.bisimulation.specs.argument.ChoiceLaws.{same, notSame, turned, eitherSame, timesSame}
 use Rattle.bisimulation.specs.definitions.Automaton.{Automaton, SoundAutomaton}
 use Rattle.bisimulation.specs.definitions.Pairs.{Pairs}
@@ -34,7 +34,11 @@ use Rattle.equations.specs.Differences.{wSum, beforeLeft, beforeRight, a
 use Rattle.remainders.specs.Nonzero.{isNonzero, Counted}
 use Rattle.remainders.specs.NonzeroLaws.{zero-remainders, nonzero-remainders}
 use Rattle.remainders.specs.Moving.{added, arrived, departed}
-use Rattle.entries_k.specs.Taking.{arrivalOf, departureOf, tookK, tookKs, kSum}
+use Rattle.rule_kind.specs.declared.Kind.{Kind}
+use Rattle.rule_kind.specs.Kinds.{ruleOf}
+use Rattle.rule_kind.specs.Steps.{arrivalOf, departureOf, hasMove, wDepartureOf}
+use Rattle.rule_kind.specs.StepsLaws.{arrives-before, arrives-after, either-arrival, leaves-after, leaves-before, either-departure, w-after, w-before, either-w}
+use Rattle.entries_k.specs.Taking.{tookK, tookKs, kSum}
 use Rattle.entries_w.specs.Matching.{tookWs, tookVs, tookUs}
 use Rattle.remainders.specs.MovingLaws.{added-length, added-raised, landed, arrived-length, arrived-raised, landed-weight, landed-none}
 
@@ -153,22 +157,6 @@ term-here first x v i d k e = timesSame (first + x) i d k ∙ go (ℕ-discrete x
 term-other : (j i d k : ℕ) → (j ≡ i → ⊥) → ifSame j i d 0 * k ≡ 0
 term-other j i d k o = timesSame j i d k ∙ sym (notSame (d * k) o refl)
 
-at-zero : {layer : ℕ} → layer ≡ 0 → arrivalOf layer ≡ 0
-unfolding arrivalOf
-at-zero e = sym (same (limits .states) e refl)
-
-at-other : {layer : ℕ} → (layer ≡ 0 → ⊥) → arrivalOf layer ≡ limits .states
-unfolding arrivalOf
-at-other o = sym (notSame 0 o refl)
-
-from-two : {layer : ℕ} → layer ≡ 2 → departureOf layer ≡ limits .states
-unfolding departureOf
-from-two e = sym (same 0 e refl)
-
-from-other : {layer : ℕ} → (layer ≡ 2 → ⊥) → departureOf layer ≡ 0
-unfolding departureOf
-from-other o = sym (notSame (limits .states) o refl)
-
 -- no remainder of a state, before the move or after it
 abbrev pub Idle : ℕ → ℕ → Type 0
 Idle n i = (v : ℕ) → v < n → (v ≡ i → ⊥) × (limits .states + v ≡ i → ⊥)
@@ -202,17 +190,17 @@ module _ {s places : List ℕ} {n count : ℕ} (m : Known s n count places) wher
       up (yes e) =
           let w = weight-here less 0 v v (omega arith) in
           let turn : A .weight r v * k ≡ k * A .weight r v = omega arith in
-          ap (λ (first : ℕ). landed (entriesOf s r) first v * k) (at-zero e) ∙ ap (λ (x : ℕ). x * k) w ∙ turn ∙ same 0 e refl
+          ap (λ (first : ℕ). landed (entriesOf s r) first v * k) (arrives-before e) ∙ ap (λ (x : ℕ). x * k) w ∙ turn ∙ same 0 e refl
       up (no o) =
           let w = weight-other less (limits .states) v (λ u l e. omega arith) in
-          ap (λ (first : ℕ). landed (entriesOf s r) first v * k) (at-other o) ∙ ap (λ (x : ℕ). x * k) w ∙ notSame (k * A .weight r v) o (omega arith)
+          ap (λ (first : ℕ). landed (entriesOf s r) first v * k) (arrives-after o) ∙ ap (λ (x : ℕ). x * k) w ∙ notSame (k * A .weight r v) o (omega arith)
 
       down : Dec (layer ≡ 2) → ifSame (departureOf layer + A .source r) v (A .denominator r) 0 * k ≡ ifSame layer 2 0 (ifSame (A .source r) v (k * A .denominator r) 0)
       down (yes e) =
-          ap (λ (first : ℕ). ifSame (first + A .source r) v (A .denominator r) 0 * k) (from-two e)
+          ap (λ (first : ℕ). ifSame (first + A .source r) v (A .denominator r) 0 * k) (leaves-after e)
           ∙ term-other (limits .states + A .source r) v (A .denominator r) k (λ f. omega arith) ∙ same _ e refl
       down (no o) =
-          ap (λ (first : ℕ). ifSame (first + A .source r) v (A .denominator r) 0 * k) (from-other o)
+          ap (λ (first : ℕ). ifSame (first + A .source r) v (A .denominator r) 0 * k) (leaves-before o)
           ∙ term-here 0 (A .source r) v v (A .denominator r) k (omega arith) ∙ notSame 0 o refl
 
   after-step : (v : ℕ) → (layer r k : ℕ) → r < automatonIn s .transitions → (kUp s (limits .states + v) layer r k ≡ afterLeft (automatonIn s) v layer r k) × (kDown s (limits .states + v) layer r k ≡ afterRight (automatonIn s) v layer r k)
@@ -225,27 +213,27 @@ module _ {s places : List ℕ} {n count : ℕ} (m : Known s n count places) wher
       up : Dec (layer ≡ 0) → landed (entriesOf s r) (arrivalOf layer) (limits .states + v) * k ≡ ifSame layer 0 0 (k * A .weight r v)
       up (yes e) =
           let w = weight-other less 0 (limits .states + v) (λ u l f. omega (arith, few-states m)) in
-          ap (λ (first : ℕ). landed (entriesOf s r) first (limits .states + v) * k) (at-zero e) ∙ ap (λ (x : ℕ). x * k) w ∙ same (k * A .weight r v) e (omega arith)
+          ap (λ (first : ℕ). landed (entriesOf s r) first (limits .states + v) * k) (arrives-before e) ∙ ap (λ (x : ℕ). x * k) w ∙ same (k * A .weight r v) e (omega arith)
       up (no o) =
           let w = weight-here less (limits .states) v (limits .states + v) refl in
           let turn : A .weight r v * k ≡ k * A .weight r v = omega arith in
-          ap (λ (first : ℕ). landed (entriesOf s r) first (limits .states + v) * k) (at-other o) ∙ ap (λ (x : ℕ). x * k) w ∙ turn ∙ notSame 0 o refl
+          ap (λ (first : ℕ). landed (entriesOf s r) first (limits .states + v) * k) (arrives-after o) ∙ ap (λ (x : ℕ). x * k) w ∙ turn ∙ notSame 0 o refl
 
       down : Dec (layer ≡ 2) → ifSame (departureOf layer + A .source r) (limits .states + v) (A .denominator r) 0 * k ≡ ifSame layer 2 (ifSame (A .source r) v (k * A .denominator r) 0) 0
       down (yes e) =
-          ap (λ (first : ℕ). ifSame (first + A .source r) (limits .states + v) (A .denominator r) 0 * k) (from-two e)
+          ap (λ (first : ℕ). ifSame (first + A .source r) (limits .states + v) (A .denominator r) 0 * k) (leaves-after e)
           ∙ term-here (limits .states) (A .source r) v (limits .states + v) (A .denominator r) k refl ∙ same 0 e refl
       down (no o) =
-          ap (λ (first : ℕ). ifSame (first + A .source r) (limits .states + v) (A .denominator r) 0 * k) (from-other o)
+          ap (λ (first : ℕ). ifSame (first + A .source r) (limits .states + v) (A .denominator r) 0 * k) (leaves-before o)
           ∙ term-other (0 + A .source r) (limits .states + v) (A .denominator r) k (λ f. omega (arith, few-states m, source-known less)) ∙ notSame _ o refl
 
   idle-step : (i : ℕ) → Idle n i → (layer r k : ℕ) → r < automatonIn s .transitions → (kUp s i layer r k ≡ 0) × (kDown s i layer r k ≡ 0)
-  unfolding kUp kDown arrivalOf departureOf
+  unfolding kUp kDown
   idle-step i idle layer r k less = (
-    eitherSame (λ (first : ℕ). landed (entriesOf s r) first i * k ≡ 0) layer 0
+    either-arrival (λ (first : ℕ). landed (entriesOf s r) first i * k ≡ 0) layer
         (ap (λ (x : ℕ). x * k) (weight-other less 0 i (λ v l e. idle v l .0 (omega arith))) ∙ none)
         (ap (λ (x : ℕ). x * k) (weight-other less (limits .states) i (λ v l e. idle v l .1 e)) ∙ none),
-    eitherSame (λ (first : ℕ). ifSame (first + automatonIn s .source r) i (automatonIn s .denominator r) 0 * k ≡ 0) layer 2
+    either-departure (λ (first : ℕ). ifSame (first + automatonIn s .source r) i (automatonIn s .denominator r) 0 * k ≡ 0) layer
         (term-other _ i (automatonIn s .denominator r) k (idle (automatonIn s .source r) (source-known less) .1))
         (term-other _ i (automatonIn s .denominator r) k (λ e. idle (automatonIn s .source r) (source-known less) .0 (omega arith))),
   )
@@ -287,22 +275,25 @@ module _ (A : Automaton) (C : List ℕ) (P : Pairs) (i left at : ℕ) (passed : 
       refl
 
 -- the remainders after all entries of a flow without fault among them
-pub record Ended (A : Automaton) (C : List ℕ) (n q t at : ℕ) (remainders target : List ℤ) : Type 0 where
-  pub first : (v : ℕ) → v < limits .states → Raised (firstRight A C q t at v) (firstLeft A C q t at v) (remainderAt remainders v)
-  pub second : (v : ℕ) → v < limits .states → Raised (secondRight A C q t at v) (secondLeft A C q t at v) (remainderAt remainders (limits .states + v))
+pub record Ended (moves : Bool) (A : Automaton) (C : List ℕ) (n q t at : ℕ) (remainders target : List ℤ) : Type 0 where
+  pub first : (v : ℕ) → v < limits .states → Raised (firstRight A C q t at moves v) (firstLeft A C q t at v) (remainderAt remainders v)
+  pub second : (v : ℕ) → v < limits .states → Raised (secondRight A C q t at moves v) (secondLeft A C q t at v) (remainderAt remainders (limits .states + v))
   pub aim : (u : ℕ) → u < limits .states → Raised (targetRight A C q t at u) (targetLeft A C q t at u) (remainderAt target u)
   pub idle : (i : ℕ) → i < sizes.remainders → Idle n i → remainderAt remainders i ≡ pos 0
   pub targetIdle : (i : ℕ) → i < sizes.remainders → n ≤ i → remainderAt target i ≡ pos 0
 
-module _ (rule : FileRule) {s places : List ℕ} {n count : ℕ} (m : Known s n count places) (C : List ℕ) (P : Pairs) (q t at : ℕ) (challenger : q < count) (defender : t < n) (ks : Passes (kFault rule (automatonIn s) C q t (kCountAt C at) (at + 8) 0)) (ws : Passes (wFault (automatonIn s) C P (wCountAt C at) (afterK C at + 2) 0)) {remainders target : List ℤ} (zeros : AllZero remainders) (targetZeros : AllZero target) where
+module _ (kind : Kind) {s places : List ℕ} {n count : ℕ} (m : Known s n count places) (C : List ℕ) (P : Pairs) (q t at : ℕ) (challenger : q < count) (defender : t < n) (ks : Passes (kFault (ruleOf kind s) (automatonIn s) C q t (kCountAt C at) (at + 8) 0)) (ws : Passes (wFault (automatonIn s) C P (wCountAt C at) (afterK C at + 2) 0)) {remainders target : List ℤ} (zeros : AllZero remainders) (targetZeros : AllZero target) where
   abbrev A : Automaton
   A = automatonIn s
 
   abbrev D : ℕ
   D = fourAt C (at + 2)
 
+  abbrev moves : Bool
+  moves = hasMove kind (A .action q)
+
   abbrev first : ℕ
-  first = arrivalOf (A .action q)
+  first = wDepartureOf kind (A .action q)
 
   abbrev given : List ℤ
   given = added remainders t 1 (pos D)
@@ -324,13 +315,13 @@ module _ (rule : FileRule) {s places : List ℕ} {n count : ℕ} (m : Known s n 
   remainder-at i h up down step term e =
       raised-as
       (vs-raised A C P i (wCountAt C at) (afterK C at + 2) ws term taken (omega (arith, taken-size))
-      (ks-raised rule s C q t i up down step (kCountAt C at) (at + 8) 0 0 (ifSame t i 1 0 * D) given (omega (arith, given-size)) ks
+      (ks-raised (ruleOf kind s) s C q t i up down step (kCountAt C at) (at + 8) 0 0 (ifSame t i 1 0 * D) given (omega (arith, given-size)) ks
       (raised-as (added-raised remainders t 1 i (omega (arith, zeros .size)) (plus-raised D) (zero-raised (zeros .zero i h))) (omega arith) (omega arith)))
       first e)
       (omega arith)
       refl
 
-  -- the w entries are taken where the challenger's kind says, and nowhere else
+  -- the w entries leave where the rule says, and nowhere else
   kSums : (ℕ → ℕ → ℕ → ℕ) → ℕ
   kSums f = kSum C f (kCountAt C at) (at + 8)
 
@@ -349,9 +340,9 @@ module _ (rule : FileRule) {s places : List ℕ} {n count : ℕ} (m : Known s n 
   not-there : (b : ℕ) → first ≡ b → (i x w : ℕ) → (b + x ≡ i → ⊥) → ifSame (first + x) i 1 0 * w ≡ 0
   not-there b e i x w o = ap (λ (f : ℕ). ifSame (f + x) i 1 0 * w) e ∙ term-other (b + x) i 1 w o
 
-  holds-first : (v : ℕ) → v < limits .states → Raised (firstRight A C q t at v) (firstLeft A C q t at v) (remainderAt end v)
-  unfolding firstRight firstLeft kSums wSums end
-  holds-first v low = go (ℕ-discrete (A .action q) 0)
+  holds-first : (v : ℕ) → v < limits .states → Raised (firstRight A C q t at moves v) (firstLeft A C q t at v) (remainderAt end v)
+  unfolding firstRight firstLeft kSums wSums end ifTrue
+  holds-first v low = go moves refl
     where
       sides : (term : ℕ → ℕ → ℕ → ℕ) (total : ℕ) → ((x u w : ℕ) → x < A .states → ifSame (first + x) v 1 0 * w ≡ term x u w) → wSums term ≡ total → Raised (kSums (beforeRight A v) + total) (ifSame v t D 0 + kSums (beforeLeft A v)) (remainderAt end v)
       sides term total e f =
@@ -360,16 +351,16 @@ module _ (rule : FileRule) {s places : List ℕ} {n count : ℕ} (m : Known s n 
           raised-as (remainder-at v (omega arith) (beforeLeft A v) (beforeRight A v) (before-step m v low) term e)
           (ap (λ (y : ℕ). kSums (beforeRight A v) + y) f) (ap (λ (y : ℕ). y + kSums (beforeLeft A v)) mine)
 
-      go : Dec (A .action q ≡ 0) → Raised (kSums (beforeRight A v) + ifSame (A .action q) 0 (wSums (takenAt v)) 0) (ifSame v t D 0 + kSums (beforeLeft A v)) (remainderAt end v)
-      go (yes e) =
-          sides (takenAt v) _
-          (λ x u w l. subst (λ (i : ℕ). ifSame (first + x) i 1 0 * w ≡ takenAt v x u w) (zero-add v) (at-first 0 (at-zero e) v x u w)) (same 0 e refl)
-      go (no o) =
-          sides (λ x u w. 0) _ (λ x u w l. not-there (limits .states) (at-other o) v x w (λ f. omega arith)) (w-none C (wCountAt C at) (afterK C at + 2) ∙ notSame _ o refl)
+      go : (b : Bool) → moves ≡ b → Raised (kSums (beforeRight A v) + ifTrue b 0 (wSums (takenAt v))) (ifSame v t D 0 + kSums (beforeLeft A v)) (remainderAt end v)
+      go true e =
+          sides (λ x u w. 0) 0 (λ x u w l. not-there (limits .states) (w-after kind (A .action q) e) v x w (λ f. omega arith)) (w-none C (wCountAt C at) (afterK C at + 2))
+      go false e =
+          sides (takenAt v) (wSums (takenAt v))
+          (λ x u w l. subst (λ (i : ℕ). ifSame (first + x) i 1 0 * w ≡ takenAt v x u w) (zero-add v) (at-first 0 (w-before kind (A .action q) e) v x u w)) refl
 
-  holds-second : (v : ℕ) → v < limits .states → Raised (secondRight A C q t at v) (secondLeft A C q t at v) (remainderAt end (limits .states + v))
-  unfolding secondRight secondLeft kSums wSums end
-  holds-second v low = go (ℕ-discrete (A .action q) 0)
+  holds-second : (v : ℕ) → v < limits .states → Raised (secondRight A C q t at moves v) (secondLeft A C q t at v) (remainderAt end (limits .states + v))
+  unfolding secondRight secondLeft kSums wSums end ifTrue
+  holds-second v low = go moves refl
     where
       sides : (term : ℕ → ℕ → ℕ → ℕ) (total : ℕ) → ((x u w : ℕ) → x < A .states → ifSame (first + x) (limits .states + v) 1 0 * w ≡ term x u w) → wSums term ≡ total → Raised (kSums (afterRight A v) + total) (kSums (afterLeft A v)) (remainderAt end (limits .states + v))
       sides term total e f =
@@ -377,17 +368,17 @@ module _ (rule : FileRule) {s places : List ℕ} {n count : ℕ} (m : Known s n 
           raised-as (remainder-at (limits .states + v) (omega arith) (afterLeft A v) (afterRight A v) (after-step m v) term e)
           (ap (λ (y : ℕ). kSums (afterRight A v) + y) f) (omega (arith, mine))
 
-      go : Dec (A .action q ≡ 0) → Raised (kSums (afterRight A v) + ifSame (A .action q) 0 0 (wSums (takenAt v))) (kSums (afterLeft A v)) (remainderAt end (limits .states + v))
-      go (yes e) =
-          sides (λ x u w. 0) _ (λ x u w l. not-there 0 (at-zero e) (limits .states + v) x w (λ f. omega (arith, known-states m, few-states m))) (w-none C (wCountAt C at) (afterK C at + 2) ∙ same _ e refl)
-      go (no o) = sides (takenAt v) _ (λ x u w l. at-first (limits .states) (at-other o) v x u w) (notSame 0 o refl)
+      go : (b : Bool) → moves ≡ b → Raised (kSums (afterRight A v) + ifTrue b (wSums (takenAt v)) 0) (kSums (afterLeft A v)) (remainderAt end (limits .states + v))
+      go true e = sides (takenAt v) (wSums (takenAt v)) (λ x u w l. at-first (limits .states) (w-after kind (A .action q) e) v x u w) refl
+      go false e =
+          sides (λ x u w. 0) 0 (λ x u w l. not-there 0 (w-before kind (A .action q) e) (limits .states + v) x w (λ f. omega (arith, known-states m, few-states m))) (w-none C (wCountAt C at) (afterK C at + 2))
 
   stays-idle : (i : ℕ) → i < sizes.remainders → Idle n i → remainderAt end i ≡ pos 0
-  unfolding end arrivalOf
+  unfolding end
   stays-idle i h idle =
       let mine = term-other t i 1 D (idle t defender .0) in
       same-zero (remainder-at i h (λ layer r k. 0) (λ layer r k. 0) (idle-step m i idle) (λ x u w. 0)
-      (λ x u w l. eitherSame (λ (b : ℕ). ifSame (b + x) i 1 0 * w ≡ 0) (A .action q) 0 (term-other (0 + x) i 1 w (λ e. idle x (omega (arith, known-states m)) .0 (omega arith))) (term-other (limits .states + x) i 1 w (idle x (omega (arith, known-states m)) .1))))
+      (λ x u w l. either-w (λ (b : ℕ). ifSame (b + x) i 1 0 * w ≡ 0) kind (A .action q) (term-other (limits .states + x) i 1 w (idle x (omega (arith, known-states m)) .1)) (term-other (0 + x) i 1 w (λ e. idle x (omega (arith, known-states m)) .0 (omega arith)))))
       (omega (arith, mine, k-none C (kCountAt C at) (at + 8), w-none C (wCountAt C at) (afterK C at + 2)))
 
   -- the target's remainders
@@ -420,7 +411,7 @@ module _ (rule : FileRule) {s places : List ℕ} {n count : ℕ} (m : Known s n 
       (target-at i h 0 (weight-other m challenger-known 0 i (λ v l e. omega arith)) (λ v u w. 0) (λ v u w l. term-other u i (A .denominator q) w (λ e. omega (arith, known-states m))))
       (omega (arith, w-none C (wCountAt C at) (afterK C at + 2)))
 
-  pub ended : Ended (automatonIn s) C n q t at (tookVs C (arrivalOf (automatonIn s .action q)) (wCountAt C at) (afterK C at + 2) (tookKs s C (kCountAt C at) (at + 8) (added remainders t 1 (pos (fourAt C (at + 2)))))) (tookUs C (automatonIn s .denominator q) (wCountAt C at) (afterK C at + 2) (arrived (entriesOf s q) (negℤ (pos (fourAt C (at + 2)))) 0 target))
+  pub ended : Ended (hasMove kind (automatonIn s .action q)) (automatonIn s) C n q t at (tookVs C (wDepartureOf kind (automatonIn s .action q)) (wCountAt C at) (afterK C at + 2) (tookKs s C (kCountAt C at) (at + 8) (added remainders t 1 (pos (fourAt C (at + 2)))))) (tookUs C (automatonIn s .denominator q) (wCountAt C at) (afterK C at + 2) (arrived (entriesOf s q) (negℤ (pos (fourAt C (at + 2)))) 0 target))
   unfolding end aimed
   ended = record { first = holds-first; second = holds-second; aim = holds-aim; idle = stays-idle; targetIdle = target-idle }
 
@@ -449,12 +440,12 @@ module _ (number : ℕ) (table : List ℤ) (first : ℕ) (L R : ℕ → ℕ) (mo
       go r later (no n) = sym (notSame _ (λ z. n (sides-same r (is-zero _ z))) refl) ∙ ap (faultBy number v) (raised-is r) ∙ notSame _ n refl
 
 -- the equations by the remainders
-module _ {rule : FileRule} {cost : ℕ → ℕ} {A : Automaton} {C : List ℕ} {n q t at : ℕ} {remainders target : List ℤ} (known : A .states ≡ n) (few : n ≤ limits .states) (e : Ended A C n q t at remainders target) (d : Decided rule cost A C q t at) where
+module _ {rule : FileRule} {cost : ℕ → ℕ} {moves : Bool} {A : Automaton} {C : List ℕ} {n q t at : ℕ} {remainders target : List ℤ} (known : A .states ≡ n) (few : n ≤ limits .states) (e : Ended moves A C n q t at remainders target) (d : Decided rule cost moves A C q t at) where
   abbrev before : Fault
-  before = beforeBreak A C q t at
+  before = beforeBreak A C q t at moves
 
   abbrev after : Fault
-  after = afterBreak A C q t at
+  after = afterBreak A C q t at moves
 
   abbrev aimed-at : Fault
   aimed-at = targetBreak A C q t at
@@ -469,10 +460,10 @@ module _ {rule : FileRule} {cost : ℕ → ℕ} {A : Automaton} {C : List ℕ} {
   from-zero table L R raised v l = let z : v ≡ 0 + v = omega arith in subst (λ (i : ℕ). Raised (R v) (L v) (remainderAt table i)) z (raised v l)
 
   before-is : remainderBreak 20 remainders 0 n 0 ≡ before
-  before-is = break-of 20 remainders 0 (firstLeft A C q t at) (firstRight A C q t at) (from-zero remainders (firstLeft A C q t at) (firstRight A C q t at) (e .first))
+  before-is = break-of 20 remainders 0 (firstLeft A C q t at) (firstRight A C q t at moves) (from-zero remainders (firstLeft A C q t at) (firstRight A C q t at moves) (e .first))
 
   after-is : remainderBreak 20 remainders (limits .states) n 0 ≡ after
-  after-is = break-of 20 remainders (limits .states) (secondLeft A C q t at) (secondRight A C q t at) (e .second)
+  after-is = break-of 20 remainders (limits .states) (secondLeft A C q t at) (secondRight A C q t at moves) (e .second)
 
   target-is : remainderBreak 21 target 0 n 0 ≡ aimed-at
   target-is = break-of 21 target 0 (targetLeft A C q t at) (targetRight A C q t at) (from-zero target (targetLeft A C q t at) (targetRight A C q t at) (e .aim))
@@ -488,7 +479,7 @@ module _ {rule : FileRule} {cost : ℕ → ℕ} {A : Automaton} {C : List ℕ} {
   none number L R h = break-none number (sidesOf L R) (A .states) 0 (λ u l m. record { equal = h u (omega arith) })
 
   -- the remainders of equal sides are zero
-  remainders-zero : ((v : ℕ) → v < A .states → firstLeft A C q t at v ≡ firstRight A C q t at v) → ((v : ℕ) → v < A .states → secondLeft A C q t at v ≡ secondRight A C q t at v) → (i : ℕ) → i < sizes.remainders → remainderAt remainders i ≡ pos 0
+  remainders-zero : ((v : ℕ) → v < A .states → firstLeft A C q t at v ≡ firstRight A C q t at moves v) → ((v : ℕ) → v < A .states → secondLeft A C q t at v ≡ secondRight A C q t at moves v) → (i : ℕ) → i < sizes.remainders → remainderAt remainders i ≡ pos 0
   remainders-zero f g i h = go (decLt i n) (decLt i (limits .states)) (decLt i (limits .states + n))
     where
       go : Dec (i < n) → Dec (i < limits .states) → Dec (i < limits .states + n) → remainderAt remainders i ≡ pos 0

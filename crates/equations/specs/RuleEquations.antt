@@ -2,6 +2,7 @@
 use Prim.Native.Nat.{ℕ, zero, suc, _+_, _*_, _<_}
 use mathlib.Core.Path.{_≡_, refl, sym, _∙_, ap, ap₂}
 use mathlib.Core.Logic.{_≢_}
+use mathlib.Core.Bool.{Bool, true, false}
 use mathlib.Core.List.{List}
 use lib.Dec.{eqb}
 use lib.IntN.{subℕ}
@@ -30,8 +31,9 @@ use Rattle.cost_files.specs.definitions.CostFile.{costEquationFault, costEquati
 use Rattle.rule_kind.specs.declared.Kind.{Kind}
 use Rattle.rule_kind.specs.declared.Kind.the-variants.{Plain, Costs}
 use Rattle.rule_kind.specs.Kinds.{ruleOf, costIn}
-use Rattle.entries_k.specs.Taking.{Tests, kSum, costOfK}
-use Rattle.entries_k.specs.PlainAsked.{tests-of}
+use Rattle.rule_kind.specs.Steps.{inQuestionBy, Tests, hasMove}
+use Rattle.rule_kind.specs.StepsLaws.{tests-of, moves-external, stays-internal}
+use Rattle.entries_k.specs.Taking.{kSum, costOfK}
 use Rattle.equations.specs.Differences.{wSum, kTotal, wTotal, beforeLeft, beforeRight, afterLeft, afterRight, takenAt, givenAt, firstLeft, firstRight, secondLeft, secondRight, targetLeft, targetRight, costLeft, costRight, sidesOf, beforeBreak, afterBreak, targetBreak, costBreak, DecidesEquations}
 use Rattle.equations.specs.EntrySums.{Entries, turned, added, nothing, overSecond}
 
@@ -159,8 +161,8 @@ first-again x y z = go (ℕ-discrete (x .number) 0)
 
 module _ {rule : FileRule} (tests : Tests plainInQuestion rule) (A : Automaton) (C : List ℕ) (R : Pairs) (q t at : ℕ) (noK : Passes (kFault rule A C q t (kCountAt C at) (at + 8) 0)) (noW : Passes (wFault A C R (wCountAt C at) (afterK C at + 2) 0)) where
   -- the sums' breaks without the cost equation
-  abbrev sumsBreak : Fault
-  sumsBreak = firstOf (beforeBreak A C q t at) (firstOf (afterBreak A C q t at) (targetBreak A C q t at))
+  abbrev sumsBreak : (moves : Bool) → Fault
+  sumsBreak moves = firstOf (beforeBreak A C q t at moves) (firstOf (afterBreak A C q t at moves) (targetBreak A C q t at))
 
   abbrev ks : Entries
   ks = kEntries tests A C q t
@@ -257,28 +259,28 @@ module _ {rule : FileRule} (tests : Tests plainInQuestion rule) (A : Automaton) 
     other-layer layer n g =
         nothing ks _ (λ at e. sym (notSame _ (λ o. n (sym (e .internal i) ∙ o)) refl)) (kCountAt C at) (at + 8) 0 noK
 
-    move : AreSides (firstLeft A C q t at) (firstRight A C q t at) (internalMove A (flowAt C at) t)
-    unfolding firstRight internalMove flowAt
+    move : AreSides (firstLeft A C q t at) (firstRight A C q t at false) (internalMove A (flowAt C at) t)
+    unfolding firstRight internalMove flowAt ifTrue
     move =
         record {
           left = first-left;
           right = λ v.
               let none : leaving A (k 1) v ≡ 0 = leaving-k 1 v ∙ other-layer 1 (λ o. omega arith) (takes v) in
-              omega (arith, none, leaving-first v, over-targets v, same {z = overW (takenAt v)} 0 i refl);
+              omega (arith, none, leaving-first v, over-targets v);
         }
 
-    no-second : (v : ℕ) → secondLeft A C q t at v ≡ secondRight A C q t at v
-    unfolding secondLeft secondRight afterRight
+    no-second : (v : ℕ) → secondLeft A C q t at v ≡ secondRight A C q t at false v
+    unfolding secondLeft secondRight afterRight ifTrue
     no-second v =
         let one = arriving-k 1 v ∙ other-layer 1 (λ o. omega arith) (brings v) in
         let two = arriving-k 2 v ∙ other-layer 2 (λ o. omega arith) (brings v) in
-        omega (arith, one, two, arriving-last v, other-layer 2 (λ o. omega arith) (takes v), same {z = 0} (overW (takenAt v)) i refl)
+        omega (arith, one, two, arriving-last v, other-layer 2 (λ o. omega arith) (takes v))
 
-    internal : sumsBreak ≡ plainEquationsFault A q t (flowAt C at)
+    internal : sumsBreak false ≡ plainEquationsFault A q t (flowAt C at)
     unfolding plainEquationsFault internalEquationsFault firstBreak
     internal =
         ap₂ firstOf (same-first A 20 move)
-        (sym (first-passes _ _ (break-none 20 (sidesOf (secondLeft A C q t at) (secondRight A C q t at)) (A .states) 0 (λ u l m. record { equal = no-second u })) refl refl) ∙ same-first A 21 target)
+        (sym (first-passes _ _ (break-none 20 (sidesOf (secondLeft A C q t at) (secondRight A C q t at false)) (A .states) 0 (λ u l m. record { equal = no-second u })) refl refl) ∙ same-first A 21 target)
         ∙ kind-internal A q _ _ i
 
     internal-cost : (cost : ℕ → ℕ) → costLeft A C q t at cost ≡ costEquation cost A (flowAt C at) q .left
@@ -290,23 +292,23 @@ module _ {rule : FileRule} (tests : Tests plainInQuestion rule) (A : Automaton) 
 
   -- those of an external challenger
   module _ (n : A .action q ≢ 0) where
-    before : AreSides (firstLeft A C q t at) (firstRight A C q t at) (beforeMove A (flowAt C at) t)
-    unfolding firstRight beforeMove flowAt
+    before : AreSides (firstLeft A C q t at) (firstRight A C q t at true) (beforeMove A (flowAt C at) t)
+    unfolding firstRight beforeMove flowAt ifTrue
     before =
         record {
           left = first-left;
-          right = λ v. omega (arith, leaving-first v, notSame {z = 0} (overW (takenAt v)) n refl);
+          right = λ v. omega (arith, leaving-first v);
         }
 
-    after : AreSides (secondLeft A C q t at) (secondRight A C q t at) (afterMove A (flowAt C at))
-    unfolding secondLeft secondRight afterRight afterMove flowAt
+    after : AreSides (secondLeft A C q t at) (secondRight A C q t at true) (afterMove A (flowAt C at))
+    unfolding secondLeft secondRight afterRight afterMove flowAt ifTrue
     after =
         record {
           left = arriving-last;
-          right = λ v. ap₂ _+_ (leaving-k 2 v) (over-targets v ∙ notSame 0 n refl);
+          right = λ v. ap₂ _+_ (leaving-k 2 v) (over-targets v);
         }
 
-    external : sumsBreak ≡ plainEquationsFault A q t (flowAt C at)
+    external : sumsBreak true ≡ plainEquationsFault A q t (flowAt C at)
     unfolding plainEquationsFault externalEquationsFault
     external = ap₂ firstOf (same-first A 20 before) (ap₂ firstOf (same-first A 20 after) (same-first A 21 target)) ∙ kind-external A q _ _ n
 
@@ -315,12 +317,12 @@ module _ {rule : FileRule} (tests : Tests plainInQuestion rule) (A : Automaton) 
     external-cost cost = sym (externalCost cost A (flowAt C at) q n ∙ all-layers cost)
 
   -- for either kind of challenger
-  plain-decided : sumsBreak ≡ plainEquationsFault A q t (flowAt C at)
-  plain-decided = go (ℕ-discrete (A .action q) 0)
+  plain-decided : (kind : Kind) → sumsBreak (hasMove kind (A .action q)) ≡ plainEquationsFault A q t (flowAt C at)
+  plain-decided kind = go (hasMove kind (A .action q)) refl
     where
-      go : Dec (A .action q ≡ 0) → sumsBreak ≡ plainEquationsFault A q t (flowAt C at)
-      go (yes i) = internal i
-      go (no n) = external n
+      go : (b : Bool) → hasMove kind (A .action q) ≡ b → sumsBreak b ≡ plainEquationsFault A q t (flowAt C at)
+      go true e = external (moves-external kind (A .action q) e)
+      go false e = internal (stays-internal kind (A .action q) e)
 
   cost-left : (cost : ℕ → ℕ) → costLeft A C q t at cost ≡ costEquation cost A (flowAt C at) q .left
   cost-left cost = go (ℕ-discrete (A .action q) 0)
@@ -339,18 +341,19 @@ unfolding costEquationFault
 free-passes A q f = sym (same _ (freeEquation A f q .equal) refl)
 
 -- for each step rule
-pub decided : (kind : Kind) (s : List ℕ) → DecidesEquations (ruleOf kind s) (costIn kind s)
-unfolding costEquationsFault
+pub decided : (kind : Kind) (s : List ℕ) → DecidesEquations (ruleOf kind s) (costIn kind s) (hasMove kind)
+unfolding costEquationsFault inQuestionBy
 decided Plain s A C R q t at noK noW =
     let e = ap (firstOf (targetBreak A C q t at)) (cost-decided (tests-of Plain s) A C R q t at noK noW free ∙ free-passes A q (flowAt C at)) ∙ break-alone A 21 _ (omega arith) in
     record {
-      is = ap (λ (f : Fault). firstOf (beforeBreak A C q t at) (firstOf (afterBreak A C q t at) f)) e ∙ plain-decided (tests-of Plain s) A C R q t at noK noW;
+      is = ap (λ (f : Fault). firstOf (beforeBreak A C q t at (hasMove Plain (A .action q))) (firstOf (afterBreak A C q t at (hasMove Plain (A .action q))) f)) e ∙ plain-decided (tests-of Plain s) A C R q t at noK noW Plain;
     }
 decided Costs s A C R q t at noK noW =
     let cost = costIn Costs s in
+    let moves = hasMove Costs (A .action q) in
     record {
       is =
-          ap (firstOf (beforeBreak A C q t at)) (first-again (afterBreak A C q t at) (targetBreak A C q t at) _)
-          ∙ first-again (beforeBreak A C q t at) _ _
-          ∙ ap₂ firstOf (plain-decided (tests-of Costs s) A C R q t at noK noW) (cost-decided (tests-of Costs s) A C R q t at noK noW cost);
+          ap (firstOf (beforeBreak A C q t at moves)) (first-again (afterBreak A C q t at moves) (targetBreak A C q t at) _)
+          ∙ first-again (beforeBreak A C q t at moves) _ _
+          ∙ ap₂ firstOf (plain-decided (tests-of Costs s) A C R q t at noK noW Costs) (cost-decided (tests-of Costs s) A C R q t at noK noW cost);
     }

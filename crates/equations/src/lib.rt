@@ -7,8 +7,9 @@ ghost use Rattle.limits.specs.Sizes as sizes;
 ghost use Rattle.fault.specs.Faults.{faultOf};
 ghost use Rattle.equations.specs.Differences.{remainderBreak, verdictOf};
 use fault::Fault;
-use limits::STATES;
 use remainders::Remainders;
+use rule_kind::AFTER_MOVE;
+use rule_kind::BEFORE_MOVE;
 
 // The first of n remainders that is not zero, as a refusal at its state; they begin at `first`.
 fn first_break(number: u32, remainders: &Remainders, first: usize, n: usize) -> Fault
@@ -54,11 +55,11 @@ pub fn verdict(
     ensures { λ r. ⌜ faultOf r ≡ verdictOf n (now (remainders .entry)) nonzero (now (target .entry)) asked paid owed ⌝ }
 {
     if nonzero != 0 {
-        let before = first_break(20, remainders, 0, n);
+        let before = first_break(20, remainders, BEFORE_MOVE, n);
         if before.number != 0 {
             return before;
         }
-        let after = first_break(20, remainders, STATES, n);
+        let after = first_break(20, remainders, AFTER_MOVE, n);
         return or_number(after, 20);
     }
     if asked != 0 {

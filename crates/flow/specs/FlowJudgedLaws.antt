@@ -26,14 +26,15 @@ use Rattle.transition.specs.KnownLaws.{few-states, known-states, known-own, kno
 use Rattle.cost_files.specs.definitions.CostModel.{highestCost}
 use Rattle.rule_kind.specs.declared.Kind.{Kind}
 use Rattle.rule_kind.specs.Kinds.{ruleOf, costIn, CostAsked, CostIs}
+use Rattle.rule_kind.specs.Steps.{hasMove, wDepartureOf}
+use Rattle.rule_kind.specs.StepsLaws.{w-departure-most}
 use Rattle.signed.specs.TermsLaws.{minus-small}
 use Rattle.remainders.specs.Remainders.{AllZero}
 use Rattle.remainders.specs.Nonzero.{Became}
 use Rattle.remainders.specs.NonzeroLaws.{counted-zero}
 use Rattle.remainders.specs.Moving.{added, arrived, Room, CanAdd, CanMove}
 use Rattle.remainders.specs.MovingLaws.{room-zero, room-fewer, added-room, arrived-room}
-use Rattle.entries_k.specs.Taking.{arrivalOf, tookKs, kSum, costOfK, mostKs, CanTakeKs, TookKs}
-use Rattle.entries_k.specs.KEntriesLaws.{arrival-most}
+use Rattle.entries_k.specs.Taking.{tookKs, kSum, costOfK, mostKs, CanTakeKs, TookKs}
 use Rattle.entries_k.specs.declared.Taken.{Taken}
 use Rattle.entries_w.specs.Matching.{tookVs, tookUs, mostWs, CanTakeWs, TookWs}
 use Rattle.entries_w.specs.declared.Matched.{Matched}
@@ -118,7 +119,7 @@ pub record CountRead (kind : Kind) (s C : List ℕ) (n q t at : ℕ) (head : Hea
 pub record TargetsAsk (kind : Kind) (s C : List ℕ) (n q t at : ℕ) (head : Head) (target : List ℤ) (f : Fields) (after : List ℤ) (k : Taken) (w : Field) (first : ℕ) (asked : List ℤ) (wanted : ℕ) : Type 0 where
   pub count : CountRead kind s C n q t at head target f after k w
   pub whole : w .next .at + 6 * w .value ≤ length C
-  pub first-is : first ≡ arrivalOf (f .action)
+  pub first-is : first ≡ wDepartureOf kind (f .action)
   pub ask : Became (arrived (entriesOf s q) (negℤ (pos (head .d))) 0 target) asked wanted
 
 module _ {kind : Kind} {s C : List ℕ} {n q t at : ℕ} {head : Head} {target : List ℤ} {f : Fields} {after : List ℤ} {k : Taken} where
@@ -181,7 +182,7 @@ module _ {kind : Kind} {s C : List ℕ} {n q t at : ℕ} {head : Head} {target :
             whole = g .whole;
             few = few-states (j .known);
             light = g .count .ks .fields .small;
-            layer = omega (arith, g .first-is, arrival-most (f .action));
+            layer = omega (arith, g .first-is, w-departure-most kind (f .action));
             table = ks .became (g .count .good) .counted;
             room = ks .room (g .count .good) mostWs (given-room j (g .count .ks .gave));
             targetTable = g .ask .counted;
@@ -208,13 +209,13 @@ module _ {kind : Kind} {s C : List ℕ} {n q t at : ℕ} {head : Head} {target :
 
         -- the remainders after them
         module _ (fine : m .good ≡ true) where
-          rest-is : rest ≡ tookVs C (arrivalOf (automatonIn s .action q)) (wCountAt C at) (afterK C at + 2) (tookKs s C (kCountAt C at) (at + 8) (added (g .count .ks .remainders) t 1 (pos (fourAt C (at + 2)))))
+          rest-is : rest ≡ tookVs C (wDepartureOf kind (automatonIn s .action q)) (wCountAt C at) (afterK C at + 2) (tookKs s C (kCountAt C at) (at + 8) (added (g .count .ks .remainders) t 1 (pos (fourAt C (at + 2)))))
           rest-is =
               ws .became fine .same
-              ∙ ap (λ (x : ℕ). tookVs C x (w .value) (w .next .at) after) (g .first-is ∙ ap arrivalOf (g .count .ks .fields .action))
-              ∙ ap (λ (x : ℕ). tookVs C (arrivalOf (automatonIn s .action q)) x (w .next .at) after) (counted (g .count))
-              ∙ ap (λ (x : ℕ). tookVs C (arrivalOf (automatonIn s .action q)) (wCountAt C at) x after) (start (g .count))
-              ∙ ap (tookVs C (arrivalOf (automatonIn s .action q)) (wCountAt C at) (afterK C at + 2))
+              ∙ ap (λ (x : ℕ). tookVs C x (w .value) (w .next .at) after) (g .first-is ∙ ap (wDepartureOf kind) (g .count .ks .fields .action))
+              ∙ ap (λ (x : ℕ). tookVs C (wDepartureOf kind (automatonIn s .action q)) x (w .next .at) after) (counted (g .count))
+              ∙ ap (λ (x : ℕ). tookVs C (wDepartureOf kind (automatonIn s .action q)) (wCountAt C at) x after) (start (g .count))
+              ∙ ap (tookVs C (wDepartureOf kind (automatonIn s .action q)) (wCountAt C at) (afterK C at + 2))
               (ks .became (g .count .good) .same
               ∙ ap (λ (x : ℕ). tookKs s C x (head .first .at) (g .count .ks .given)) (j .read .entries)
               ∙ ap (λ (x : ℕ). tookKs s C (kCountAt C at) x (g .count .ks .given)) (j .read .first)
@@ -247,8 +248,8 @@ module _ {kind : Kind} {s C : List ℕ} {n q t at : ℕ} {head : Head} {target :
                 is = λ R h.
                     let noK = passed (g .count .ks) (g .count .good) in
                     let noW = pass-on (all-ws R refl) (ws .passed fine (automatonIn s) R (known-states (j .known)) h) in
-                    let all = ended (ruleOf kind s) (j .known) C R q t at (j .challenger) (j .defender) noK noW (j .zeros) (j .targetZeros) in
-                    let here = subst₂ (Ended (automatonIn s) C n q t at) (sym rest-is) (sym aim-is) all in
+                    let all = ended kind (j .known) C R q t at (j .challenger) (j .defender) noK noW (j .zeros) (j .targetZeros) in
+                    let here = subst₂ (Ended (hasMove kind (automatonIn s .action q)) (automatonIn s) C n q t at) (sym rest-is) (sym aim-is) all in
                     p .is
                     ∙ past-ws (ruleOf kind s) (automatonIn s) R q t (j .stands) noK (count-there (g .count)) flow-whole noW
                     (e ∙ verdict-is (known-states (j .known)) (few-states (j .known)) here (decided kind s (automatonIn s) C R q t at noK noW) (ws .became fine .counted) (ws .targetBecame fine .counted) paid-is (owed-is c));

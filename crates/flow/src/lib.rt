@@ -109,7 +109,7 @@ fn judge_entries(
         n,
         rows,
         challenger.denominator,
-        entries_k::arrival(challenger.action),
+        rule_kind::w_departure(kind, challenger.action),
         remainders,
         k.nonzero,
         target,

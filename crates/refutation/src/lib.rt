@@ -111,7 +111,7 @@ pub fn judge_refutation(
         return refused(pair, place);
     }
     let challenger = transition::fields_of(s, places, head.challenger);
-    let size = 4 * refutation_prices::price_count(kind, n, challenger.action);
+    let size = 4 * rule_kind::price_count(kind, n, challenger.action);
     let start = head.prices.at;
     if cert.len() - start < size {
         return refused(fault::refusal(11), place);

@@ -1,17 +1,15 @@
 -- What the judge of a refutation's prices hands up.
-use Prim.Native.Nat.{ℕ, _+_, _*_, _^_, _<_}
+use Prim.Native.Nat.{ℕ, _+_, _*_, _<_}
 use mathlib.Core.Path.{_≡_}
 use mathlib.Core.List.{List}
 use lib.ListN.{length}
-use lib.IntN.{ℤ, pos}
-use lib.Signed.{mag}
+use lib.IntN.{ℤ}
 use Rattle.bisimulation.specs.definitions.Pairs.{Pairs}
 use Rattle.rules.specs.definitions.Limits.{limits}
 use Rattle.rules.specs.definitions.Bytes.{signedAt}
 use Rattle.rules.specs.definitions.Faults as rules
 use Rattle.rules.specs.definitions.Certificate.{FileRule}
 use Rattle.rule_kind.specs.declared.Kind.{Kind}
-use Rattle.rule_kind.specs.declared.Kind.the-variants.{Plain, Costs}
 use Rattle.rule_kind.specs.Kinds.{KindStands}
 use Rattle.fault.specs.Faults.{faultOf}
 use Rattle.fault.specs.declared.Fault.{Fault}
@@ -30,16 +28,6 @@ pub record Asked (kind : Kind) (s : List ℕ) (n count : ℕ) (places : List ℕ
   pub challenger : q < count
   pub defender : t < n
   pub stands : KindStands kind s
-
--- the price L at a place, 0 where the rule has none
-abbrev pub furtherAt : Kind → List ℕ → ℕ → ℤ
-furtherAt Plain C at = pos 0
-furtherAt Costs C at = signedAt C at
-
--- it is read, a number of four bytes
-pub record IsFurther (kind : Kind) (C : List ℕ) (at : ℕ) (l : ℤ) : Type 0 where
-  pub is : l ≡ furtherAt kind C at
-  pub small : mag l < 2 ^ 31
 
 -- the fault is F of the pairs that the rows hold
 pub record FaultIs (n : ℕ) (rows : List ℕ) (F : Pairs → rules.Fault) (r : Fault) : Type 0 where

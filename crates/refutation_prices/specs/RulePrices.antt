@@ -1,15 +1,15 @@
 -- The price conditions as they are tested are those of the rule.
-use Prim.Native.Nat.{ℕ, _+_, _*_, _^_, _≤_, _<_}
+use Prim.Native.Nat.{ℕ, _+_, _*_, _^_, _<_}
 use mathlib.Core.Path.{_≡_, refl, sym, _∙_, ap, ap₂, subst}
 use mathlib.Core.Bool.{Bool, true, false}
 use mathlib.Core.List.{List}
-use lib.IntN.{ℤ, pos, _-ℤ_}
+use lib.IntN.{ℤ, _-ℤ_}
 use lib.Signed.{mag, leZ, ltZ}
 use mir.Syntax.{w64}
 use mir.Val.{toZ, ofZ}
 use native.Mathlib.Omega.{arith}
-use Rattle.bisimulation.specs.definitions.Choice.{ifSame, ifTrue, unlessTrue, both}
-use Rattle.bisimulation.specs.argument.ChoiceLaws.{same, notSame, eitherSame, allBelowCong}
+use Rattle.bisimulation.specs.definitions.Choice.{ifTrue, unlessTrue, both}
+use Rattle.bisimulation.specs.argument.ChoiceLaws.{same, notSame, allBelowCong}
 use Rattle.bisimulation.specs.definitions.Automaton.{Automaton, SoundAutomaton}
 use Rattle.bisimulation.specs.definitions.Pairs.{Pairs}
 use Rattle.rules.specs.definitions.Limits.{limits}
@@ -17,7 +17,7 @@ use Rattle.rules.specs.definitions.Bytes.{signedAt}
 use Rattle.rules.specs.definitions.Reading.{statesOf, modelAt}
 use Rattle.rules.specs.argument.SoundModelLaws.{sound-automaton}
 use Rattle.rules.specs.definitions.Faults as rules
-use Rattle.rules.specs.definitions.PlainRule.{byKind, plainPriceCount, priceCondition, allRelated, below, lastFault, internalPricesFault, externalPricesFault, plainPricesFault}
+use Rattle.rules.specs.definitions.PlainRule.{byKind, priceCondition, allRelated, below, lastFault, internalPricesFault, externalPricesFault, plainPricesFault}
 use Rattle.rules.specs.argument.PlainDecides.{AlikeOnStates, price-same}
 use Rattle.costs.specs.definitions.CostPrices.{priceWithCost}
 use Rattle.costs.specs.definitions.CostRefutation.{priceAfter}
@@ -25,17 +25,19 @@ use Rattle.cost_files.specs.definitions.CostFile.{costCondition, lastCostFault,
 use Rattle.cost_files.specs.argument.CostDecides.{with-cost-same}
 use Rattle.rule_kind.specs.declared.Kind.{Kind}
 use Rattle.rule_kind.specs.declared.Kind.the-variants.{Plain, Costs}
-use Rattle.rule_kind.specs.Kinds.{ruleOf, furtherPrices, costIn}
-use Rattle.rule_kind.specs.KindsLaws.{prices-of, by-plain, by-costs}
-use Rattle.field.specs.declared.Price.{Price}
-use Rattle.field.specs.Taken.{Priced}
+use Rattle.rule_kind.specs.declared.Condition.{Condition}
+use Rattle.rule_kind.specs.declared.Condition.the-variants.{Across, Within, Unasked}
+use Rattle.rule_kind.specs.Kinds.{ruleOf, costIn}
+use Rattle.rule_kind.specs.Steps.{hasMove, furtherAt, IsFurther, conditionBy}
+use Rattle.rule_kind.specs.StepsLaws.{moves-external, stays-internal}
 use Rattle.transition.specs.Known.{automatonIn, Known}
 use Rattle.transition.specs.KnownLaws.{known-states, known-own}
 use Rattle.prices.specs.Prices.{priceIn, HoldsPrices, SmallPrices}
 use Rattle.prices.specs.PricesLaws.{price-back}
-use Rattle.conditions.specs.Conditions.{fairTwice, fairTo, allFair, conditionsFault, AllPriced, LastAsked}
+use Rattle.conditions.specs.Conditions.{fairTwice, fairBy, fairTo, allFair, conditionsFault, AllPriced, LastAsked}
+use Rattle.prices.specs.PricesLaws.{price-back}
 use Rattle.conditions.specs.ConditionsLaws.{fair-internal, fair-external}
-use Rattle.refutation_prices.specs.PricesJudged.{Asked, furtherAt, IsFurther}
+use Rattle.refutation_prices.specs.PricesJudged.{Asked}
 use Rattle.cost_files.specs.argument.FreePrices.{free-internal, free-external}
 
 -- the states are those of the file
@@ -58,39 +60,7 @@ module _ {kind : Kind} {s places : List ℕ} {n count q t : ℕ} (a : Asked kind
         third = prices-there k third;
       }
 
--- how many prices a refutation has
-pub price-count : (kind : Kind) (s : List ℕ) {n a : ℕ} (q : ℕ) → automatonIn s .states ≡ n → a ≡ automatonIn s .action q → ifSame a 0 (2 * n) (3 * n) + furtherPrices kind ≡ ruleOf kind s .priceCount (automatonIn s) q
-unfolding plainPriceCount byKind
-price-count kind s q e f =
-    ap₂ (λ (k m : ℕ). ifSame k 0 (2 * m) (3 * m) + furtherPrices kind) f (sym e) ∙ prices-of kind s (automatonIn s) q
-
-pub count-internal : (n : ℕ) {a : ℕ} → a ≡ 0 → 2 * n ≡ ifSame a 0 (2 * n) (3 * n)
-count-internal n e = same _ e refl
-
-pub count-external : (n : ℕ) {a : ℕ} → (a ≡ 0 → ⊥) → 3 * n ≡ ifSame a 0 (2 * n) (3 * n)
-count-external n e = notSame _ e refl
-
-pub count-least : (n a : ℕ) → 2 * n ≤ ifSame a 0 (2 * n) (3 * n)
-count-least n a = eitherSame (λ (z : ℕ). 2 * n ≤ z) a 0 (omega arith) (omega arith)
-
-few-further : (kind : Kind) → furtherPrices kind ≤ 1
-few-further Plain = omega arith
-few-further Costs = omega arith
-
-pub count-most : (kind : Kind) (n a : ℕ) → ifSame a 0 (2 * n) (3 * n) + furtherPrices kind ≤ 3 * n + 1
-count-most kind n a = eitherSame (λ (z : ℕ). z + furtherPrices kind ≤ 3 * n + 1) a 0 (omega (arith, few-further kind)) (omega (arith, few-further kind))
-
--- the price L, by the kinds of rules
-pub further-none : {kind : Kind} {C : List ℕ} {at : ℕ} {l : ℤ} → kind ≡ Plain → l ≡ pos 0 → IsFurther kind C at l
-further-none {C = C} {at} e z =
-    record { is = by-plain (λ (k : Kind). furtherAt k C at) e z; small = subst (λ (y : ℤ). mag y < 2 ^ 31) (sym z) (omega arith) }
-
-pub further-read : {kind : Kind} {C : List ℕ} {at place : ℕ} {p : Price} → kind ≡ Costs → Priced C place p → place ≡ at → IsFurther kind C at (toZ w64 (ofZ w64 (p .value)))
-further-read {C = C} {at} {p = p} e h here =
-    rw (price-back (p .value) (h .small))
-    (record { is = by-costs (λ (k : Kind). furtherAt k C at) e (h .value ∙ ap (signedAt C) here); small = h .small })
-
--- the machine reads it back from its bits
+-- the machine reads the price L back from its bits
 pub further-small : {kind : Kind} {C : List ℕ} {at : ℕ} {l : ℤ} → IsFurther kind C at l → mag (toZ w64 (ofZ w64 l)) < 2 ^ 31
 further-small {l = l} h = rw (price-back l (h .small)) (h .small)
 
@@ -101,19 +71,19 @@ unless-both true b r x = refl
 unless-both false b r x = refl
 
 -- the tests of each kind of challenger are document 02's, with costs
-module _ (cost : ℕ → ℕ) (A : Automaton) (L : ℤ) (R : Pairs) (q t : ℕ) where
+module _ (cost : ℕ → ℕ) (A : Automaton) (L : ℤ) (kind : Kind) (R : Pairs) (q t : ℕ) where
   -- the tests after those of the transitions
   abbrev rest : (X Y G : ℕ → ℤ) → rules.Fault
   rest X Y G = unlessTrue (allRelated A R Y G) (rules.fault 15) (lastCostFault cost A L X G q t)
 
-  conditions-internal : (X G : ℕ → ℤ) → conditionsFault cost A L R 0 q t X X G ≡ internalPricesFault A (priceWithCost cost A L) R q t X G
+  conditions-internal : (X G : ℕ → ℤ) → conditionsFault cost A L kind R 0 q t X X G ≡ internalPricesFault A (priceWithCost cost A L) R q t X G
   unfolding conditionsFault internalPricesFault
-  conditions-internal X G = ap (λ (b : Bool). unlessTrue b (rules.fault 15) (rest X X G)) (fair-internal cost A L X)
+  conditions-internal X G = ap (λ (b : Bool). unlessTrue b (rules.fault 15) (rest X X G)) (fair-internal cost A L kind X)
 
-  conditions-external : (X Y G : ℕ → ℤ) → 0 < A .action q → conditionsFault cost A L R (A .action q) q t X Y G ≡ externalPricesFault A (priceWithCost cost A L) R q t X Y G
+  conditions-external : (X Y G : ℕ → ℤ) → (A .action q ≡ 0 → ⊥) → conditionsFault cost A L kind R (A .action q) q t X Y G ≡ externalPricesFault A (priceWithCost cost A L) R q t X Y G
   unfolding conditionsFault externalPricesFault
   conditions-external X Y G external =
-      ap (λ (b : Bool). unlessTrue b (rules.fault 15) (rest X Y G)) (fair-external cost A L (A .action q) X Y external)
+      ap (λ (b : Bool). unlessTrue b (rules.fault 15) (rest X Y G)) (fair-external cost A L kind (A .action q) X Y external)
       ∙ unless-both _ _ _ _
       ∙ unless-both _ _ _ _
 
@@ -139,19 +109,21 @@ module _ {A : Automaton} {X X′ G G′ : ℕ → ℤ} (x : Alike A X X′) (g :
       allBelowCong (A .states) _ _ (λ v l. allBelowCong (A .states) _ _ (λ u m.
       ap₂ (λ (z w : ℤ). ifTrue (R v u) (leZ z w) true) (g .held u m) (x .held v l)))
 
-module _ {A : Automaton} {X X′ Y Y′ G G′ : ℕ → ℤ} (x : Alike A X X′) (y : Alike A Y Y′) (g : Alike A G G′) (sound : SoundAutomaton A) (cost : ℕ → ℕ) (L : ℤ) where
-  fair-same : (a : ℕ) → allFair cost A L a X Y ≡ allFair cost A L a X′ Y′
-  unfolding allFair fairTo fairTwice
-  fair-same a =
-      allBelowCong (A .transitions) _ _ (λ r less.
-      ap₂ (λ (b c : Bool). ifSame (A .action r) a b (ifSame (A .action r) 0 c true)) (condition-same x y cost L sound r less)
-      (ap₂ both (condition-same x x cost L sound r less) (condition-same y y cost L sound r less)))
+module _ {A : Automaton} {X X′ Y Y′ G G′ : ℕ → ℤ} (x : Alike A X X′) (y : Alike A Y Y′) (g : Alike A G G′) (sound : SoundAutomaton A) (cost : ℕ → ℕ) (L : ℤ) (kind : Kind) where
+  fair-same : (a : ℕ) → allFair cost A L kind a X Y ≡ allFair cost A L kind a X′ Y′
+  unfolding allFair fairTo fairBy fairTwice
+  fair-same a = allBelowCong (A .transitions) _ _ (λ r less. by-condition r less (conditionBy kind a (A .action r)))
+    where
+      by-condition : (r : ℕ) → r < A .transitions → (c : Condition) → fairBy cost A L c X Y r ≡ fairBy cost A L c X′ Y′ r
+      by-condition r less Across = condition-same x y cost L sound r less
+      by-condition r less Within = ap₂ both (condition-same x x cost L sound r less) (condition-same y y cost L sound r less)
+      by-condition r less Unasked = refl
 
-  conditions-same : (R : Pairs) (a q t : ℕ) → t < A .states → conditionsFault cost A L R a q t X Y G ≡ conditionsFault cost A L R a q t X′ Y′ G′
+  conditions-same : (R : Pairs) (a q t : ℕ) → t < A .states → conditionsFault cost A L kind R a q t X Y G ≡ conditionsFault cost A L kind R a q t X′ Y′ G′
   unfolding conditionsFault
   conditions-same R a q t less =
       ap₂ (λ (b c : Bool). unlessTrue b (rules.fault 15) (unlessTrue c (rules.fault 15) (lastCostFault cost A L X G q t))) (fair-same a) (related-same y g cost L R)
-      ∙ ap (λ (f : rules.Fault). unlessTrue (allFair cost A L a X′ Y′) (rules.fault 15) (unlessTrue (allRelated A R Y′ G′) (rules.fault 15) f)) (last-same x g cost L q t less)
+      ∙ ap (λ (f : rules.Fault). unlessTrue (allFair cost A L kind a X′ Y′) (rules.fault 15) (unlessTrue (allRelated A R Y′ G′) (rules.fault 15) f)) (last-same x g cost L q t less)
 
 -- with the costs of the rule they are the rule's: of a rule without costs by the cost 0
 rule-internal : (kind : Kind) (s : List ℕ) (A : Automaton) (R : Pairs) (q t : ℕ) (C : List ℕ) (at : ℕ) {L : ℤ} → L ≡ furtherAt kind C (at + 4 * (2 * A .states)) → A .action q ≡ 0 → internalPricesFault A (priceWithCost (costIn kind s) A L) R q t (λ v. signedAt C (at + 4 * v)) (λ v. signedAt C (at + 4 * (A .states + v))) ≡ ruleOf kind s .pricesFault A R q t (λ i. signedAt C (at + 4 * i))
@@ -189,20 +161,23 @@ module _ {kind : Kind} {s places : List ℕ} {n count q t : ℕ} (asked : Asked 
   further-is : {place : ℕ} {l : ℤ} → IsFurther kind C place l → (later : ℕ) → place ≡ at + 4 * later → toZ w64 (ofZ w64 l) ≡ furtherAt kind C (at + 4 * later)
   further-is {l = l} h later e = price-back l (h .small) ∙ h .is ∙ ap (furtherAt kind C) e
 
-  pub judged-internal : {x g : List ℤ} {l : ℤ} → HoldsPrices n (λ i. signedAt C (at + 4 * i)) x → HoldsPrices n (λ i. signedAt C (at + 4 * n + 4 * i)) g → IsFurther kind C (at + 8 * n) l → automatonIn s .action q ≡ 0 → conditionsFault (costIn kind s) (automatonIn s) (toZ w64 (ofZ w64 l)) R 0 q t (priceIn x) (priceIn x) (priceIn g) ≡ ruleOf kind s .pricesFault (automatonIn s) R q t (λ i. signedAt C (at + 4 * i))
-  judged-internal {x} {g} {l} first last further internal =
-      conditions-same (alike-first first) (alike-first first)
+  pub judged-internal : {x g : List ℤ} {l : ℤ} (a : ℕ) → HoldsPrices n (λ i. signedAt C (at + 4 * i)) x → HoldsPrices n (λ i. signedAt C (at + 4 * n + 4 * i)) g → IsFurther kind C (at + 8 * n) l → a ≡ automatonIn s .action q → hasMove kind a ≡ false → conditionsFault (costIn kind s) (automatonIn s) (toZ w64 (ofZ w64 l)) kind R a q t (priceIn x) (priceIn x) (priceIn g) ≡ ruleOf kind s .pricesFault (automatonIn s) R q t (λ i. signedAt C (at + 4 * i))
+  judged-internal {x} {g} {l} a first last further e stays =
+      let internal : a ≡ 0 = stays-internal kind a stays in
+      ap (λ (b : ℕ). conditionsFault (costIn kind s) (automatonIn s) (toZ w64 (ofZ w64 l)) kind R b q t (priceIn x) (priceIn x) (priceIn g)) internal
+      ∙ conditions-same (alike-first first) (alike-first first)
       (alike (at + 4 * n) (automatonIn s .states) (omega (arith, known-states (asked .known))) last)
-      sound (costIn kind s) (toZ w64 (ofZ w64 l)) R 0 q t (omega (arith, asked .defender, known-states (asked .known)))
-      ∙ conditions-internal (costIn kind s) (automatonIn s) (toZ w64 (ofZ w64 l)) R q t _ _
-      ∙ rule-internal kind s (automatonIn s) R q t C at (further-is further (2 * automatonIn s .states) (omega (arith, known-states (asked .known)))) internal
+      sound (costIn kind s) (toZ w64 (ofZ w64 l)) kind R 0 q t (omega (arith, asked .defender, known-states (asked .known)))
+      ∙ conditions-internal (costIn kind s) (automatonIn s) (toZ w64 (ofZ w64 l)) kind R q t _ _
+      ∙ rule-internal kind s (automatonIn s) R q t C at (further-is further (2 * automatonIn s .states) (omega (arith, known-states (asked .known)))) (sym e ∙ internal)
 
-  pub judged-external : {x y g : List ℤ} {l : ℤ} (a : ℕ) → HoldsPrices n (λ i. signedAt C (at + 4 * i)) x → HoldsPrices n (λ i. signedAt C (at + 4 * n + 4 * i)) y → HoldsPrices n (λ i. signedAt C (at + 8 * n + 4 * i)) g → IsFurther kind C (at + 12 * n) l → a ≡ automatonIn s .action q → (a ≡ 0 → ⊥) → conditionsFault (costIn kind s) (automatonIn s) (toZ w64 (ofZ w64 l)) R a q t (priceIn x) (priceIn y) (priceIn g) ≡ ruleOf kind s .pricesFault (automatonIn s) R q t (λ i. signedAt C (at + 4 * i))
-  judged-external {x} {y} {g} {l} a first second last further e external =
-      ap (λ (b : ℕ). conditionsFault (costIn kind s) (automatonIn s) (toZ w64 (ofZ w64 l)) R b q t (priceIn x) (priceIn y) (priceIn g)) e
+  pub judged-external : {x y g : List ℤ} {l : ℤ} (a : ℕ) → HoldsPrices n (λ i. signedAt C (at + 4 * i)) x → HoldsPrices n (λ i. signedAt C (at + 4 * n + 4 * i)) y → HoldsPrices n (λ i. signedAt C (at + 8 * n + 4 * i)) g → IsFurther kind C (at + 12 * n) l → a ≡ automatonIn s .action q → hasMove kind a ≡ true → conditionsFault (costIn kind s) (automatonIn s) (toZ w64 (ofZ w64 l)) kind R a q t (priceIn x) (priceIn y) (priceIn g) ≡ ruleOf kind s .pricesFault (automatonIn s) R q t (λ i. signedAt C (at + 4 * i))
+  judged-external {x} {y} {g} {l} a first second last further e moves =
+      let external : automatonIn s .action q ≡ 0 → ⊥ = λ z. moves-external kind a moves (e ∙ z) in
+      ap (λ (b : ℕ). conditionsFault (costIn kind s) (automatonIn s) (toZ w64 (ofZ w64 l)) kind R b q t (priceIn x) (priceIn y) (priceIn g)) e
       ∙ conditions-same (alike-first first)
       (alike (at + 4 * n) (automatonIn s .states) (omega (arith, known-states (asked .known))) second)
       (alike (at + 8 * n) (2 * automatonIn s .states) (omega (arith, known-states (asked .known))) last)
-      sound (costIn kind s) (toZ w64 (ofZ w64 l)) R (automatonIn s .action q) q t (omega (arith, asked .defender, known-states (asked .known)))
-      ∙ conditions-external (costIn kind s) (automatonIn s) (toZ w64 (ofZ w64 l)) R q t _ _ _ (omega arith)
-      ∙ rule-external kind s (automatonIn s) R q t C at (further-is further (3 * automatonIn s .states) (omega (arith, known-states (asked .known)))) (λ z. external (e ∙ z))
+      sound (costIn kind s) (toZ w64 (ofZ w64 l)) kind R (automatonIn s .action q) q t (omega (arith, asked .defender, known-states (asked .known)))
+      ∙ conditions-external (costIn kind s) (automatonIn s) (toZ w64 (ofZ w64 l)) kind R q t _ _ _ external
+      ∙ rule-external kind s (automatonIn s) R q t C at (further-is further (3 * automatonIn s .states) (omega (arith, known-states (asked .known)))) external

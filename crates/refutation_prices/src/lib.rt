@@ -1,23 +1,21 @@
-// The prices of a refutation: how many there are, and their conditions in their order.
+// The prices of a refutation, and their conditions in their order.
 ghost use Prim.Native.Nat.{_+_, _*_, _^_, _≤_, _<_};
 ghost use lib.ListN.{length};
 ghost use lib.Signed.{mag};
 ghost use mathlib.Core.Path.{_≡_};
-ghost use Rattle.bisimulation.specs.definitions.Choice.{ifSame};
-ghost use Rattle.rules.specs.definitions.Limits.{limits};
-ghost use Rattle.rule_kind.specs.Kinds.{ruleOf, furtherPrices, costIn};
+ghost use Rattle.rule_kind.specs.Kinds.{ruleOf, costIn};
+ghost use Rattle.rule_kind.specs.Steps.{pricesBy};
 ghost use Rattle.transition.specs.Known.{automatonIn};
 ghost use Rattle.prices.specs.Prices.{priceIn, SmallPrices};
 ghost use Rattle.conditions.specs.Conditions.{conditionsFault};
-ghost use Rattle.refutation_prices.specs.PricesJudged.{Tables, Asked, IsFurther, FaultIs, PricesJudged};
+ghost use Rattle.refutation_prices.specs.PricesJudged.{Tables, Asked, FaultIs, PricesJudged};
 use fault::Fault;
-use field::Cursor;
 use model::Places;
 use pairs::Rows;
 use prices::Prices;
 use rule_kind::Kind;
 
-// 15 and 16, of a challenger with the action a. For an internal one the prices y are x.
+// 15 and 16, of a challenger with the action a. Where there is no move the prices y are x.
 fn conditions_fault(
     kind: Kind,
     s: &[u8],
@@ -34,7 +32,7 @@ fn conditions_fault(
     g: &Prices,
 ) -> Fault
     requires { ⌜ Asked kind (now s) n count (now places) q t × SmallPrices n (now x) × SmallPrices n (now y) × SmallPrices n (now g) × (mag l < 2 ^ 31) ⌝ }
-    ensures { λ z. ⌜ FaultIs n (now (rows .entry)) (λ R. conditionsFault (costIn kind (now (s .entry))) (automatonIn (now (s .entry))) l R a q t (priceIn (now (x .entry))) (priceIn (now (y .entry))) (priceIn (now (g .entry)))) z ⌝ }
+    ensures { λ z. ⌜ FaultIs n (now (rows .entry)) (λ R. conditionsFault (costIn kind (now (s .entry))) (automatonIn (now (s .entry))) l kind R a q t (priceIn (now (x .entry))) (priceIn (now (y .entry))) (priceIn (now (g .entry)))) z ⌝ }
 {
     if !conditions::all_fair(kind, s, count, places, a, l, x, y) {
         return fault::refusal(15);
@@ -47,29 +45,6 @@ fn conditions_fault(
         return fault::broken(16, t, off);
     }
     fault::none()
-}
-
-// How many prices a refutation has, by a challenger with the action a.
-pub fn price_count(kind: Kind, n: usize, a: usize) -> usize
-    requires { ⌜ n ≤ limits .states ⌝ }
-    ensures { λ r. ⌜ r ≡ ifSame a 0 (2 * n) (3 * n) + furtherPrices kind ⌝ }
-{
-    let further = rule_kind::further_prices(kind);
-    if a == 0 {
-        return 2 * n + further;
-    }
-    3 * n + further
-}
-
-// The price L at a place, 0 where the rule has none.
-fn further_price(kind: Kind, cert: &[u8], at: usize) -> i64
-    requires { ⌜ at + 4 * furtherPrices kind ≤ length (now cert) ⌝ }
-    ensures { λ r. ⌜ IsFurther kind (now (cert .entry)) at r ⌝ }
-{
-    match kind {
-        Kind::Plain => 0,
-        Kind::Costs => Cursor::new(at).price(cert).value,
-    }
 }
 
 // 15 and 16, of the prices that stand from a place on, by a challenger with the action a.
@@ -89,17 +64,17 @@ pub fn prices_fault(
     y: &mut Prices,
     g: &mut Prices,
 ) -> Fault
-    requires { ⌜ Asked kind (now s) n count (now places) q t × (a ≡ automatonIn (now s) .action q) × (at + 4 * (ifSame a 0 (2 * n) (3 * n) + furtherPrices kind) ≤ length (now cert)) × Tables (now x) (now y) (now g) ⌝ }
+    requires { ⌜ Asked kind (now s) n count (now places) q t × (a ≡ automatonIn (now s) .action q) × (at + 4 * pricesBy kind n a ≤ length (now cert)) × Tables (now x) (now y) (now g) ⌝ }
     ensures { λ z. ⌜ PricesJudged (ruleOf kind (now (s .entry))) (now (s .entry)) (now (cert .entry)) n (now (rows .entry)) q t at (now (x .exit)) (now (y .exit)) (now (g .exit)) z ⌝ }
 {
     prices::prices_at(cert, at, n, x);
-    if a == 0 {
+    if !rule_kind::has_move(kind, a) {
         prices::prices_at(cert, at + 4 * n, n, g);
-        let l = further_price(kind, cert, at + 8 * n);
-        return conditions_fault(kind, s, n, count, places, rows, q, t, 0, l, x, x, g);
+        let l = rule_kind::further_price(kind, cert, at + 8 * n);
+        return conditions_fault(kind, s, n, count, places, rows, q, t, a, l, x, x, g);
     }
     prices::prices_at(cert, at + 4 * n, n, y);
     prices::prices_at(cert, at + 8 * n, n, g);
-    let l = further_price(kind, cert, at + 12 * n);
+    let l = rule_kind::further_price(kind, cert, at + 12 * n);
     conditions_fault(kind, s, n, count, places, rows, q, t, a, l, x, y, g)
 }

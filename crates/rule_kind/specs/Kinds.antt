@@ -27,11 +27,6 @@ abbrev pub markOf : Kind → ℕ
 markOf Plain = 0x4354
 markOf Costs = 0x4343
 
--- how many prices stand behind those of the states
-abbrev pub furtherPrices : Kind → ℕ
-furtherPrices Plain = 0
-furtherPrices Costs = 1
-
 -- the cost of each transition, none without costs
 abbrev pub costIn : Kind → (model : List ℕ) → ℕ → ℕ
 costIn Plain model r = 0

@@ -4,32 +4,20 @@ use mathlib.Core.Path.{_≡_, refl, sym, _∙_, ap, subst}
 use mathlib.Core.List.{List}
 use lib.ListN.{length, getD}
 use native.Mathlib.Omega.{arith}
-use Rattle.bisimulation.specs.definitions.Automaton.{Automaton}
 use Rattle.rules.specs.definitions.Bytes.{byteAt}
 use Rattle.rules.specs.definitions.Reading.{countOf}
-use Rattle.rules.specs.definitions.PlainRule.{plainInQuestion, plainPriceCount}
 use Rattle.cost_files.specs.definitions.CostModel.{transitionsEnd}
-use Rattle.cost_files.specs.definitions.CostFile.{costPriceCount}
 use Rattle.cost_files.specs.argument.CostReadingLaws.{cost-at}
 use Rattle.transition.specs.Known.{Known}
 use Rattle.transition.specs.KnownLaws.{few-transitions}
 use Rattle.rule_kind.specs.declared.Kind.{Kind}
 use Rattle.rule_kind.specs.declared.Kind.the-variants.{Plain, Costs}
-use Rattle.rule_kind.specs.Kinds.{ruleOf, markOf, furtherPrices, costIn, KindStands, CostsThere, CostAsked, CostIs}
+use Rattle.rule_kind.specs.Kinds.{ruleOf, markOf, costIn, KindStands, CostsThere, CostAsked, CostIs}
 
--- the rule's mark, its price count, and its test of what is in the question
+-- the rule's mark
 pub mark-of : (kind : Kind) (s : List ℕ) → markOf kind ≡ ruleOf kind s .mark
 mark-of Plain s = refl
 mark-of Costs s = refl
-
-pub prices-of : (kind : Kind) (s : List ℕ) (A : Automaton) (q : ℕ) → plainPriceCount A q + furtherPrices kind ≡ ruleOf kind s .priceCount A q
-unfolding costPriceCount
-prices-of Plain s A q = omega arith
-prices-of Costs s A q = refl
-
-pub asks-of : (kind : Kind) (s : List ℕ) (A : Automaton) (q t layer r : ℕ) → ruleOf kind s .inQuestion A q t layer r ≡ plainInQuestion (A .action q) layer (A .action r)
-asks-of Plain s A q t layer r = refl
-asks-of Costs s A q t layer r = refl
 
 -- what each answer of a function by kinds is
 pub by-plain : {X : Type 0} (f : Kind → X) {kind : Kind} {x : X} → kind ≡ Plain → x ≡ f Plain → x ≡ f kind

@@ -1,2 +1,4 @@
 pub mod Kinds
+pub mod Steps
 pub mod KindsLaws
+pub mod StepsLaws

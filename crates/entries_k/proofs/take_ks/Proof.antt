@@ -5,9 +5,9 @@ use denote.Ref.{now}
 use borrow.Author.Tests.{not-true, not-false}
 use Rattle.transition.specs.KnownLaws.{known-transitions}
 use borrow.Author.Needs.{needs}
-use Rattle.rules.specs.definitions.PlainRule.{plainInQuestion}
 use Rattle.rule_kind.specs.Kinds.{ruleOf, costIn}
-use Rattle.entries_k.specs.PlainAsked.{tests-of}
+use Rattle.rule_kind.specs.Steps.{inQuestionBy}
+use Rattle.rule_kind.specs.StepsLaws.{tests-of}
 use Rattle.entries_k.specs.KEntriesLaws.{TakingKs, ks-start, ks-refused, ks-asks, ks-pays, ks-turn, ks-end, KRead, k-read, StandingK}
 use Rattle.entries_k.proofs.take_ks.Statement.{statement}
 use Rattle.entries_k.proofs.take_ks.Tie as tie
@@ -60,7 +60,7 @@ Standing c =
     let at-quad = c .before .before in
     let a = start-of at-quad .args in
     let l = turn-of at-quad .loop in
-    StandingK plainInQuestion (ruleOf (a .kind) (now (a .s))) (costIn (a .kind) (now (a .s))) (now (a .s)) (now (a .cert)) (a .count) (now (a .places)) (a .action) (a .first .at) (a .entries) (now (a .remainders)) (l .remainders) (l .left) (l .place .at) (l .lowest) (l .nonzero) (l .paid) (at-quad .before .before .byte .result .value) (at-quad .before .pair .result .value) (at-quad .quad .result .value)
+    StandingK (inQuestionBy (a .kind)) (ruleOf (a .kind) (now (a .s))) (costIn (a .kind) (now (a .s))) (now (a .s)) (now (a .cert)) (a .count) (now (a .places)) (a .action) (a .first .at) (a .entries) (now (a .remainders)) (l .remainders) (l .left) (l .place .at) (l .lowest) (l .nonzero) (l .paid) (at-quad .before .before .byte .result .value) (at-quad .before .pair .result .value) (at-quad .quad .result .value)
 
 standing : (c : tie.Else1 Inv-loop μ-loop) → Standing c
 standing c =

@@ -133,25 +133,25 @@ arrive-requires c κs =
     let start = start-of (ks-at (count-at (c .before .before))) in
     rw (minus-back (c .before .minus .ensures) (start .pre .read .small)) (can-ask (start .pre))
 
-arrival-requires : tie.Need-arrival-requires
-arrival-requires c κs = tt
+w-departure-requires : tie.Need-w-departure-requires
+w-departure-requires c κs = tt
 
 -- and once the targets ask
-abbrev Asks : tie.After-arrival → Type 0
+abbrev Asks : tie.After-w-departure → Type 0
 Asks c =
     let counted = count-at (c .before .before .before .before) in
     let taken-at = ks-at counted in
     let a = start-of taken-at .args in
-    TargetsAsk (a .kind) (now (a .s)) (now (a .cert)) (a .n) (a .q) (a .t) (a .place .at) (a .head) (now (a .target)) (fields-at taken-at .fields-of .result) (taken taken-at) (taken-at .before .take-ks .result) (counted .pair .result) (c .arrival .result) (c .before .arrive .last .1 .1 .1 .1 .1 .0) (c .before .arrive .result)
+    TargetsAsk (a .kind) (now (a .s)) (now (a .cert)) (a .n) (a .q) (a .t) (a .place .at) (a .head) (now (a .target)) (fields-at taken-at .fields-of .result) (taken taken-at) (taken-at .before .take-ks .result) (counted .pair .result) (c .w-departure .result) (c .before .arrive .last .1 .1 .1 .1 .1 .0) (c .before .arrive .result)
 
-asks : (c : tie.After-arrival) → Asks c
+asks : (c : tie.After-w-departure) → Asks c
 asks c =
     let at-minus = c .before .before .before in
     let counted = count-at (at-minus .before) in
     record {
       count = count counted;
       whole = omega (arith, at-minus .before .if3 .left, counted .pair .ensures .next, there (counted .before));
-      first-is = c .arrival .ensures;
+      first-is = c .w-departure .ensures;
       ask = rw (minus-back (at-minus .minus .ensures) (start-of (ks-at counted) .pre .read .small)) at (c .before .arrive .ensures);
     }
 
@@ -162,7 +162,7 @@ refused-with-requires-4 : tie.Need-refused-with-requires-4
 refused-with-requires-4 c κs = tt
 
 -- from where the w entries are taken: where the targets ask, and where the call began
-abbrev asks-at : tie.After-struct-known5 → tie.After-arrival
+abbrev asks-at : tie.After-struct-known5 → tie.After-w-departure
 asks-at c = c .before .before .before .before
 
 abbrev began : tie.After-struct-known5 → tie.Start
@@ -213,7 +213,7 @@ judge-entries-spec =
     returns-3
     minus-requires
     arrive-requires
-    arrival-requires
+    w-departure-requires
     take-ws-requires
     refused-with-requires-4
     returns-4

@@ -4,7 +4,7 @@ use mathlib.Core.Path.{refl, _∙_}
 use denote.Ref.{now}
 use Rattle.transition.specs.KnownLaws.{few-states, known-states, known-transition}
 use Rattle.refutation.specs.RefutationLaws.{fixed-whole, not-opened, not-related, cut, stands}
-use Rattle.refutation_prices.specs.RulePrices.{price-count, count-most}
+use Rattle.rule_kind.specs.StepsLaws.{prices-most, prices-of}
 use Rattle.refutation.proofs.judge_refutation.Statement.{statement}
 use Rattle.refutation.proofs.judge_refutation.Tie as tie
 
@@ -48,7 +48,7 @@ mul-size : tie.Need-mul-size
 mul-size c =
     let past = c .before .before in
     let start = past .before .before .before .before .before .before .before .before .before in
-    record { fits = omega (arith, c .price-count .ensures, count-most (start .args .kind) (start .args .n) (c .before .fields-of .result .action), few-states (start .pre .0)) }
+    record { fits = omega (arith, c .price-count .ensures, prices-most (start .args .kind) (start .args .n) (c .before .fields-of .result .action), few-states (start .pre .0)) }
 
 sub-if3 : tie.Need-sub-if3
 sub-if3 c =
@@ -78,7 +78,7 @@ returns-3 c =
     let opening = fixed .before .before .open-certificate in
     let start = fixed .before .before .before .before .before in
     cut _ _ _ _ _ _ (opening .result) (opening .ensures) (fixed .if1 .left) (head .result) (head .ensures) _ (pair .result) (pair .ensures) (past .if2 .left)
-    _ (count .price-count .ensures ∙ price-count (start .args .kind) (now (start .args .s)) (head .result .challenger) (known-states (start .pre .0)) (asked .fields-of .ensures .action))
+    _ (count .price-count .ensures ∙ prices-of (start .args .kind) (now (start .args .s)) _ (head .result .challenger) (known-states (start .pre .0)) (asked .fields-of .ensures .action))
     (start .pre .2) (c .before .refusal .result) _ (c .refused3 .ensures) (c .before .refusal .ensures) (omega (arith, c .before .before .if3 .taken))
 
 prices-fault-requires : tie.Need-prices-fault-requires
@@ -131,7 +131,7 @@ returns-4 c =
     let fields = asked .fields-of .ensures in
     let prices = c .before .before .prices-fault in
     stands _ _ _ _ _ _ (opening .result) (opening .ensures) (fixed .if1 .left) (head .result) (head .ensures) _ (pair .result) (pair .ensures) (past .if2 .left)
-    _ (count .price-count .ensures ∙ price-count (start .args .kind) (now (start .args .s)) (head .result .challenger) (known-states (start .pre .0)) (fields .action))
+    _ (count .price-count .ensures ∙ prices-of (start .args .kind) (now (start .args .s)) _ (head .result .challenger) (known-states (start .pre .0)) (fields .action))
     (prices .result) (prices .ensures) (omega (arith, c .before .before .before .before .before .before .if3 .left, head .ensures .prices, whole))
     _ (c .before .at .ensures) fields refl (omega (arith, fields .from, start .pre .0 .states)) refl (c .new .ensures)
 

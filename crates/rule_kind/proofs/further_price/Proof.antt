@@ -1,11 +1,11 @@
 -- `further_price` meets its contract: by the kind of the rule.
 use native.Mathlib.Omega.{arith}
 use mathlib.Core.Path.{refl, ap}
-use Rattle.rule_kind.specs.Kinds.{furtherPrices}
-use Rattle.refutation_prices.specs.RulePrices.{further-none, further-read}
+use Rattle.rule_kind.specs.Steps.{furtherPrices}
+use Rattle.rule_kind.specs.StepsLaws.{further-none, further-read}
 use borrow.Author.Needs.{needs}
-use Rattle.refutation_prices.proofs.further_price.Statement.{statement}
-use Rattle.refutation_prices.proofs.further_price.Tie as tie
+use Rattle.rule_kind.proofs.further_price.Statement.{statement}
+use Rattle.rule_kind.proofs.further_price.Tie as tie
 
 enum-told : tie.Need-enum-told
 enum-told c = search needs

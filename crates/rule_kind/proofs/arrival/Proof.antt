@@ -2,9 +2,9 @@
 use mathlib.Core.Path.{refl}
 use Rattle.bisimulation.specs.argument.ChoiceLaws.{same, notSame}
 use native.Mathlib.Omega.{arith}
-use Rattle.entries_k.specs.Taking.{arrivalOf}
-use Rattle.entries_k.proofs.arrival.Statement.{statement}
-use Rattle.entries_k.proofs.arrival.Tie as tie
+use Rattle.rule_kind.specs.Steps.{arrivalOf}
+use Rattle.rule_kind.proofs.arrival.Statement.{statement}
+use Rattle.rule_kind.proofs.arrival.Tie as tie
 
 returns : tie.Need-returns
 unfolding arrivalOf

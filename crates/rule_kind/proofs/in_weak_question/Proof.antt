@@ -1,11 +1,11 @@
--- `in_question` meets its contract, case by case.
+-- `in_weak_question` meets its contract, case by case.
 use mathlib.Core.Path.{refl}
 use Rattle.bisimulation.specs.argument.ChoiceLaws.{same, notSame}
 use native.Mathlib.Omega.{arith}
 use Rattle.rules.specs.definitions.PlainRule.{internalInQuestion, externalInQuestion, plainInQuestion}
-use Rattle.entries_k.specs.PlainAsked.{tells-layer}
-use Rattle.entries_k.proofs.in_question.Statement.{statement}
-use Rattle.entries_k.proofs.in_question.Tie as tie
+use Rattle.rule_kind.specs.StepsLaws.{tells-layer}
+use Rattle.rule_kind.proofs.in_weak_question.Statement.{statement}
+use Rattle.rule_kind.proofs.in_weak_question.Tie as tie
 
 returns : tie.Need-returns
 unfolding plainInQuestion internalInQuestion
@@ -39,7 +39,7 @@ returns-8 : tie.Need-returns-8
 unfolding plainInQuestion externalInQuestion
 returns-8 c = tells-layer _ _ _ (notSame _ (omega arith) (notSame _ (omega arith) (notSame _ (omega arith) (notSame _ (omega arith) refl))))
 
-pub in-question-spec : {M : Type 1} → statement M
-in-question-spec =
+pub in-weak-question-spec : {M : Type 1} → statement M
+in-weak-question-spec =
     tie.close
     (tie.spec returns returns-2 returns-3 returns-4 returns-5 returns-6 returns-7 returns-8)

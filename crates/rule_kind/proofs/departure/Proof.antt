@@ -2,9 +2,9 @@
 use mathlib.Core.Path.{refl}
 use Rattle.bisimulation.specs.argument.ChoiceLaws.{same, notSame}
 use native.Mathlib.Omega.{arith}
-use Rattle.entries_k.specs.Taking.{departureOf}
-use Rattle.entries_k.proofs.departure.Statement.{statement}
-use Rattle.entries_k.proofs.departure.Tie as tie
+use Rattle.rule_kind.specs.Steps.{departureOf}
+use Rattle.rule_kind.proofs.departure.Statement.{statement}
+use Rattle.rule_kind.proofs.departure.Tie as tie
 
 returns : tie.Need-returns
 unfolding departureOf

@@ -121,11 +121,14 @@ fn fair_to(
     ensures { λ z. ⌜ z ≡ fairTo (costIn kind (now (s .entry))) (automatonIn (now (s .entry))) l kind a (priceIn (now (x .entry))) (priceIn (now (y .entry))) r ⌝ }
 {
     let action = transition::fields_of(s, places, r).action;
-    match rule_kind::condition_of(kind, a, action) {
-        Condition::Across => fair(kind, s, count, places, r, l, x, y),
-        Condition::Within => fair_twice(kind, s, count, places, r, l, x, y),
-        Condition::Unasked => true,
+    let condition = rule_kind::condition_of(kind, a, action);
+    if let Condition::Across = condition {
+        return fair(kind, s, count, places, r, l, x, y);
     }
+    if let Condition::Within = condition {
+        return fair_twice(kind, s, count, places, r, l, x, y);
+    }
+    true
 }
 
 // What it asks of the transitions.

@@ -105,7 +105,7 @@ fn fair_twice(
     at_least(d, y, t.source, second)
 }
 
-// What a challenger with the action a asks of the transition r. For an internal one the prices y are x.
+// What a challenger with the action a asks of the transition r. Where there is no move the prices y are x.
 fn fair_to(
     kind: Kind,
     s: &[u8],

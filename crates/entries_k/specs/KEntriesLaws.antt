@@ -7,8 +7,7 @@ use lib.ListN.{length}
 use lib.IntN.{ℤ, pos, negℤ}
 use native.Mathlib.Nat.{mul-le-mul}
 use native.Mathlib.Omega.{arith}
-use native.Mathlib.Decide.{ℕ-discrete}
-use Rattle.bisimulation.specs.argument.ChoiceLaws.{less, notLess, notSame, isTrue, isFalse, eitherLess, eitherSame, eitherTrue, false-not}
+use Rattle.bisimulation.specs.argument.ChoiceLaws.{less, notLess, isTrue, isFalse, eitherLess, eitherTrue, false-not}
 use Rattle.rules.specs.definitions.Bytes.{byteAt, twoAt, threeAt, fourAt}
 use Rattle.rules.specs.definitions.Certificate.{FileRule, kFault}
 use Rattle.rules.specs.definitions.Faults.{Fault, fault}

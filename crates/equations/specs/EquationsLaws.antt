@@ -11,7 +11,7 @@ use native.Mathlib.Nat.{zero-add}
 use native.Mathlib.Omega.{arith}
 use native.Mathlib.Decide.{ℕ-discrete, decLt}
 use Rattle.bisimulation.specs.definitions.Choice.{ifSame, ifTrue}
-use Rattle.bisimulation.specs.argument.ChoiceLaws.{same, notSame, turned, eitherSame, timesSame}
+use Rattle.bisimulation.specs.argument.ChoiceLaws.{same, notSame, turned, timesSame}
 use Rattle.bisimulation.specs.definitions.Automaton.{Automaton, SoundAutomaton}
 use Rattle.bisimulation.specs.definitions.Pairs.{Pairs}
 use Rattle.bisimulation.specs.argument.Raised.{Raised, above, below}

@@ -2,3 +2,4 @@ pub mod EntrySums
 pub mod Differences
 pub mod EquationsLaws
 pub mod RuleEquations
+pub mod LayerOne

@@ -1,5 +1,5 @@
 -- Laws of the step rules by their kind.
-use Prim.Native.Nat.{ℕ, _+_, _≤_, _<_}
+use Prim.Native.Nat.{ℕ, _+_, _<_}
 use mathlib.Core.Path.{_≡_, refl, sym, _∙_, ap, subst}
 use mathlib.Core.List.{List}
 use lib.ListN.{length, getD}
@@ -8,7 +8,6 @@ use Rattle.rules.specs.definitions.Bytes.{byteAt}
 use Rattle.rules.specs.definitions.Reading.{countOf}
 use Rattle.cost_files.specs.definitions.CostModel.{transitionsEnd}
 use Rattle.cost_files.specs.argument.CostReadingLaws.{cost-at}
-use Rattle.transition.specs.Known.{Known}
 use Rattle.transition.specs.KnownLaws.{few-transitions}
 use Rattle.rule_kind.specs.declared.Kind.{Kind}
 use Rattle.rule_kind.specs.declared.Kind.the-variants.{Plain, Costs}

@@ -163,17 +163,10 @@ pub further-none : {kind : Kind} {C : List ℕ} {at : ℕ} {l : ℤ} → kind �
 further-none {C = C} {at} e z =
     record { is = by-plain (λ (k : Kind). furtherAt k C at) e z; small = subst (λ (y : ℤ). mag y < 2 ^ 31) (sym z) (omega arith) }
 
--- the machine reads it back from its bits
-pub further-back : (l : ℤ) → mag l < 2 ^ 31 → toZ w64 (ofZ w64 l) ≡ l
-further-back l small = toZ-ofZ (record { sfits = omega arith })
-
 pub further-read : {kind : Kind} {C : List ℕ} {at place : ℕ} {p : Price} → kind ≡ Costs → Priced C place p → place ≡ at → IsFurther kind C at (toZ w64 (ofZ w64 (p .value)))
 further-read {C = C} {at} {p = p} e h here =
-    rw (further-back (p .value) (h .small))
+    rw (toZ-ofZ {w = w64} {z = p .value} (record { sfits = omega (arith, h .small) }))
     (record { is = by-costs (λ (k : Kind). furtherAt k C at) e (h .value ∙ ap (signedAt C) here); small = h .small })
-
-pub further-small : {kind : Kind} {C : List ℕ} {at : ℕ} {l : ℤ} → IsFurther kind C at l → mag (toZ w64 (ofZ w64 l)) < 2 ^ 31
-further-small {l = l} h = rw (further-back l (h .small)) (h .small)
 
 -- which condition a transition has by the rules with and without costs
 pub weak-conditions : (kind : Kind) (challenger action : ℕ) → weakCondition challenger action ≡ conditionBy kind challenger action

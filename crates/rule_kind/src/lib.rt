@@ -146,6 +146,7 @@ pub enum Condition {
     Unasked,
 }
 
+// Document 01's: 'for each transition with its action', and 'for each internal transition'.
 fn weak_condition(challenger: usize, action: usize) -> Condition
     ensures { λ r. ⌜ r ≡ weakCondition challenger action ⌝ }
 {

@@ -6,10 +6,10 @@ use native.Mathlib.Omega.{arith}
 use borrow.Author.Tests.{not-true, not-false}
 use borrow.Author.Needs.{needs}
 use Rattle.rule_kind.specs.Steps.{hasMove, furtherPrices, pricesBy}
-use Rattle.rule_kind.specs.StepsLaws.{prices-with-move, prices-without-move, prices-least, further-small}
+use Rattle.rule_kind.specs.StepsLaws.{prices-with-move, prices-without-move, prices-least}
 use Rattle.transition.specs.KnownLaws.{few-states}
 use Rattle.prices.specs.PricesLaws.{prices-small}
-use Rattle.refutation_prices.specs.RulePrices.{judged-internal, judged-external}
+use Rattle.refutation_prices.specs.RulePrices.{further-small, judged-internal, judged-external}
 use Rattle.refutation_prices.proofs.prices_fault.Statement.{statement}
 use Rattle.refutation_prices.proofs.prices_fault.Tie as tie
 

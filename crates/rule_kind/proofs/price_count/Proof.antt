@@ -1,6 +1,5 @@
 -- `price_count` meets its contract: twice or three times the states, and L.
-use mathlib.Core.Path.{_≡_, sym, _∙_}
-use mathlib.Core.Bool.{true, false}
+use mathlib.Core.Path.{sym, _∙_}
 use native.Mathlib.Omega.{arith}
 use Rattle.rule_kind.specs.StepsLaws.{prices-with-move, prices-without-move, prices-most}
 use borrow.Author.Needs.{needs}

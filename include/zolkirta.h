@@ -5,9 +5,9 @@
  * changed by others during the call, and a lent buffer overlaps no input and no other lent buffer. A refusal writes no byte of any
  * lent buffer.
  *
- * Stack. zolkirta_reduce, zolkirta_judge, zolkirta_judge_costs and zolkirta_alike use at most 18,500 bytes each, zolkirta_sheet 22,500,
- * zolkirta_join and zolkirta_fetch 2,500 (measured, rounded up). In a dynamically linked program the loader adds some 3 KiB when it
- * binds memcpy or memset at the first call. No heap is used.
+ * Stack. zolkirta_judge, zolkirta_judge_costs and zolkirta_alike use at most 12,500 bytes each, zolkirta_sheet 16,500, zolkirta_reduce
+ * 23,500, zolkirta_join and zolkirta_fetch 2,500 (measured, rounded up). In a dynamically linked program the loader adds some 3 KiB
+ * when it binds memcpy or memset at the first call. No heap is used.
  *
  * Threads. The library has no state and keeps no pointer: any number of calls may run at once.
  *

@@ -4,10 +4,11 @@ ghost use mathlib.Core.Path.{_≡_};
 ghost use lib.ListN.{length, getD};
 ghost use Rattle.bisimulation.specs.definitions.Choice.{ifSame};
 ghost use Rattle.joined.specs.definitions.AlikeAnswer.{partsNumber};
-ghost use Rattle.alike.specs.Alike.{named, AlikeAnswered};
-use acceptance::Task;
+ghost use Rattle.alike.specs.Alike.{named, Compares, AlikeAnswered};
 use answer::Answer;
+use judgement::Verdict;
 use limits::STATES;
+use rule_kind::Kind;
 
 // What the call answers, and what it says: 1 for yes, 0 for no.
 #[repr(C)]
@@ -45,7 +46,22 @@ fn same_block(blocks: &[u8], v: usize, u: usize) -> u32
     0
 }
 
-// What the call that compares two states answers and says. The blocks are judged into a buffer of its own, long enough for every model.
+// What is said of two states by accepted blocks.
+fn compare(blocks: &[u8], first_count: usize, first: usize, second: usize) -> AlikeAnswer
+    ensures { λ r. ⌜ Compares (now (blocks .entry)) (named «first_count» first second) r ⌝ }
+{
+    let parts = parts_number(blocks.len(), first_count, first, second);
+    let answer = answer::without_place(parts, 0);
+    if parts != 0 {
+        return AlikeAnswer { answer, alike: 0 };
+    }
+    AlikeAnswer {
+        answer,
+        alike: same_block(blocks, first, second),
+    }
+}
+
+// What the call that compares two states answers and says.
 pub fn alike_answer(
     model: &[u8],
     first_count: u32,
@@ -55,23 +71,25 @@ pub fn alike_answer(
 ) -> AlikeAnswer
     ensures { λ r. ⌜ AlikeAnswered (now (model .entry)) (now (certificate .entry)) (named «first_count» «first_state» «second_state») r ⌝ }
 {
-    let mut blocks = [0u8; STATES];
-    let judged = pair::answer_pair(Task::Blocks, model, certificate, &mut blocks[..]);
-    if judged.number != 0 {
+    let head = judgement::head_answer(model);
+    if head.number != 0 {
         return AlikeAnswer {
-            answer: judged,
+            answer: head,
             alike: 0,
         };
     }
-    let first = first_state as usize;
-    let second = second_state as usize;
-    let parts = parts_number(judged.written, first_count as usize, first, second);
-    let answer = answer::without_place(parts, 0);
-    if parts != 0 {
-        return AlikeAnswer { answer, alike: 0 };
-    }
-    AlikeAnswer {
-        answer,
-        alike: same_block(&blocks[..], first, second),
+    let found = judgement::judge_files(Kind::Plain, model, certificate, STATES);
+    match found {
+        Verdict::Accepted {
+            states,
+            transitions,
+            blocks: at,
+        } => compare(
+            &certificate[at..at + states],
+            first_count as usize,
+            first_state as usize,
+            second_state as usize,
+        ),
+        Verdict::Refused(answer) => AlikeAnswer { answer, alike: 0 },
     }
 }

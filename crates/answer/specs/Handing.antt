@@ -4,7 +4,7 @@ use mathlib.Core.Path.{_≡_}
 use mathlib.Core.List.{List}
 use lib.ListN.{getD}
 use lib.IntN.{ℤ}
-use Rattle.rules.specs.definitions.Answers.{Outcome, stretchOf}
+use Rattle.rules.specs.definitions.Answers.{Outcome, leftIn, lengthsOf, stretchOf}
 use Rattle.answer.specs.declared.Answer.{Answer}
 use Rattle.answer.specs.Answered.{answered}
 
@@ -27,14 +27,19 @@ pub record HandsBack (files : List (List ℕ)) (slices : List (ℕ × ℕ)) (r :
   pub lies : lying ≡ partFrom (sliceOf slices (r .file)) (r .«stretch_start»)
 
 -- an outcome of a call that was given these files, which lie in these slices: its numbers stand beside its stretch, a part of the file that
--- it names, and the lent buffer is as it says
-pub record Handed (o : Outcome) (files : List (List ℕ)) (slices : List (ℕ × ℕ)) (after : List ℕ) (number file place state : ℕ) (remainder : ℤ) (written : ℕ) (part : List ℕ) (lying : ℕ × ℕ) : Type 0 where
+-- it names, with the lengths that were written, and the lent buffers are as it says
+pub record Handed (o : Outcome) (files : List (List ℕ)) (slices : List (ℕ × ℕ)) (after : List (List ℕ)) (number file place state : ℕ) (remainder : ℤ) (written : List ℕ) (part : List ℕ) (lying : ℕ × ℕ) : Type 0 where
   pub numbered : number ≡ o .answer .number
   pub filed : file ≡ o .answer .file
   pub placed : place ≡ o .answer .place
   pub stated : state ≡ o .answer .state
   pub off : remainder ≡ o .answer .remainder
-  pub wrote : written ≡ o .answer .written
+  pub wrote : written ≡ lengthsOf o
   pub handed : part ≡ stretchOf files (o .answer)
   pub lies : lying ≡ partFrom (sliceOf slices (o .answer .file)) (o .answer .stretchStart)
-  pub buffer : after ≡ o .buffer
+  pub buffers : after ≡ leftIn o
+
+-- what a call promises that hands its stretch back as a slice: such an outcome, and these demands of its number
+pub record CallHandedBack (o : Outcome) (files : List (List ℕ)) (slices : List (ℕ × ℕ)) (after : List (List ℕ)) (kept : ℕ → Type 0) (number file place state : ℕ) (remainder : ℤ) (written : List ℕ) (part : List ℕ) (lying : ℕ × ℕ) : Type 0 where
+  pub outcome : Handed o files slices after number file place state remainder written part lying
+  pub demands : kept number

@@ -1,16 +1,15 @@
 // What a call answers, and how its stretch is handed back.
 ghost use Prim.Native.Nat.{_≤_};
-ghost use mathlib.Core.Path.{_≡_};
 ghost use mathlib.Core.List.{[], _∷_};
 ghost use denote.Ref.{ptr};
 ghost use Rattle.rules.specs.definitions.Answers.{refusalIn, answerWithoutPlace};
 ghost use Rattle.fault.specs.Faults.{faultOf};
-ghost use Rattle.answer.specs.Answered.{answered, StretchInside};
+ghost use Rattle.answer.specs.Answered.{Says, FileAnswered, StretchInside};
 ghost use Rattle.answer.specs.Handing.{HandsBack};
 use fault::Fault;
 
 // What a call answers: the papers' number, file (1 model, 2 certificate, 3 second model) and place; where the stretch, or the run of a
-// fetch, starts in its file and how long it is; how many bytes were written into the lent buffer; and for 16, 20 and 21 the state at which
+// fetch, starts in its file and how long it is; how many bytes were written into the (first) lent buffer; and for 16, 20 and 21 the state at which
 // an equation or the last price condition breaks, with its left side less its right.
 #[repr(C)]
 pub struct Answer {
@@ -25,7 +24,7 @@ pub struct Answer {
 }
 
 pub fn without_place(number: u32, written: usize) -> Answer
-    ensures { λ r. ⌜ answered r ≡ answerWithoutPlace number written ⌝ }
+    ensures { λ r. ⌜ Says (answerWithoutPlace number) written r ⌝ }
 {
     Answer {
         number,
@@ -42,7 +41,7 @@ pub fn without_place(number: u32, written: usize) -> Answer
 // A fault in a file of so many bytes.
 pub fn refusal_in(fault: Fault, file: u32, size: usize) -> Answer
     requires { ⌜ fault .place ≤ size ⌝ }
-    ensures { λ r. ⌜ answered r ≡ refusalIn (faultOf fault) file (fault .place) size ⌝ }
+    ensures { λ r. ⌜ Says (refusalIn (faultOf fault) file (fault .place) size) 0 r ⌝ }
 {
     Answer {
         number: fault.number,
@@ -54,6 +53,16 @@ pub fn refusal_in(fault: Fault, file: u32, size: usize) -> Answer
         state: fault.state,
         remainder: fault.remainder,
     }
+}
+
+// The answer of a call that writes a file of so many bytes where its buffer has room for it, with the number that it has where there is none.
+pub fn file_answer(short: u32, size: usize, room: usize) -> Answer
+    ensures { λ r. ⌜ FileAnswered short size room r ⌝ }
+{
+    if room < size {
+        return without_place(short, 0);
+    }
+    without_place(0, size)
 }
 
 // Hands an answer back: the tail of the slice that holds the record at fault, empty where none does, and the numbers beside it. The

@@ -11,7 +11,7 @@ use Rattle.rules.specs.definitions.Limits.{limits}
 use Rattle.rules.specs.definitions.Faults as rules
 use Rattle.rules.specs.definitions.Faults.{certificateRecord}
 use Rattle.rules.specs.definitions.Certificate.{FileRule, refutationCount, certificateHeadFault, challengerAt, defenderAt, afterRefutation, refutationFault, pairsAfter, blocksAt}
-use Rattle.rules.specs.definitions.Judging.{Judgement, rejected, rejectAt, questions, judgeFlows, judgeBlocks, judgeRefutations, judgeCertificate}
+use Rattle.rules.specs.definitions.Judging.{Judgement, refusedIn, refuseRecordAt, questions, judgeFlows, judgeBlocks, judgeRefutations, judgeCertificate}
 use Rattle.rules.specs.argument.FaultLaws.{none-first, certificate-refuses, opened}
 use Rattle.field.specs.declared.Cursor.{Cursor}
 use Rattle.fault.specs.declared.Fault.{Fault}
@@ -25,15 +25,15 @@ use Rattle.blocks.specs.Blocks.{BlocksJudged}
 use Rattle.refutation.specs.declared.Refuted.{Refuted}
 use Rattle.refutation.specs.RefutationJudged.{RefutationJudged}
 use Rattle.flows.specs.declared.Judged.{Judged}
-use Rattle.flows.specs.declared.Judged.the-variants.{Rejected}
+use Rattle.flows.specs.declared.Judged.the-variants.{Refused}
 use Rattle.flows.specs.FlowsJudged.{Judges, judges, JudgesFlows}
-use Rattle.flows.specs.Going.{reject-stops, reject-passes}
+use Rattle.flows.specs.Going.{record-stops, record-passes}
 use Rattle.certificate.specs.declared.Passed.{Passed}
 use Rattle.certificate.specs.CertificateJudged.{JudgesBlocks}
 
--- a record's fault rejects at its place
-rejects : {f : rules.Fault} {at : ℕ} (r : Fault) (next : Judgement) → faultOf r ≡ f → r .place ≡ at → (r .number ≡ 0 → ⊥) → rejected (faultOf r) 2 (r .place) ≡ rejectAt f at next
-rejects {f} {at} r next e place some = ap (rejected (faultOf r) 2) place ∙ reject-stops (faultOf r) at next e some
+-- a record's fault refuses at its place
+record-refused : {f : rules.Fault} {at : ℕ} (r : Fault) (next : Judgement) → faultOf r ≡ f → r .place ≡ at → (r .number ≡ 0 → ⊥) → refusedIn (faultOf r) 2 (r .place) ≡ refuseRecordAt f at next
+record-refused {f} {at} r next e place some = ap (refusedIn (faultOf r) 2) place ∙ record-stops (faultOf r) at next e some
 
 -- what a head without fault tells
 pub head-whole : (rule : FileRule) (C : List ℕ) (f : Fault) → faultOf f ≡ certificateHeadFault limits rule C → f .number ≡ 0 → 4 ≤ length C
@@ -42,17 +42,17 @@ head-whole rule C f e good = omega (arith, opened certificateRecord (rule .mark)
 
 -- the blocks record at a place
 module _ (rule : FileRule) {s C table : List ℕ} {n count : ℕ} (k : Known s n count table) {rows : List ℕ} {at : ℕ} (f : Fault) (j : BlocksJudged C at n rows f) where
-  pub blocks-stops : (f .number ≡ 0 → ⊥) → at ≤ length C → JudgesBlocks rule s C n rows at (Rejected f)
+  pub blocks-stops : (f .number ≡ 0 → ⊥) → at ≤ length C → JudgesBlocks rule s C n rows at (Refused f)
   unfolding judgeBlocks
   blocks-stops some inside =
-      record { answer = λ R h. rejects f _ (j .is (automatonIn s) (known-states k) R h) (j .place) some; inside = omega (arith, inside, j .place) }
+      record { answer = λ R h. record-refused f _ (j .is (automatonIn s) (known-states k) R h) (j .place) some; inside = omega (arith, inside, j .place) }
 
   pub blocks-passes : f .number ≡ 0 → {r : Judged} → JudgesFlows rule s C n rows (at + 2) r → JudgesBlocks rule s C n rows at r
   unfolding judgeBlocks blocksAt
   blocks-passes good flows =
       record {
         answer = λ R h.
-            reject-passes at (j .is (automatonIn s) (known-states k) R h) good
+            record-passes at (j .is (automatonIn s) (known-states k) R h) good
             (flows .answer R h
             ∙ ap (λ (m : ℕ). judgeFlows limits rule (automatonIn s) C R (take m (drop (at + 2) C)) (questions (automatonIn s) (take m (drop (at + 2) C))) (at + 2 + m)) (sym (known-states k)));
         inside = flows .inside;
@@ -67,16 +67,16 @@ pub record Refuting (rule : FileRule) (s C : List ℕ) (n : ℕ) (rows : List �
 
 -- one of the refutations is refused, or none is: then none is left
 pub record RefutationsJudged (rule : FileRule) (s C : List ℕ) (n : ℕ) (rows : List ℕ) (r : Passed) : Type 0 where
-  pub stops : (r .fault .number ≡ 0 → ⊥) → Judges C n (judgeCertificate limits rule (automatonIn s) C) (Rejected (r .fault))
+  pub stops : (r .fault .number ≡ 0 → ⊥) → Judges C n (judgeCertificate limits rule (automatonIn s) C) (Refused (r .fault))
   pub passes : r .fault .number ≡ 0 → Refuting rule s C n rows 0 (r .next .at)
 
 module _ (rule : FileRule) (A : Automaton) (C : List ℕ) (R : Pairs) where
-  some-left : (left at : ℕ) → 0 < left → judgeRefutations limits rule A C left R at ≡ rejectAt (refutationFault rule A C R at) at (judgeRefutations limits rule A C (left - 1) (pairsAfter A C R at) (afterRefutation rule A C at))
+  some-left : (left at : ℕ) → 0 < left → judgeRefutations limits rule A C left R at ≡ refuseRecordAt (refutationFault rule A C R at) at (judgeRefutations limits rule A C (left - 1) (pairsAfter A C R at) (afterRefutation rule A C at))
   unfolding judgeRefutations
   some-left zero at some = absurd (omega arith)
   some-left (suc left) at some =
       let one : left ≡ suc left - 1 = omega arith in
-      ap (λ (m : ℕ). rejectAt (refutationFault rule A C R at) at (judgeRefutations limits rule A C m (pairsAfter A C R at) (afterRefutation rule A C at))) one
+      ap (λ (m : ℕ). refuseRecordAt (refutationFault rule A C R at) at (judgeRefutations limits rule A C m (pairsAfter A C R at) (afterRefutation rule A C at))) one
 
   none-left : (left at : ℕ) → left ≤ 0 → judgeRefutations limits rule A C left R at ≡ judgeBlocks limits rule A C R at
   unfolding judgeRefutations
@@ -85,9 +85,9 @@ module _ (rule : FileRule) (A : Automaton) (C : List ℕ) (R : Pairs) where
 
 module _ (rule : FileRule) (s C : List ℕ) (n : ℕ) where
   -- the head
-  pub head-stops : (f : Fault) → Placed (certificateHeadFault limits rule C) 0 f → (f .number ≡ 0 → ⊥) → Judges C n (judgeCertificate limits rule (automatonIn s) C) (Rejected f)
+  pub head-stops : (f : Fault) → Placed (certificateHeadFault limits rule C) 0 f → (f .number ≡ 0 → ⊥) → Judges C n (judgeCertificate limits rule (automatonIn s) C) (Refused f)
   unfolding judgeCertificate
-  head-stops f p some = judges (Rejected f) (rejects f _ (p .is) (p .at) some) (omega (arith, p .at))
+  head-stops f p some = judges (Refused f) (record-refused f _ (p .is) (p .at) some) (omega (arith, p .at))
 
   pub refuting-start : (f : Fault) {rows : List ℕ} {left at : ℕ} → Placed (certificateHeadFault limits rule C) 0 f → f .number ≡ 0 → left ≡ refutationCount C → at ≡ 4 → HoldsPairs n (equalLabels (automatonIn s)) rows → Refuting rule s C n rows left at
   unfolding judgeCertificate
@@ -97,17 +97,17 @@ module _ (rule : FileRule) (s C : List ℕ) (n : ℕ) where
         held = held;
         judged =
             ap₂ (λ (m k : ℕ). judgeRefutations limits rule (automatonIn s) C m (equalLabels (automatonIn s)) k) many place
-            ∙ reject-passes 0 (p .is) good refl;
+            ∙ record-passes 0 (p .is) good refl;
         inside = omega (arith, place, head-whole rule C f (p .is) good);
       }
 
   module _ {rows : List ℕ} {left at : ℕ} (going : Refuting rule s C n rows left at) where
     module _ {x y g : List ℤ} {r : Refuted} (j : RefutationJudged rule s C n rows at x y g r) (some : 0 < left) where
       -- a refutation that is refused
-      pub refuting-stops : (r .fault .number ≡ 0 → ⊥) → Judges C n (judgeCertificate limits rule (automatonIn s) C) (Rejected (r .fault))
+      pub refuting-stops : (r .fault .number ≡ 0 → ⊥) → Judges C n (judgeCertificate limits rule (automatonIn s) C) (Refused (r .fault))
       refuting-stops bad =
-          judges (Rejected (r .fault))
-          (rejects (r .fault) _ (j .is (going .pairs) (going .held)) (j .place) bad ∙ sym (some-left rule (automatonIn s) C (going .pairs) left at some) ∙ going .judged)
+          judges (Refused (r .fault))
+          (record-refused (r .fault) _ (j .is (going .pairs) (going .held)) (j .place) bad ∙ sym (some-left rule (automatonIn s) C (going .pairs) left at some) ∙ going .judged)
           (omega (arith, j .place, going .inside))
 
       -- one that is not
@@ -121,7 +121,7 @@ module _ (rule : FileRule) (s C : List ℕ) (n : ℕ) where
             judged =
                 ap₂ (λ (v u : ℕ). rest v u (r .next .at)) (p .source) (p .defender)
                 ∙ ap (rest (automatonIn s .source (challengerAt C at)) (defenderAt C at)) (p .next)
-                ∙ reject-passes at (j .is (going .pairs) (going .held)) good refl
+                ∙ record-passes at (j .is (going .pairs) (going .held)) good refl
                 ∙ sym (some-left rule (automatonIn s) C (going .pairs) left at some)
                 ∙ going .judged;
             inside = p .inside;
@@ -140,7 +140,7 @@ module _ {rule : FileRule} {s C : List ℕ} {n : ℕ} {rows : List ℕ} where
   pub refuting-from : {left at first : ℕ} → Refuting rule s C n rows left first → at ≡ first → Refuting rule s C n rows left at
   refuting-from {left} going e = subst (Refuting rule s C n rows left) (sym e) going
 
-  pub refutations-stop : {r : Passed} → ((r .fault .number ≡ 0 → ⊥) → Judges C n (judgeCertificate limits rule (automatonIn s) C) (Rejected (r .fault))) → (r .fault .number ≡ 0 → ⊥) → RefutationsJudged rule s C n rows r
+  pub refutations-stop : {r : Passed} → ((r .fault .number ≡ 0 → ⊥) → Judges C n (judgeCertificate limits rule (automatonIn s) C) (Refused (r .fault))) → (r .fault .number ≡ 0 → ⊥) → RefutationsJudged rule s C n rows r
   refutations-stop j some = record { stops = j; passes = λ good. absurd (some good) }
 
   pub refutations-pass : (f : Fault) {left : ℕ} {next : Cursor} → faultOf f ≡ rules.noFault → Refuting rule s C n rows left (next .at) → left ≤ 0 → RefutationsJudged rule s C n rows (record { fault = f; next = next })

@@ -56,7 +56,7 @@ fn judge_blocks(
 {
     let blocks = blocks::blocks_fault(cert, at, n, rows);
     if blocks.number != 0 {
-        return Judged::Rejected(blocks);
+        return Judged::Refused(blocks);
     }
     let start = at + 2;
     match kind {
@@ -129,7 +129,7 @@ pub fn judge_certificate(
 {
     let head = head_fault(kind, cert);
     if head.number != 0 {
-        return Judged::Rejected(head);
+        return Judged::Refused(head);
     }
     let mut rows = pairs::no_rows();
     classes::start(&s[8..8 + n], n, &mut rows);
@@ -137,7 +137,7 @@ pub fn judge_certificate(
     let passed = judge_refutations(kind, s, n, count, places, cert, refutations, &mut rows);
     let refused = passed.fault;
     if refused.number != 0 {
-        return Judged::Rejected(refused);
+        return Judged::Refused(refused);
     }
     judge_blocks(kind, s, n, count, places, &rows, cert, passed.next.at)
 }

@@ -1,11 +1,16 @@
 -- What a fetch goes by, and document 01's answer for each of its cases.
-use Prim.Native.Nat.{ℕ}
-use mathlib.Core.Path.{_≡_}
-use mathlib.Core.List.{List}
-use lib.ListN.{length}
+use Prim.Native.Nat.{ℕ, _-_, _≤_}
+use mathlib.Core.Path.{_≡_, refl, sym, ap, subst}
+use mathlib.Core.List.{List, [], _∷_}
+use lib.ListN.{length, getD}
+use native.Mathlib.Omega.{arith}
+use Rattle.rules.specs.definitions.Limits.{limits}
 use Rattle.rules.specs.definitions.Reading.{runStart, runEnd}
-use Rattle.rules.specs.definitions.Answers.{Answer, refusalIn, answerWithoutPlace, runAnswer}
+use Rattle.rules.specs.definitions.Answers.{Answer, refusalIn, answerWithoutPlace, fileOf, runAnswer, fetchAnswer, fetchOutcome, FetchNumber}
+use Rattle.rules.specs.argument.AnswerLaws.{fetch-number, fetch-file, fetch-inside}
 use Rattle.fault.specs.Faults.{faultOf}
+use Rattle.answer.specs.declared.Answer as declared
+use Rattle.answer.specs.Answered.{Says, CallAnswered}
 use Rattle.fetch.specs.declared.Run.{Run}
 use Rattle.fetch.specs.declared.Fetched.{Fetched}
 use Rattle.fetch.specs.declared.Fetched.the-variants.{Found, NoState, Unsound}
@@ -18,5 +23,28 @@ pub record IsRun (s : List ℕ) (state : ℕ) (r : Run) : Type 0 where
 -- a run; 24; a refusal of the model s
 abbrev pub answerOf : List ℕ → Fetched → Answer
 answerOf s (Found start end) = runAnswer start end
-answerOf s NoState = answerWithoutPlace 24 0
+answerOf s NoState = answerWithoutPlace 24
 answerOf s (Unsound f) = refusalIn (faultOf f) 1 (f .place) (length s)
+
+-- the call promises what document 01 says of a fetch, with one of its numbers: 0 to 9 or 24; it lends no buffer
+abbrev pub FetchAnswered : (model : List ℕ) (state : ℕ) → declared.Answer → Type 0
+FetchAnswered model state r = CallAnswered (fetchOutcome limits model state) (model ∷ []) [] FetchNumber r
+
+pub fetch-answered : (model : List ℕ) (state : ℕ) {r : declared.Answer} → Says (fetchAnswer limits model state) 0 r → FetchAnswered model state r
+unfolding fileOf
+fetch-answered model state {r} s =
+    let e = s .answer in
+    let name : r .file ≤ 1 = omega (arith, ap (λ (a : Answer). a .file) e, fetch-file limits model state) in
+    let here : r .file - 1 ≡ 0 = omega arith in
+    record {
+      outcome =
+          record {
+            gives = record { answer = e; buffers = refl; wrote = s .wrote };
+            inside =
+                record {
+                  named = name;
+                  fits = omega (arith, ap (λ (a : Answer). a .stretchStart) e, ap (λ (a : Answer). a .stretchLength) e, fetch-inside limits model state, ap (λ (k : ℕ). length (getD (model ∷ []) k [])) here);
+                };
+          };
+      demands = subst FetchNumber (sym (ap (λ (a : Answer). a .number) e)) (fetch-number limits model state);
+    }

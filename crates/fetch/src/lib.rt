@@ -5,8 +5,8 @@ ghost use Rattle.rules.specs.definitions.Limits.{limits};
 ghost use Rattle.rules.specs.definitions.Reading.{statesOf, firstNotBelow};
 ghost use Rattle.rules.specs.definitions.Answers.{runAnswer, fetchAnswer};
 ghost use Rattle.transition.specs.Known.{Known};
-ghost use Rattle.answer.specs.Answered.{answered};
-ghost use Rattle.fetch.specs.Fetched.{IsRun, answerOf};
+ghost use Rattle.answer.specs.Answered.{Says};
+ghost use Rattle.fetch.specs.Fetched.{IsRun, answerOf, FetchAnswered};
 use answer::Answer;
 use fault::Fault;
 use model::Places;
@@ -81,7 +81,7 @@ fn fetch_run(s: &[u8], state: usize) -> Fetched
 }
 
 fn run_from(start: usize, end: usize) -> Answer
-    ensures { λ r. ⌜ answered r ≡ runAnswer start end ⌝ }
+    ensures { λ r. ⌜ Says (runAnswer start end) 0 r ⌝ }
 {
     if start < end {
         return Answer {
@@ -100,7 +100,7 @@ fn run_from(start: usize, end: usize) -> Answer
 
 // What a fetch answers.
 pub fn fetch_answer(model: &[u8], state: u32) -> Answer
-    ensures { λ r. ⌜ answered r ≡ fetchAnswer limits (now (model .entry)) state ⌝ }
+    ensures { λ r. ⌜ FetchAnswered (now (model .entry)) state r ⌝ }
 {
     let fetched = fetch_run(model, state as usize);
     match fetched {

@@ -8,26 +8,26 @@ use Rattle.rules.specs.definitions.Limits.{limits}
 use Rattle.rules.specs.definitions.Certificate.{FileRule}
 use Rattle.rules.specs.definitions.Answers.{Answer, refusalIn, answerWithoutPlace, fileOf, judgementAnswer}
 use Rattle.fault.specs.Faults.{faultOf}
-use Rattle.rules.specs.definitions.Judging.{Judgement, accepted, rejected, questions, judgeFlows}
+use Rattle.rules.specs.definitions.Judging.{Judgement, accepted, refusedIn, questions, judgeFlows}
 use Rattle.pairs.specs.Rows.{HoldsPairs}
 use Rattle.transition.specs.Known.{automatonIn}
 use Rattle.flows.specs.declared.Judged.{Judged}
-use Rattle.flows.specs.declared.Judged.the-variants.{Accepted, Rejected}
+use Rattle.flows.specs.declared.Judged.the-variants.{Accepted, Refused}
 
 -- document 01's judgement for each case: the n blocks at a place; a refusal in file 2
 abbrev pub judgementOf : List ℕ → ℕ → Judged → Judgement
 judgementOf C n (Accepted at) = accepted (take n (drop at C))
-judgementOf C n (Rejected f) = rejected (faultOf f) 2 (f .place)
+judgementOf C n (Refused f) = refusedIn (faultOf f) 2 (f .place)
 
 -- its number, file and place, for a certificate of so many bytes: 0, 0 and 0 where it is accepted
 abbrev pub judgedAnswer : ℕ → Judged → Answer
-judgedAnswer size (Accepted at) = answerWithoutPlace 0 0
-judgedAnswer size (Rejected f) = refusalIn (faultOf f) 2 (f .place) size
+judgedAnswer size (Accepted at) = answerWithoutPlace 0
+judgedAnswer size (Refused f) = refusalIn (faultOf f) 2 (f .place) size
 
 -- the blocks, or the place of the refusal, lie in the file
 abbrev pub InFile : List ℕ → ℕ → Judged → Type 0
 InFile C n (Accepted at) = at + n ≤ length C
-InFile C n (Rejected f) = f .place ≤ length C
+InFile C n (Refused f) = f .place ≤ length C
 
 -- the answer is this judgement, of a model file and this certificate file
 pub record Judges (C : List ℕ) (n : ℕ) (judgement : Judgement) (r : Judged) : Type 0 where
@@ -41,7 +41,7 @@ judges {C} {n} r e inside = record { answer = e; says = λ M. cases M r ∙ ap (
   where
     cases : (M : List ℕ) (x : Judged) → judgedAnswer (length C) x ≡ judgementAnswer (M ∷ C ∷ []) (judgementOf C n x)
     cases M (Accepted at) = unfold judgementAnswer in refl
-    cases M (Rejected f) = unfold judgementAnswer fileOf in refl
+    cases M (Refused f) = unfold judgementAnswer fileOf in refl
 
 -- the flows after n blocks, judged for the pairs that the rows hold
 pub record JudgesFlows (rule : FileRule) (s C : List ℕ) (n : ℕ) (rows : List ℕ) (blocks : ℕ) (r : Judged) : Type 0 where

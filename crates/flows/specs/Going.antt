@@ -11,7 +11,7 @@ use Rattle.rules.specs.definitions.Limits.{limits}
 use Rattle.rules.specs.definitions.Certificate.{FileRule}
 use Rattle.rules.specs.definitions.Faults as rules
 use Rattle.rules.specs.definitions.Faults.{fault}
-use Rattle.rules.specs.definitions.Judging.{Judgement, rejected, rejectAt, Question, questions, questionsOfState, questionsFrom, judgeFlows}
+use Rattle.rules.specs.definitions.Judging.{Judgement, refusedIn, refuseRecordAt, Question, questions, questionsOfState, questionsFrom, judgeFlows}
 use Rattle.fault.specs.declared.Fault.{Fault}
 use Rattle.fault.specs.Faults.{faultOf, Placed}
 use Rattle.pairs.specs.Rows.{HoldsPairs}
@@ -21,17 +21,17 @@ use Rattle.flow.specs.FlowJudged.{FlowJudged}
 use Rattle.flow.specs.declared.Met.{Met}
 use Rattle.flows.specs.FlowsJudged.{JudgesFlows}
 use Rattle.runs.specs.Runs.{runQuestions}
-use Rattle.flows.specs.declared.Judged.the-variants.{Accepted, Rejected}
+use Rattle.flows.specs.declared.Judged.the-variants.{Accepted, Refused}
 
--- a record's fault rejects at its place; without one judging goes on
-pub reject-stops : {f : rules.Fault} (x : rules.Fault) (at : ℕ) (next : Judgement) → x ≡ f → (x .number ≡ 0 → ⊥) → rejected x 2 at ≡ rejectAt f at next
-unfolding rejectAt
-reject-stops {f} x at next e n =
-    notSame next (λ z. n (ap (λ (g : rules.Fault). g .number) e ∙ z)) (ap (λ (g : rules.Fault). rejected g 2 at) e)
+-- a record's fault refuses at its place; without one judging goes on
+pub record-stops : {f : rules.Fault} (x : rules.Fault) (at : ℕ) (next : Judgement) → x ≡ f → (x .number ≡ 0 → ⊥) → refusedIn x 2 at ≡ refuseRecordAt f at next
+unfolding refuseRecordAt
+record-stops {f} x at next e n =
+    notSame next (λ z. n (ap (λ (g : rules.Fault). g .number) e ∙ z)) (ap (λ (g : rules.Fault). refusedIn g 2 at) e)
 
-pub reject-passes : {x f : rules.Fault} (at : ℕ) {z next : Judgement} → x ≡ f → x .number ≡ 0 → z ≡ next → z ≡ rejectAt f at next
-unfolding rejectAt
-reject-passes {x} {f} at e n h = same _ (ap (λ (g : rules.Fault). g .number) (sym e) ∙ n) h
+pub record-passes : {x f : rules.Fault} (at : ℕ) {z next : Judgement} → x ≡ f → x .number ≡ 0 → z ≡ next → z ≡ refuseRecordAt f at next
+unfolding refuseRecordAt
+record-passes {x} {f} at e n h = same _ (ap (λ (g : rules.Fault). g .number) (sym e) ∙ n) h
 
 -- the blocks are those at a place of the certificate C
 module _ (rule : FileRule) (s C : List ℕ) (n : ℕ) (rows : List ℕ) (blocks : ℕ) where
@@ -76,11 +76,11 @@ module _ (rule : FileRule) (s C : List ℕ) (n : ℕ) (rows : List ℕ) (blocks 
 
     module _ {q t at number : ℕ} {xs : List Question} (g : Going (record { challenger = q; defender = t } ∷ xs) remainders target at number) {remainders′ target′ : List ℤ} {r : Met} (j : FlowJudged rule s C n rows q t at remainders′ target′ r) where
       -- a flow that is refused
-      pub going-stops : (r .fault .number ≡ 0 → ⊥) → JudgesFlows rule s C n rows blocks (Rejected (r .fault))
+      pub going-stops : (r .fault .number ≡ 0 → ⊥) → JudgesFlows rule s C n rows blocks (Refused (r .fault))
       unfolding judgeFlows
       going-stops bad =
           record {
-            answer = λ R h. ap (rejected (faultOf (r .fault)) 2) (j .place) ∙ reject-stops (faultOf (r .fault)) at _ (j .is R h) bad ∙ g .judged R h;
+            answer = λ R h. ap (refusedIn (faultOf (r .fault)) 2) (j .place) ∙ record-stops (faultOf (r .fault)) at _ (j .is R h) bad ∙ g .judged R h;
             inside = omega (arith, j .place, g .inside);
           }
 
@@ -89,7 +89,7 @@ module _ (rule : FileRule) (s C : List ℕ) (n : ℕ) (rows : List ℕ) (blocks 
       unfolding judgeFlows
       going-passes good =
           record {
-            judged = λ R h. reject-passes at (j .is R h) good (ap (judgedFrom R xs) (j .next good)) ∙ g .judged R h;
+            judged = λ R h. record-passes at (j .is R h) good (ap (judgedFrom R xs) (j .next good)) ∙ g .judged R h;
             inside = omega (arith, j .next good, j .inside good);
             none = good;
             moves = j .zeros good .0;
@@ -97,11 +97,11 @@ module _ (rule : FileRule) (s C : List ℕ) (n : ℕ) (rows : List ℕ) (blocks 
           }
 
     -- after the last flow: 22, or acceptance
-    pub going-left : {at number : ℕ} (f x : Fault) → Going [] remainders target at number → at < length C → faultOf f ≡ fault 22 → Placed (faultOf f) at x → JudgesFlows rule s C n rows blocks (Rejected x)
+    pub going-left : {at number : ℕ} (f x : Fault) → Going [] remainders target at number → at < length C → faultOf f ≡ fault 22 → Placed (faultOf f) at x → JudgesFlows rule s C n rows blocks (Refused x)
     unfolding judgeFlows
     going-left {at} f x g l e p =
         record {
-          answer = λ R h. ap (rejected (faultOf x) 2) (p .at) ∙ ap (λ (y : rules.Fault). rejected y 2 at) (p .is ∙ e) ∙ less _ l refl ∙ g .judged R h;
+          answer = λ R h. ap (refusedIn (faultOf x) 2) (p .at) ∙ ap (λ (y : rules.Fault). refusedIn y 2 at) (p .is ∙ e) ∙ less _ l refl ∙ g .judged R h;
           inside = omega (arith, p .at, g .inside);
         }
 
@@ -110,8 +110,8 @@ module _ (rule : FileRule) (s C : List ℕ) (n : ℕ) (rows : List ℕ) (blocks 
     going-ends {at} g whole l = record { answer = λ R h. notLess _ l refl ∙ g .judged R h; inside = whole }
 
   -- the same fault, and the same place
-  pub rejected-as : {f g : Fault} → f ≡ g → JudgesFlows rule s C n rows blocks (Rejected g) → JudgesFlows rule s C n rows blocks (Rejected f)
-  rejected-as e j = subst (λ (x : Fault). JudgesFlows rule s C n rows blocks (Rejected x)) (sym e) j
+  pub unaccepted-as : {f g : Fault} → f ≡ g → JudgesFlows rule s C n rows blocks (Refused g) → JudgesFlows rule s C n rows blocks (Refused f)
+  unaccepted-as e j = subst (λ (x : Fault). JudgesFlows rule s C n rows blocks (Refused x)) (sym e) j
 
   pub going-at : {asked : List Question} {remainders target : List ℤ} {at number place : ℕ} → place ≡ at → Going asked remainders target at number → Going asked remainders target place number
   going-at {asked} {remainders} {target} {at} {number} e g = subst (λ (x : ℕ). Going asked remainders target x number) (sym e) g

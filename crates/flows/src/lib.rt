@@ -10,10 +10,10 @@ use model::Places;
 use pairs::Rows;
 use rule_kind::Kind;
 
-// The certificate is accepted, and its blocks stand at a place; or it is rejected, by the fault of a record.
+// The certificate is accepted, and its blocks stand at a place; or it is refused, by the fault of a record.
 pub enum Judged {
     Accepted { blocks: usize },
-    Rejected(Fault),
+    Refused(Fault),
 }
 
 // The flows from the end of the n blocks on, and 22.
@@ -70,10 +70,10 @@ pub fn judge_flows(
         state += 1;
     }
     if wrong.number != 0 {
-        return Judged::Rejected(wrong);
+        return Judged::Refused(wrong);
     }
     if place.at < cert.len() {
-        return Judged::Rejected(fault::refusal(22).at(place.at));
+        return Judged::Refused(fault::refusal(22).at(place.at));
     }
     Judged::Accepted { blocks }
 }

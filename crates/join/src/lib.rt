@@ -1,20 +1,18 @@
 // Two models written as one.
 ghost use mathlib.Core.Path.{_≡_};
-ghost use lib.ListN.{length};
-ghost use Rattle.limits.specs.Sizes as sizes;
-ghost use Rattle.joined_file.specs.JoinedFile.{SoundFile, CanJoin};
-ghost use Rattle.join.specs.Join.{JoinAnswered, Joins, JoinsSound, passesLimit};
+ghost use Rattle.two_models.specs.TwoModels.{BothSound};
+ghost use Rattle.join.specs.Join.{JoinAnswered, JoinsSound, passesSizes};
 use answer::Answer;
 use limits::ENTRIES;
 use limits::STATES;
 use limits::TRANSITIONS;
 use model::Model;
 use model::Places;
-use model::Scanned;
+use two_models::TwoRead;
 
 // Whether so many states, transitions and bytes of entries pass a limit.
 fn passes_limit(states: usize, transitions: usize, entry_bytes: usize) -> bool
-    ensures { λ r. ⌜ r ≡ passesLimit states transitions «entry_bytes» ⌝ }
+    ensures { λ r. ⌜ r ≡ passesSizes states transitions «entry_bytes» ⌝ }
 {
     if STATES < states {
         return true;
@@ -37,32 +35,18 @@ fn join_sound(
     places: &Places,
     out: &mut [u8],
 ) -> Answer
-    requires { ⌜ CanJoin (now first) m (now second) n (now places) ⌝ }
+    requires { ⌜ BothSound (now first) m (now second) n (now places) ⌝ }
     ensures { λ r. ⌜ JoinsSound (now (first .entry)) (now (second .entry)) (now (out .entry)) (now (out .exit)) r ⌝ }
 {
-    let size = first.len() + second.len() - 8;
     let states = m.states + n.states;
     let transitions = m.transitions + n.transitions;
-    if passes_limit(states, transitions, size - 8 - states - 7 * transitions) {
+    let records = first.len() + second.len() - 16 - states;
+    if passes_limit(states, transitions, records - 7 * transitions) {
         return answer::without_place(25, 0);
     }
-    if out.len() < size {
-        return answer::without_place(26, 0);
-    }
-    let written = joined_file::write_joined(first, m, second, n, places, out);
-    answer::without_place(0, written)
-}
-
-// The second model, after a sound first one.
-fn join_second(first: &[u8], m: Model, second: &[u8], places: &mut Places, out: &mut [u8]) -> Answer
-    requires { ⌜ SoundFile (now first) m × (length (now places) ≡ sizes.places) ⌝ }
-    ensures { λ r. ⌜ Joins (now (first .entry)) (now (second .entry)) (now (out .entry)) (now (out .exit)) r ⌝ }
-{
-    let read = model::scan_file(second, places);
-    match read {
-        Scanned::Sound(n) => join_sound(first, m, second, n, places, out),
-        Scanned::Refused(wrong) => answer::refusal_in(wrong, 3, second.len()),
-    }
+    let room = out.len();
+    let size = joined_file::write_file(first, m, second, n, places, out);
+    answer::file_answer(26, size, room)
 }
 
 // What the call that joins answers.
@@ -70,9 +54,12 @@ pub fn join_answer(first: &[u8], second: &[u8], out: &mut [u8]) -> Answer
     ensures { λ r. ⌜ JoinAnswered (now (first .entry)) (now (second .entry)) (now (out .entry)) (now (out .exit)) r ⌝ }
 {
     let mut places = model::no_places();
-    let scanned = model::scan_file(first, &mut places);
-    match scanned {
-        Scanned::Sound(m) => join_second(first, m, second, &mut places, out),
-        Scanned::Refused(wrong) => answer::refusal_in(wrong, 1, first.len()),
+    let read = two_models::read_two(first, second, &mut places);
+    match read {
+        TwoRead::Sound {
+            first: m,
+            second: n,
+        } => join_sound(first, m, second, n, &places, out),
+        TwoRead::Refused(answer) => answer,
     }
 }

@@ -20,7 +20,8 @@ use Rattle.transition.specs.KnownLaws.{known-own}
 use Rattle.writer.specs.Appends.{Appends, headBytesOf}
 use Rattle.writer.specs.AppendsLaws.{append-more, append-model, transitions-append}
 use Rattle.raised.specs.Raised.{raisedTransitions}
-use Rattle.joined_file.specs.JoinedFile.{SoundFile, joinedIn, labelsOf, CanWriteRecords, CanJoin, CanWriteJoined}
+use Rattle.joined_file.specs.JoinedFile.{joinedIn, labelsOf, CanWriteRecords, CanJoin, CanWriteJoined}
+use Rattle.two_models.specs.TwoModels.{SoundFile, BothSound}
 
 -- what the numbers of two files come to in the joined model
 pub record Counted (first : List ℕ) (m : Found) (second : List ℕ) (n : Found) : Type 0 where
@@ -31,7 +32,7 @@ pub record Counted (first : List ℕ) (m : Found) (second : List ℕ) (n : Found
   pub one : 8 + m .states ≤ length first
   pub other : 8 + n .states ≤ length second
 
-pub sums : {first second table : List ℕ} {m n : Found} → CanJoin first m second n table → Counted first m second n
+pub sums : {first second table : List ℕ} {m n : Found} → BothSound first m second n table → Counted first m second n
 sums {first} {second} j =
     let f = j .one in
     let g = j .other in
@@ -127,3 +128,11 @@ module _ {first second table out : List ℕ} {m n : Found} (p : CanWriteJoined f
             subst (λ (bytes : List ℕ). Appends bytes 0 out after end)
             (ap₂ (λ (x : ℕ) (y : List ℕ). modelBytes (record { actions = x; labels = y; transitions = J .transitions })) is-larger labels-are)
             (append-model (sym labels-length) h l r .file (J .transitions) records-are (sym (sums (p .models) .transitions)))
+
+-- the length of the file, and room for it
+module _ {first second table : List ℕ} {m n : Found} (j : CanJoin first m second n table) {size : ℕ} (e : size ≡ length first + length second - 8) where
+  pub joined-size : size ≡ length (joinedFile (modelAt first) (modelAt second))
+  joined-size = omega (arith, e, sums (j .models))
+
+  pub joined-room : {out : List ℕ} → size ≤ length out → CanWriteJoined first m second n table out
+  joined-room h = record { models = j .models; within = j .within; room = omega (arith, h, joined-size) }

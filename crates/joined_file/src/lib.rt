@@ -6,9 +6,10 @@ ghost use lib.ListN.{length, drop};
 ghost use Rattle.bisimulation.specs.definitions.Joined as joined;
 ghost use Rattle.rules.specs.definitions.Reading.{modelAt};
 ghost use Rattle.joined.specs.definitions.Joined.{joinedFile};
+ghost use Rattle.answer.specs.Answered.{FileWritten};
 ghost use Rattle.writer.specs.Appends.{Appends};
 ghost use Rattle.raised.specs.Raised.{raisedTransitions};
-ghost use Rattle.joined_file.specs.JoinedFile.{labelsOf, CanWriteRecords, CanWriteJoined};
+ghost use Rattle.joined_file.specs.JoinedFile.{labelsOf, CanWriteRecords, CanJoin, CanWriteJoined};
 use model::Model;
 use model::Places;
 
@@ -52,7 +53,7 @@ fn write_records(
 }
 
 // The joined file, and its length.
-pub fn write_joined(
+fn write_joined(
     first: &[u8],
     m: Model,
     second: &[u8],
@@ -81,4 +82,23 @@ pub fn write_joined(
         out,
         records,
     )
+}
+
+// The joined file, written if there is room for it, and its length.
+pub fn write_file(
+    first: &[u8],
+    m: Model,
+    second: &[u8],
+    n: Model,
+    places: &Places,
+    out: &mut [u8],
+) -> usize
+    requires { ⌜ CanJoin (now first) m (now second) n (now places) ⌝ }
+    ensures { λ r. ⌜ FileWritten (joinedFile (modelAt (now (first .entry))) (modelAt (now (second .entry)))) (now (out .entry)) (now (out .exit)) r ⌝ }
+{
+    let size = first.len() + second.len() - 8;
+    if size <= out.len() {
+        write_joined(first, m, second, n, places, out);
+    }
+    size
 }

@@ -6,6 +6,7 @@ use lib.ListN.{length}
 use native.Mathlib.Omega.{arith}
 use Rattle.rules.specs.definitions.Limits.{limits}
 use Rattle.rules.specs.definitions.Bytes.{byteAt}
+use Rattle.rules.specs.definitions.Faults as rules-faults
 use Rattle.rules.specs.definitions.SoundModel.{Bytes}
 use Rattle.rules.specs.definitions.Reading.{Scan, refused, modelAt, headFault, scanWhole, readWhole, readingOf, noModel, countOf, placeOf}
 use Rattle.rules.specs.argument.ReadingLaws.{head-stops, Tells, whole-tells}
@@ -27,7 +28,7 @@ use Rattle.rule_kind.specs.declared.Kind.the-variants.{Plain, Costs}
 use Rattle.judgement.specs.Verdicts.{scanBy, ReadsBy}
 
 -- reading is what the scan says
-read-by : (kind : Kind) (M : List ℕ) → readingOf M (scanBy kind M) ≡ pairsBy kind M .read M
+read-by : (kind : Kind) (M : List ℕ) → readingOf M (scanBy kind M) ≡ pairsBy kind .read M
 unfolding readWhole readCosts
 read-by Plain M = refl
 read-by Costs M = refl
@@ -57,29 +58,33 @@ module _ (M : List ℕ) {table : List ℕ} {m : Model} where
       let told = subst (λ (x : Scanned). Scans M (scanBy kind M) x table) e g in
       go kind told (sym (read-by kind M) ∙ ap (readingOf M) (sym (told .answer)))
     where
-      go : (k : Kind) → Scans M (scanBy k M) (Sound m) table → pairsBy k M .read M ≡ readingOf M (scanOf (Sound m)) → Known M (m .states) (m .transitions) table × ReadsBy k M
+      go : (k : Kind) → Scans M (scanBy k M) (Sound m) table → pairsBy k .read M ≡ readingOf M (scanOf (Sound m)) → Known M (m .states) (m .transitions) table × ReadsBy k M
       go Plain told q = (sound-known M told refl b .0, record { end = m .end; reads = q; stands = tt })
       go Costs told q = let k = costs-known b told in (k .0, record { end = m .end; reads = q; stands = k .1 })
 
 -- a model refused, at a place of the file
 module _ (M : List ℕ) (f : Fault) where
-  inside-by : (kind : Kind) → pairsBy kind M .read M ≡ noModel (faultOf f) (f .place) → refused (faultOf f) (f .place) ≡ scanBy kind M → f .place ≤ length M
+  inside-by : (kind : Kind) → pairsBy kind .read M ≡ noModel (faultOf f) (f .place) → refused (faultOf f) (f .place) ≡ scanBy kind M → f .place ≤ length M
   inside-by Plain q e = subst (Tells limits M) (sym e) (whole-tells limits M) .inside
   inside-by Costs q e = cost-refusal-told limits M (faultOf f) (f .place) q .2
 
-  scan-told-by : (kind : Kind) → refused (faultOf f) (f .place) ≡ scanBy kind M → (pairsBy kind M .read M ≡ noModel (faultOf f) (f .place)) × (f .place ≤ length M)
+  scan-told-by : (kind : Kind) → refused (faultOf f) (f .place) ≡ scanBy kind M → (pairsBy kind .read M ≡ noModel (faultOf f) (f .place)) × (f .place ≤ length M)
   unfolding readingOf
   scan-told-by kind e =
       let q = sym (read-by kind M) ∙ ap (readingOf M) (sym e) in
       (q, inside-by kind q e)
 
-  pub refused-by : (kind : Kind) {r : Scanned} {table : List ℕ} → Scans M (scanBy kind M) r table → r ≡ Refused f → (pairsBy kind M .read M ≡ noModel (faultOf f) (f .place)) × (f .place ≤ length M)
+  pub refused-by : (kind : Kind) {r : Scanned} {table : List ℕ} → Scans M (scanBy kind M) r table → r ≡ Refused f → (pairsBy kind .read M ≡ noModel (faultOf f) (f .place)) × (f .place ≤ length M)
   refused-by kind {table = table} g e = scan-told-by kind (subst (λ (x : Scanned). Scans M (scanBy kind M) x table) e g .answer)
 
   -- and by the fault of its head
-  pub head-by : (kind : Kind) → Placed (headFault limits M) 0 f → (f .number ≡ 0 → ⊥) → (pairsBy kind M .read M ≡ noModel (faultOf f) (f .place)) × (f .place ≤ length M)
+  pub head-by : (kind : Kind) → Placed (headFault limits M) 0 f → (f .number ≡ 0 → ⊥) → (pairsBy kind .read M ≡ noModel (faultOf f) (f .place)) × (f .place ≤ length M)
   head-by kind p n = scan-told-by kind (ap (refused (faultOf f)) (p .at) ∙ go kind)
     where
       go : (k : Kind) → refused (faultOf f) 0 ≡ scanBy k M
       go Plain = head-stops limits M (p .is) n
       go Costs = cost-head-stops limits M (p .is) n
+
+-- and it is good
+pub head-passed : (M : List ℕ) (f : Fault) → Placed (headFault limits M) 0 f → f .number ≡ 0 → headFault limits M .number ≡ 0
+head-passed M f p z = ap (λ (x : rules-faults.Fault). x .number) (sym (p .is)) ∙ z

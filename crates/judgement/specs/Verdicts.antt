@@ -6,19 +6,20 @@ use mathlib.Core.List.{List, [], _∷_}
 use lib.ListN.{length, take, drop}
 use Rattle.rules.specs.definitions.Limits.{limits}
 use Rattle.rules.specs.definitions.Model.{Model}
-use Rattle.rules.specs.definitions.Reading.{Scan, scanWhole, modelAt, model}
+use Rattle.rules.specs.definitions.Reading.{Scan, headFault, scanWhole, modelAt, model}
 use Rattle.rules.specs.definitions.Answers as rules
-use Rattle.rules.specs.definitions.Answers.{answerWithoutPlace, unwritten, Follows}
-use Rattle.rules.specs.definitions.Demands.{AcceptedBy, outcomeBy}
+use Rattle.rules.specs.definitions.Answers.{answerWithoutPlace, unwritten, Follows, firstLent}
+use Rattle.rules.specs.definitions.JudgedBy.{JudgedBy, AcceptedBy}
+use Rattle.rules.specs.definitions.Demands.{PairDemands, outcomeBy}
 use Rattle.cost_files.specs.definitions.CostReading.{scanCostModel}
-use Rattle.transition.specs.Known.{Known}
+use Rattle.transition.specs.Known.{KnownModel}
 use Rattle.rule_kind.specs.Kinds.{pairsBy, KindStands}
 use Rattle.rule_kind.specs.declared.Kind.{Kind}
 use Rattle.rule_kind.specs.declared.Kind.the-variants.{Plain, Costs}
 use Rattle.answer.specs.declared.Answer.{Answer}
 use Rattle.judgement.specs.declared.Verdict.{Verdict}
 use Rattle.judgement.specs.declared.Verdict.the-variants.{Accepted, Refused}
-use Rattle.answer.specs.Answered.{answered, OutcomeIs}
+use Rattle.answer.specs.Answered.{answered, OutcomeIs, CallAnswered}
 
 -- how a model file is scanned
 abbrev pub scanBy : Kind → List ℕ → Scan
@@ -28,38 +29,48 @@ scanBy Costs = scanCostModel limits
 -- the model file is read as sound, and has what the rule asks of it
 pub record ReadsBy (kind : Kind) (M : List ℕ) : Type 0 where
   pub end : ℕ
-  pub reads : pairsBy kind M .read M ≡ model (modelAt M) end
+  pub reads : pairsBy kind .read M ≡ model (modelAt M) end
   pub stands : KindStands kind M
 
 -- an accepted certificate: the blocks are the n bytes at a place of it, and there is room for them
-pub record AcceptedAt (kind : Kind) (M C table : List ℕ) (room n count at : ℕ) : Type 0 where
-  pub known : Known M n count table
+pub record AcceptedAt (kind : Kind) (M C : List ℕ) (room n count at : ℕ) : Type 0 where
+  pub known : KnownModel M n count
   pub model : ReadsBy kind M
-  pub judged : AcceptedBy (pairsBy kind M) M C (take n (drop at C))
+  pub judged : AcceptedBy (pairsBy kind) M C (take n (drop at C))
   pub inside : at + n ≤ length C
   pub fits : n ≤ room
 
 -- what follows acceptance lends a block buffer with room for so many blocks, or none, and then there is room for every model's
-abbrev pub RoomFor : Follows → (before : List ℕ) → (room : ℕ) → Type 0
-RoomFor follows before room = (N : Model) → length (N .labels) ≤ limits .states → (length before < follows .blockRoom N) ↔ (room < length (N .labels))
+abbrev pub RoomFor : Follows → (before : List (List ℕ)) → (room : ℕ) → Type 0
+RoomFor follows before room = (N : Model) → length (N .labels) ≤ limits .states → (length (firstLent before) < follows .blockRoom N) ↔ (room < length (N .labels))
 
 -- a refusal, in document 01's terms, whatever would follow acceptance
 pub record RefusedAs (kind : Kind) (M C : List ℕ) (room : ℕ) (r : Answer) : Type 0 where
-  pub refuses : (follows : Follows) (before : List ℕ) → RoomFor follows before room → OutcomeIs (outcomeBy (pairsBy kind M) follows M C before) (M ∷ C ∷ []) before r
+  pub some : r .number ≡ 0 → ⊥
+  pub refuses : (follows : Follows) (before : List (List ℕ)) → RoomFor follows before room → OutcomeIs (outcomeBy (pairsBy kind) follows M C before) (M ∷ C ∷ []) before r
 
-abbrev pub VerdictSays : (kind : Kind) (M C table : List ℕ) (room : ℕ) → Verdict → Type 0
-VerdictSays kind M C table room (Accepted n count at) = AcceptedAt kind M C table room n count at
-VerdictSays kind M C table room (Refused r) = RefusedAs kind M C room r
+abbrev pub VerdictSays : (kind : Kind) (M C : List ℕ) (room : ℕ) → Verdict → Type 0
+VerdictSays kind M C room (Accepted n count at) = AcceptedAt kind M C room n count at
+VerdictSays kind M C room (Refused r) = RefusedAs kind M C room r
 
 -- document 01's number, file and place for each case: 0, 0 and 0 where the certificate is accepted
 abbrev pub verdictAnswer : Verdict → rules.Answer
-verdictAnswer (Accepted n count at) = answerWithoutPlace 0 0
+verdictAnswer (Accepted n count at) = answerWithoutPlace 0
 verdictAnswer (Refused r) = answered r
 
 -- a call with a block buffer that writes nothing
 abbrev pub judgesOnly : Follows
-judgesOnly = record { blockRoom = λ N. length (N .labels); outcome = λ N blocks buffer. unwritten (answerWithoutPlace 0 0) buffer; late = 0 }
+judgesOnly = record { blockRoom = λ N. length (N .labels); outcome = λ N blocks before. unwritten (answerWithoutPlace 0) before; late = 0 }
 
-pub record VerdictIs (kind : Kind) (M C table : List ℕ) (room : ℕ) (r : Verdict) : Type 0 where
-  pub says : VerdictSays kind M C table room r
-  pub answers : (before : List ℕ) → length before ≡ room → verdictAnswer r ≡ outcomeBy (pairsBy kind M) judgesOnly M C before .answer
+pub record VerdictIs (kind : Kind) (M C : List ℕ) (room : ℕ) (r : Verdict) : Type 0 where
+  pub says : VerdictSays kind M C room r
+  pub answers : (before : List ℕ) → length before ≡ room → verdictAnswer r ≡ outcomeBy (pairsBy kind) judgesOnly M C (before ∷ []) .answer
+
+-- the head of a model is good, or refused, whatever its pair is judged by
+pub record HeadIs (M : List ℕ) (r : Answer) : Type 0 where
+  pub good : r .number ≡ 0 → headFault limits M .number ≡ 0
+  pub refused : (r .number ≡ 0 → ⊥) → (kind : Kind) (C : List ℕ) (room : ℕ) → RefusedAs kind M C room r
+
+-- what a call on a pair of files promises: judged by these rules, with what follows acceptance, and with these demands
+abbrev pub PairAnswered : (by : JudgedBy) (follows : Follows) (demands : PairDemands) (M C : List ℕ) (before after : List (List ℕ)) → Answer → Type 0
+PairAnswered by follows demands M C before after r = CallAnswered (outcomeBy by follows M C before) (M ∷ C ∷ []) after (demands M C before after) r

@@ -1,4 +1,4 @@
-// The two files of a pair judged: the model read, its certificate judged.
+// The one way in of all calls that judge: a pair's model read, and its certificate judged.
 ghost use mathlib.Core.Path.{_≡_};
 ghost use lib.ListN.{length};
 ghost use Rattle.limits.specs.Sizes as sizes;
@@ -6,7 +6,7 @@ ghost use Rattle.rules.specs.definitions.Limits.{limits};
 ghost use Rattle.rules.specs.definitions.Reading.{headFault};
 ghost use Rattle.transition.specs.Known.{Known};
 ghost use Rattle.model.specs.Scanned.{Scans};
-ghost use Rattle.judgement.specs.Verdicts.{scanBy, ReadsBy, VerdictIs};
+ghost use Rattle.judgement.specs.Verdicts.{scanBy, ReadsBy, HeadIs, VerdictIs};
 use answer::Answer;
 use flows::Judged;
 use model::Places;
@@ -34,7 +34,7 @@ fn judge_sound(
     room: usize,
 ) -> Verdict
     requires { ⌜ Known (now model) n count (now places) × ReadsBy kind (now model) ⌝ }
-    ensures { λ r. ⌜ VerdictIs kind (now (model .entry)) (now (certificate .entry)) (now (places .entry)) room r ⌝ }
+    ensures { λ r. ⌜ VerdictIs kind (now (model .entry)) (now (certificate .entry)) room r ⌝ }
 {
     if room < n {
         return Verdict::Refused(answer::without_place(10, 0));
@@ -46,11 +46,7 @@ fn judge_sound(
             transitions: count,
             blocks,
         },
-        Judged::Rejected(wrong) => Verdict::Refused(answer::refusal_in(
-            wrong,
-            2,
-            certificate.len(),
-        )),
+        Judged::Refused(wrong) => Verdict::Refused(answer::refusal_in(wrong, 2, certificate.len())),
     }
 }
 
@@ -65,30 +61,36 @@ fn scan(kind: Kind, model: &[u8], places: &mut Places) -> Scanned
     }
 }
 
-// The model read, then its certificate judged. A call without a block buffer gives the most states that a model has.
-pub fn judge_files(
-    kind: Kind,
-    model: &[u8],
-    certificate: &[u8],
-    places: &mut Places,
-    room: usize,
-) -> Verdict
-    requires { ⌜ (length (now places) ≡ sizes.places) × (headFault limits (now model) .number ≡ 0) ⌝ }
-    ensures { λ r. ⌜ VerdictIs kind (now (model .entry)) (now (certificate .entry)) (now (places .exit)) room r ⌝ }
+// What a call that judges answers where the head of its model is refused; number 0 where it is good. A call looks at the head first, and goes on
+// with `judge_files`: that has a large frame and a cleared table, which a refusal at the head does not pay for.
+pub fn head_answer(model: &[u8]) -> Answer
+    ensures { λ r. ⌜ HeadIs (now (model .entry)) r ⌝ }
 {
-    let scanned = scan(kind, model, places);
+    let head = model_head::head_fault(model);
+    if head.number != 0 {
+        return answer::refusal_in(head, 1, model.len());
+    }
+    answer::without_place(0, 0)
+}
+
+// A pair whose model has a good head: its table of places, the model read, then its certificate judged, for a block buffer with so much room. A
+// call that lends none gives the most states that a model has.
+pub fn judge_files(kind: Kind, model: &[u8], certificate: &[u8], room: usize) -> Verdict
+    requires { ⌜ headFault limits (now model) .number ≡ 0 ⌝ }
+    ensures { λ r. ⌜ VerdictIs kind (now (model .entry)) (now (certificate .entry)) room r ⌝ }
+{
+    let mut places = model::no_places();
+    let scanned = scan(kind, model, &mut places);
     match scanned {
-        Scanned::Sound(m) => {
-            judge_sound(
-                kind,
-                model,
-                m.states,
-                m.transitions,
-                places,
-                certificate,
-                room,
-            )
-        }
+        Scanned::Sound(m) => judge_sound(
+            kind,
+            model,
+            m.states,
+            m.transitions,
+            &places,
+            certificate,
+            room,
+        ),
         Scanned::Refused(wrong) => Verdict::Refused(answer::refusal_in(wrong, 1, model.len())),
     }
 }

@@ -10,7 +10,6 @@ use Rattle.rules.specs.definitions.SoundModel.{SoundModel}
 use Rattle.rules.specs.definitions.BlockCount.{blockCount}
 use Rattle.quotient.specs.definitions.Quotient.{byBlock, mergedFile}
 use Rattle.rules.specs.argument.NumberedBlocks.{NumberedBlocks}
-use Rattle.rules.specs.definitions.Answers.{fileOutcome}
 use Rattle.transition.specs.Known.{Known}
 use Rattle.merged_transitions.specs.declared.Kept.{Kept}
 use Rattle.merged_transitions.specs.MergedTransitions.{transitionsIn, Holds}
@@ -34,8 +33,3 @@ pub record CanWriteParts (s : List ℕ) (n : ℕ) (blocks : List ℕ) (k : ℕ) 
 -- the file stands at the start of the buffer, and later bytes stay
 pub record PartsWritten (s blocks before after : List ℕ) : Type 0 where
   pub buffer : after ≡ mergedFile (modelAt s) blocks ++ drop (length (mergedFile (modelAt s) blocks)) before
-
--- the buffer as document 01 leaves it
-pub record FileWritten (s blocks before after : List ℕ) (written : ℕ) : Type 0 where
-  pub size : written ≡ length (mergedFile (modelAt s) blocks)
-  pub buffer : after ≡ fileOutcome 23 (mergedFile (modelAt s) blocks) before .buffer

@@ -7,7 +7,6 @@ use lib.Seq.{length-take-le}
 use native.Mathlib.Omega.{arith}
 use borrow.Table.Elements.{take-le}
 use Rattle.bisimulation.specs.definitions.Choice.{ifLess}
-use Rattle.bisimulation.specs.argument.ChoiceLaws.{less, notLess}
 use Rattle.rules.specs.definitions.Limits.{limits}
 use Rattle.rules.specs.definitions.Bytes.{twoBytes}
 use Rattle.rules.specs.definitions.Model.{Transition, Model, headBytes, labelsBytes, transitionsBytes, modelBytes}
@@ -17,7 +16,8 @@ use Rattle.rules.specs.definitions.BlockCount.{blockCount}
 use Rattle.quotient.specs.definitions.Quotient.{blockLabels, byBlock, quotient, mergedFile}
 use Rattle.rules.specs.argument.NumberedBlocks.{NumberedBlocks}
 use Rattle.quotient.specs.argument.QuotientLaws.{quotient-sound, merged-states, merged-below}
-use Rattle.rules.specs.definitions.Answers.{Outcome, unwritten, filled, fileOutcome}
+use Rattle.answer.specs.Answered.{FileWritten}
+use Rattle.answer.specs.AnsweredLaws.{written-short, written-whole}
 use Rattle.limits.specs.Sizes as sizes
 use Rattle.model_head.specs.declared.Head.{Head}
 use Rattle.model_head.specs.Head.{HeadAt}
@@ -27,7 +27,7 @@ use Rattle.writer.specs.Appends.{Appends, CanWriteModel, WritesModel}
 use Rattle.writer.specs.AppendsLaws.{appended-front}
 use Rattle.merged_transitions.specs.declared.Kept.{Kept}
 use Rattle.merged_transitions.specs.MergedTransitions.{transitionsIn, Holds, WroteAll}
-use Rattle.merged_model.specs.File.{CanWriteFile, CanWriteParts, PartsWritten, FileWritten}
+use Rattle.merged_model.specs.File.{CanWriteFile, CanWriteParts, PartsWritten}
 
 -- records that stand in a buffer lie in it
 pub held-inside : {ts : List Transition} {out : List ℕ} {kept : Kept} → Holds ts out kept → kept .size ≤ length out
@@ -141,15 +141,8 @@ module _ {s : List ℕ} {n count : ℕ} {places blocks : List ℕ} {k : ℕ} (p 
         omega (arith, file-length s blocks (p .known .sound) (p .numbered) held, counted)
 
     -- with room for it, and without
-    pub file-written : {before after : List ℕ} {size : ℕ} → size ≡ 8 + k + kept .size → size ≤ length before → PartsWritten s blocks before after → FileWritten s blocks before after size
-    unfolding fileOutcome filled
-    file-written {before} e h q =
-        record {
-          size = omega (arith, e, size-is);
-          buffer = q .buffer ∙ ap (λ (o : Outcome). o .buffer) (notLess _ (omega (arith, e, h, size-is)) refl);
-        }
+    pub file-written : {before after : List ℕ} {size : ℕ} → size ≡ 8 + k + kept .size → size ≤ length before → PartsWritten s blocks before after → FileWritten (mergedFile (modelAt s) blocks) before after size
+    file-written e h q = written-whole _ (omega (arith, e, size-is)) h (q .buffer)
 
-    pub file-short : {before : List ℕ} {size : ℕ} → size ≡ 8 + k + kept .size → length before < size → FileWritten s blocks before before size
-    unfolding fileOutcome unwritten
-    file-short {before} e h =
-        record { size = omega (arith, e, size-is); buffer = ap (λ (o : Outcome). o .buffer) (less _ (omega (arith, e, h, size-is)) refl) }
+    pub file-short : {before : List ℕ} {size : ℕ} → size ≡ 8 + k + kept .size → length before < size → FileWritten (mergedFile (modelAt s) blocks) before before size
+    file-short e h = written-short _ (omega (arith, e, size-is)) h

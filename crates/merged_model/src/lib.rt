@@ -3,10 +3,12 @@ ghost use Prim.Native.Nat.{_+_, _≤_, _<_};
 ghost use mathlib.Core.Path.{_≡_};
 ghost use lib.ListN.{length};
 ghost use Rattle.bisimulation.specs.definitions.Choice.{ifLess};
+ghost use Rattle.rules.specs.definitions.Reading.{modelAt};
 ghost use Rattle.rules.specs.definitions.BlockCount.{blockCount};
-ghost use Rattle.quotient.specs.definitions.Quotient.{labelOfBlock, blockLabels};
+ghost use Rattle.quotient.specs.definitions.Quotient.{labelOfBlock, blockLabels, mergedFile};
+ghost use Rattle.answer.specs.Answered.{FileWritten};
 ghost use Rattle.writer.specs.Appends.{Appends};
-ghost use Rattle.merged_model.specs.File.{CanWriteParts, PartsWritten, CanWriteFile, FileWritten};
+ghost use Rattle.merged_model.specs.File.{CanWriteParts, PartsWritten, CanWriteFile};
 use limits::RECORDS;
 use limits::STATES;
 use merged_transitions::Kept;
@@ -93,7 +95,7 @@ pub fn write_file(
     out: &mut [u8],
 ) -> usize
     requires { ⌜ CanWriteFile (now s) n count (now places) (now blocks) ⌝ }
-    ensures { λ r. ⌜ FileWritten (now (s .entry)) (now (blocks .entry)) (now (out .entry)) (now (out .exit)) r ⌝ }
+    ensures { λ r. ⌜ FileWritten (mergedFile (modelAt (now (s .entry))) (now (blocks .entry))) (now (out .entry)) (now (out .exit)) r ⌝ }
 {
     let mut records = [0; RECORDS];
     let k = block_count(blocks);

@@ -22,7 +22,7 @@ scanOf (Refused f) = refused (faultOf f) (f .place)
 
 -- its number, file and place, for a file of so many bytes: 0, 0 and 0 where the model is sound
 abbrev pub scannedAnswer : ℕ → Scanned → Answer
-scannedAnswer size (Sound m) = answerWithoutPlace 0 0
+scannedAnswer size (Sound m) = answerWithoutPlace 0
 scannedAnswer size (Refused f) = refusalIn (faultOf f) 1 (f .place) size
 
 -- the table holds the places of the transitions below a number

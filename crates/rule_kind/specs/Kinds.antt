@@ -13,14 +13,14 @@ use Rattle.transition.specs.Known.{Known}
 use Rattle.rule_kind.specs.declared.Kind.{Kind}
 use Rattle.rule_kind.specs.declared.Kind.the-variants.{Plain, Costs}
 
--- what the pair of a model file is judged by; the costs are those that stand in the file
-abbrev pub pairsBy : Kind → (model : List ℕ) → JudgedBy
-pairsBy Plain model = plainPairs
-pairsBy Costs model = costPairs (costsIn model)
+-- what pairs are judged by
+abbrev pub pairsBy : Kind → JudgedBy
+pairsBy Plain = plainPairs
+pairsBy Costs = costPairs
 
--- what the rule decides of a certificate file
+-- what the rule of a model file decides of a certificate file
 abbrev pub ruleOf : Kind → (model : List ℕ) → FileRule
-ruleOf kind model = pairsBy kind model .file
+ruleOf kind model = pairsBy kind .file model
 
 -- the mark of a certificate's head, whatever the model
 abbrev pub markOf : Kind → ℕ

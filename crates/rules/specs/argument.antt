@@ -24,6 +24,7 @@ pub mod Demand3Holds
 pub mod NumberedBlocks
 pub mod PlainRules
 pub mod AnswerLaws
+pub mod MadeLaws
 pub mod ModelAutomaton
 pub mod EntryPrices
 pub mod FetchedRun

@@ -3,6 +3,7 @@ ghost use Prim.Native.Nat.{_+_, _≤_, _<_};
 ghost use mathlib.Core.Path.{_≡_};
 ghost use lib.Dec.{eqb};
 ghost use lib.ListN.{length, getD};
+ghost use Rattle.answer.specs.Answered.{FileWritten};
 ghost use Rattle.writer.specs.Appends.{Appends};
 ghost use Rattle.sheet_blocks.specs.Blocks.{sheetOf, linesFrom, BlocksInRows, AtState, CountedAt, PutAt};
 use pairs::Rows;
@@ -45,7 +46,7 @@ fn count_block(blocks: &[u8], rows: &Rows, v: usize, seen: usize) -> Counted
 }
 
 // The length of the sheet.
-pub fn sheet_length(blocks: &[u8], rows: &Rows) -> usize
+fn sheet_length(blocks: &[u8], rows: &Rows) -> usize
     requires { ⌜ BlocksInRows (now blocks) (now rows) ⌝ }
     ensures { λ r. ⌜ r ≡ length (sheetOf (now (blocks .entry))) ⌝ }
 {
@@ -78,7 +79,7 @@ fn write_block(blocks: &[u8], rows: &Rows, v: usize, seen: usize, out: &mut [u8]
 }
 
 // The lines of all blocks.
-pub fn write_blocks(blocks: &[u8], rows: &Rows, out: &mut [u8]) -> usize
+fn write_blocks(blocks: &[u8], rows: &Rows, out: &mut [u8]) -> usize
     requires { ⌜ BlocksInRows (now blocks) (now rows) × (length (sheetOf (now blocks)) ≤ length (now out)) ⌝ }
     ensures { λ r. ⌜ Appends (sheetOf (now (blocks .entry))) 0 (now (out .entry)) (now (out .exit)) r ⌝ }
 {
@@ -92,4 +93,16 @@ pub fn write_blocks(blocks: &[u8], rows: &Rows, out: &mut [u8]) -> usize
         v += 1;
     }
     next
+}
+
+// The sheet, written if there is room for it, and its length.
+pub fn write_sheet(blocks: &[u8], rows: &Rows, out: &mut [u8]) -> usize
+    requires { ⌜ BlocksInRows (now blocks) (now rows) ⌝ }
+    ensures { λ r. ⌜ FileWritten (sheetOf (now (blocks .entry))) (now (out .entry)) (now (out .exit)) r ⌝ }
+{
+    let size = sheet_length(blocks, rows);
+    if size <= out.len() {
+        write_blocks(blocks, rows, out);
+    }
+    size
 }

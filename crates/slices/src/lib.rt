@@ -2,13 +2,10 @@
 // file, place, state and remainder stand beside it. No public entry has a `requires`.
 ghost use mathlib.Core.List.{[], _∷_};
 ghost use denote.Ref.{ptr};
-ghost use Rattle.rules.specs.definitions.Answers.{writesBlocks, JudgeNumber};
-ghost use Rattle.rules.specs.definitions.PlainRule.{plainRule};
-ghost use Rattle.block_sheet.specs.definitions.SheetAnswer.{writesSheet, SheetNumber};
+ghost use Rattle.rule_kind.specs.declared.Kind.the-variants.{Plain, Costs};
 ghost use Rattle.answer.specs.Answered.{StretchInside};
 ghost use Rattle.alike.specs.Alike.{named};
-ghost use Rattle.slices.specs.Slices.{FetchHandedBack, AnswerHandedBack, PairHandedBack, ReduceHandedBack, CostHandedBack, TaskHandedBack, JoinHandedBack, AlikeHandedBack};
-use acceptance::Task;
+ghost use Rattle.slices.specs.Slices.{FetchHandedBack, AnswerHandedBack, JudgeHandedBack, ReduceHandedBack, SheetHandedBack, JoinHandedBack, AlikeHandedBack};
 use answer::Answer;
 
 // The part of the model that holds the transitions that leave a state, empty where none leave, or the stretch of a refusal.
@@ -66,35 +63,6 @@ fn hand_back_answer<'a>(
     )
 }
 
-// That of a call that judges.
-fn hand_back_pair<'a>(
-    task: Task,
-    model: &'a [u8],
-    certificate: &'a [u8],
-    out: &mut [u8],
-    number: &mut u32,
-    file: &mut u32,
-    place: &mut usize,
-    state: &mut u32,
-    remainder: &mut i64,
-    written: &mut usize,
-) -> &'a [u8]
-    ensures { λ r. ⌜ TaskHandedBack task (now (model .entry)) (now (certificate .entry)) (now (out .entry)) (now (out .exit)) (ptr (model .entry)) (ptr (certificate .entry)) (now (number .exit)) (now (file .exit)) (now (place .exit)) (now (state .exit)) (now (remainder .exit)) (now (written .exit)) (now r) (ptr r) ⌝ }
-{
-    let answer = pair::answer_pair(task, model, certificate, out);
-    hand_back_answer(
-        model,
-        certificate,
-        answer,
-        number,
-        file,
-        place,
-        state,
-        remainder,
-        written,
-    )
-}
-
 // Judges a certificate for a model. Acceptance writes the blocks, one byte a state; the written length, 0 on refusal, stands beside the slice.
 pub fn judge<'a>(
     model: &'a [u8],
@@ -107,13 +75,13 @@ pub fn judge<'a>(
     remainder: &mut i64,
     written: &mut usize,
 ) -> &'a [u8]
-    ensures { λ r. ⌜ PairHandedBack writesBlocks JudgeNumber (now (model .entry)) (now (certificate .entry)) (now (blocks .entry)) (now (blocks .exit)) (ptr (model .entry)) (ptr (certificate .entry)) (now (number .exit)) (now (file .exit)) (now (place .exit)) (now (state .exit)) (now (remainder .exit)) (now (written .exit)) (now r) (ptr r) ⌝ }
+    ensures { λ r. ⌜ JudgeHandedBack Plain (now (model .entry)) (now (certificate .entry)) (now (blocks .entry)) (now (blocks .exit)) (ptr (model .entry)) (ptr (certificate .entry)) (now (number .exit)) (now (file .exit)) (now (place .exit)) (now (state .exit)) (now (remainder .exit)) (now (written .exit)) (now r) (ptr r) ⌝ }
 {
-    hand_back_pair(
-        Task::Blocks,
+    let answer = judge::judge_answer(model, certificate, blocks);
+    hand_back_answer(
         model,
         certificate,
-        blocks,
+        answer,
         number,
         file,
         place,
@@ -135,13 +103,13 @@ pub fn judge_costs<'a>(
     remainder: &mut i64,
     written: &mut usize,
 ) -> &'a [u8]
-    ensures { λ r. ⌜ CostHandedBack (now (model .entry)) (now (certificate .entry)) (now (blocks .entry)) (now (blocks .exit)) (ptr (model .entry)) (ptr (certificate .entry)) (now (number .exit)) (now (file .exit)) (now (place .exit)) (now (state .exit)) (now (remainder .exit)) (now (written .exit)) (now r) (ptr r) ⌝ }
+    ensures { λ r. ⌜ JudgeHandedBack Costs (now (model .entry)) (now (certificate .entry)) (now (blocks .entry)) (now (blocks .exit)) (ptr (model .entry)) (ptr (certificate .entry)) (now (number .exit)) (now (file .exit)) (now (place .exit)) (now (state .exit)) (now (remainder .exit)) (now (written .exit)) (now r) (ptr r) ⌝ }
 {
-    hand_back_pair(
-        Task::CostBlocks,
+    let answer = judge::judge_costs_answer(model, certificate, blocks);
+    hand_back_answer(
         model,
         certificate,
-        blocks,
+        answer,
         number,
         file,
         place,
@@ -165,11 +133,11 @@ pub fn reduce<'a>(
 ) -> &'a [u8]
     ensures { λ r. ⌜ ReduceHandedBack (now (model .entry)) (now (certificate .entry)) (now (out .entry)) (now (out .exit)) (ptr (model .entry)) (ptr (certificate .entry)) (now (number .exit)) (now (file .exit)) (now (place .exit)) (now (state .exit)) (now (remainder .exit)) (now (written .exit)) (now r) (ptr r) ⌝ }
 {
-    hand_back_pair(
-        Task::Merged,
+    let answer = reduce::reduce_answer(model, certificate, out);
+    hand_back_answer(
         model,
         certificate,
-        out,
+        answer,
         number,
         file,
         place,
@@ -191,7 +159,7 @@ pub fn sheet<'a>(
     remainder: &mut i64,
     written: &mut usize,
 ) -> &'a [u8]
-    ensures { λ r. ⌜ PairHandedBack (writesSheet plainRule (now (certificate .entry))) SheetNumber (now (model .entry)) (now (certificate .entry)) (now (out .entry)) (now (out .exit)) (ptr (model .entry)) (ptr (certificate .entry)) (now (number .exit)) (now (file .exit)) (now (place .exit)) (now (state .exit)) (now (remainder .exit)) (now (written .exit)) (now r) (ptr r) ⌝ }
+    ensures { λ r. ⌜ SheetHandedBack (now (model .entry)) (now (certificate .entry)) (now (out .entry)) (now (out .exit)) (ptr (model .entry)) (ptr (certificate .entry)) (now (number .exit)) (now (file .exit)) (now (place .exit)) (now (state .exit)) (now (remainder .exit)) (now (written .exit)) (now r) (ptr r) ⌝ }
 {
     let answer = sheet::sheet_answer(model, certificate, out);
     hand_back_answer(

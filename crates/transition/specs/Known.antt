@@ -27,6 +27,11 @@ pub record Known (s : List ℕ) (n count : ℕ) (table : List ℕ) : Type 0 wher
   pub places : PlacesHeld s (count + 1) table
   pub size : length table ≡ sizes.places
 
+-- the same where the table is not at hand
+pub record KnownModel (s : List ℕ) (n count : ℕ) : Type 0 where
+  pub table : List ℕ
+  pub known : Known s n count table
+
 -- one of its transitions
 pub record KnownTransition (s table : List ℕ) (r : ℕ) : Type 0 where
   pub count : ℕ

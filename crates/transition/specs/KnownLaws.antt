@@ -44,6 +44,11 @@ known s n m count end table bytes e held size =
     known-told (subst (Tells limits s) (sym e) (whole-tells limits s)) (read-whole-sound limits s (modelAt s) end bytes (ap (readingOf s) (sym e)) .0) held size
 
 module _ {s table : List ℕ} {n count : ℕ} (k : Known s n count table) where
+  -- the places in another table
+  pub with-table : {other : List ℕ} → PlacesHeld s (count + 1) other → length other ≡ sizes.places → Known s n count other
+  with-table held size =
+      record { sound = k .sound; states = k .states; transitions = k .transitions; labels = k .labels; records = k .records; places = held; size = size }
+
   -- the automaton has the states and transitions of the head
   pub known-states : automatonIn s .states ≡ n
   known-states = automaton-states s (omega (arith, k .labels, k .states)) ∙ sym (k .states)

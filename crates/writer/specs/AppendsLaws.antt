@@ -8,7 +8,6 @@ use native.Mathlib.Omega.{arith}
 use borrow.Rule.Slice.PartMut.{midOf, putMid, same-len-mid, post-is, mid-len}
 use Rattle.rules.specs.definitions.Bytes.{twoBytes}
 use Rattle.rules.specs.definitions.Model.{Entry, Transition, entriesBytes, transitionBytes, headBytes, labelsBytes, transitionsBytes, modelBytes}
-use Rattle.rules.specs.definitions.Answers.{answerWithoutPlace, filled}
 use Rattle.writer.specs.Appends.{Appends, fixedBytes, headBytesOf, WritesModel}
 
 -- one byte
@@ -96,12 +95,11 @@ append-pair {at} {middle} {next} {x} {high} {low} {a} {b} {c} fits e f p q =
 pub append-none : (s : List ℕ) (at : ℕ) → at ≤ length s → Appends [] at s s at
 append-none s at h = let e : at ≡ at + 0 = omega arith in record { place = e; room = h; size = refl; written = sym (take-append-drop at s) }
 
--- a file written from the start of a buffer fills it
-pub file-filled : {file before after : List ℕ} {size : ℕ} → Appends file 0 before after size → record { answer = answerWithoutPlace 0 size; buffer = after } ≡ filled file before
-unfolding filled
-file-filled {file} {before} {after} {size} p =
+-- a file written from the start of a buffer: so many bytes, and later ones stay
+pub file-filled : {file before after : List ℕ} {size : ℕ} → Appends file 0 before after size → (size ≡ length file) × (after ≡ file ++ drop (length file) before)
+file-filled {file} {before} {size = size} p =
     let e : size ≡ length file = omega (arith, p .place) in
-    ap₂ (λ (k : ℕ) (l : List ℕ). record { answer = answerWithoutPlace 0 k; buffer = l }) e (p .written ∙ ap (λ (k : ℕ). file ++ drop k before) e)
+    (e, p .written ∙ ap (λ (k : ℕ). file ++ drop k before) e)
 
 -- a loop that appends: with the bytes left appended too, all stand
 pub record Ahead (all : List ℕ) (at : ℕ) (before left : List ℕ) (next : ℕ) (out : List ℕ) : Type 0 where

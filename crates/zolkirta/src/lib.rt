@@ -1,16 +1,14 @@
 // The product: the calls for C and Rust, over byte slices and plain numbers; a stretch by where it starts in its file and how long it is.
 // No public entry has a `requires`.
-ghost use Rattle.rules.specs.definitions.Answers.{writesBlocks, JudgeNumber};
-ghost use Rattle.rules.specs.definitions.PlainRule.{plainRule};
-ghost use Rattle.block_sheet.specs.definitions.SheetAnswer.{writesSheet, SheetNumber};
-ghost use Rattle.pair.specs.Pair.{PairAnswered, ReduceAnswered, CostAnswered};
+ghost use Rattle.rule_kind.specs.declared.Kind.the-variants.{Plain, Costs};
+ghost use Rattle.fetch.specs.Fetched.{FetchAnswered};
+ghost use Rattle.judge.specs.Judge.{JudgeAnswered};
+ghost use Rattle.reduce.specs.Reduce.{ReduceAnswered};
+ghost use Rattle.sheet.specs.Sheet.{SheetAnswered};
 ghost use Rattle.join.specs.Join.{JoinAnswered};
 ghost use Rattle.alike.specs.Alike.{named, AlikeAnswered};
-ghost use Rattle.zolkirta.specs.Calls.{FetchAnswered};
-use acceptance::Task;
 use alike::AlikeAnswer;
 use answer::Answer;
-use limits::STATES;
 
 // The run of the model's bytes that holds the transitions that leave a state, or the stretch of a refusal, by where it starts in the model
 // and how long it is.
@@ -21,18 +19,12 @@ pub extern "C" fn zolkirta_fetch(model: &[u8], state: u32) -> Answer
     fetch::fetch_answer(model, state)
 }
 
-// Judges a certificate for a model. Acceptance writes the blocks, one byte a state. The head is judged here, as `answer_pair` does it, and so
-// in the call that reduces: a refusal at the head then costs no call.
+// Judges a certificate for a model. Acceptance writes the blocks, one byte a state.
 #[no_mangle]
 pub extern "C" fn zolkirta_judge(model: &[u8], certificate: &[u8], blocks: &mut [u8]) -> Answer
-    ensures { λ r. ⌜ PairAnswered writesBlocks JudgeNumber (now (model .entry)) (now (certificate .entry)) (now (blocks .entry)) (now (blocks .exit)) r ⌝ }
+    ensures { λ r. ⌜ JudgeAnswered Plain (now (model .entry)) (now (certificate .entry)) (now (blocks .entry)) (now (blocks .exit)) r ⌝ }
 {
-    let head = model_head::head_fault(model);
-    if head.number != 0 {
-        return answer::refusal_in(head, 1, model.len());
-    }
-    let room = blocks.len();
-    pair::answer_headed(Task::Blocks, room, model, certificate, blocks)
+    judge::judge_answer(model, certificate, blocks)
 }
 
 // Judges a certificate for a model and writes the model with each block merged into one state.
@@ -40,11 +32,7 @@ pub extern "C" fn zolkirta_judge(model: &[u8], certificate: &[u8], blocks: &mut 
 pub extern "C" fn zolkirta_reduce(model: &[u8], certificate: &[u8], out: &mut [u8]) -> Answer
     ensures { λ r. ⌜ ReduceAnswered (now (model .entry)) (now (certificate .entry)) (now (out .entry)) (now (out .exit)) r ⌝ }
 {
-    let head = model_head::head_fault(model);
-    if head.number != 0 {
-        return answer::refusal_in(head, 1, model.len());
-    }
-    pair::answer_headed(Task::Merged, STATES, model, certificate, out)
+    reduce::reduce_answer(model, certificate, out)
 }
 
 // Judges a cost certificate for a cost model. Acceptance writes the blocks, one byte a state.
@@ -54,15 +42,15 @@ pub extern "C" fn zolkirta_judge_costs(
     certificate: &[u8],
     blocks: &mut [u8],
 ) -> Answer
-    ensures { λ r. ⌜ CostAnswered (now (model .entry)) (now (certificate .entry)) (now (blocks .entry)) (now (blocks .exit)) r ⌝ }
+    ensures { λ r. ⌜ JudgeAnswered Costs (now (model .entry)) (now (certificate .entry)) (now (blocks .entry)) (now (blocks .exit)) r ⌝ }
 {
-    pair::answer_pair(Task::CostBlocks, model, certificate, blocks)
+    judge::judge_costs_answer(model, certificate, blocks)
 }
 
 // Judges a certificate for a model and writes the sheet of its blocks.
 #[no_mangle]
 pub extern "C" fn zolkirta_sheet(model: &[u8], certificate: &[u8], sheet: &mut [u8]) -> Answer
-    ensures { λ r. ⌜ PairAnswered (writesSheet plainRule (now (certificate .entry))) SheetNumber (now (model .entry)) (now (certificate .entry)) (now (sheet .entry)) (now (sheet .exit)) r ⌝ }
+    ensures { λ r. ⌜ SheetAnswered (now (model .entry)) (now (certificate .entry)) (now (sheet .entry)) (now (sheet .exit)) r ⌝ }
 {
     sheet::sheet_answer(model, certificate, sheet)
 }

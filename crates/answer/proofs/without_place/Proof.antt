@@ -6,7 +6,7 @@ use Rattle.answer.proofs.without_place.Tie as tie
 
 returns : tie.Need-returns
 unfolding answerWithoutPlace
-returns c = refl
+returns c = record { answer = refl; wrote = refl }
 
 pub without-place-spec : {M : Type 1} → statement M
 without-place-spec = tie.close (tie.spec returns)

@@ -2,10 +2,9 @@
 use Prim.Native.Nat.{ℕ, zero, suc, _+_, _≤_, _<_}
 use mathlib.Core.Path.{_≡_, refl, sym, _∙_, ap, subst}
 use mathlib.Core.Bool.{Bool, true, false}
-use mathlib.Core.List.{List, [], _∷_, _++_}
+use mathlib.Core.List.{List, [], _∷_}
 use lib.Dec.{eqb}
-use lib.ListN.{length, take, drop, getD, length-append}
-use lib.Seq.{take-append-seam}
+use lib.ListN.{length, getD}
 use borrow.Author.Tests.{eq-eqb, ne-eqb}
 use native.Mathlib.Omega.{arith}
 use Rattle.bisimulation.specs.argument.ChoiceLaws.{pastLess, false-not}
@@ -17,21 +16,20 @@ use Rattle.rules.specs.definitions.SoundModel.{Bytes}
 use Rattle.rules.specs.definitions.Faults.{fault}
 use Rattle.rules.specs.definitions.Reading.{Reading}
 use Rattle.rules.specs.definitions.Certificate.{FileRule, refutationCount, pairsAfter, afterRefutation, sameBlock, blocksAt, afterFlow}
-use Rattle.rules.specs.definitions.Judging.{accepted, rejected, Question, questions, judgeFlows, judgeBlocks, judgeRefutations, judgeCertificate, judgeReading, judge}
+use Rattle.rules.specs.definitions.Judging.{accepted, refusedIn, Question, questions, judgeFlows, judgeBlocks, judgeRefutations, judgeCertificate, judgeReading, judge}
 use Rattle.rules.specs.definitions.Accepted.{GoodBlocks}
 use Rattle.rules.specs.definitions.BlockCount.{blockCount}
 use Rattle.rules.specs.definitions.JudgedBy.{plainPairs}
 use Rattle.rules.specs.definitions.PlainRule.{plainRule}
-use Rattle.rules.specs.definitions.Answers as rules
-use Rattle.rules.specs.definitions.Answers.{Outcome, answerWithoutPlace, unwritten, filled, fileOutcome, writesBlocks}
+use Rattle.rules.specs.definitions.Answers.{filesOutcome}
 use Rattle.rules.specs.definitions.Demands.{outcomeBy}
 use Rattle.rules.specs.argument.AnyRule.{PairRules, pairsOf}
 use Rattle.rules.specs.argument.BlocksRecord.{blocks-good}
-use Rattle.rules.specs.argument.CertificateKept.{not-rejected, no-reject}
+use Rattle.rules.specs.argument.CertificateKept.{not-refused, none-refused}
 use Rattle.rules.specs.argument.LargestBlocks.{Numbered}
 use Rattle.rules.specs.argument.Demand3Holds.{holds-read, facts-of}
 use Rattle.rules.specs.argument.PairOutcome.{FollowsLaws}
-use Rattle.rules.specs.argument.JudgedFirst.{Roomy, Found, found-outcome, judged-refused, refused-answer, judged-found}
+use Rattle.rules.specs.argument.JudgedFirst.{Found, found-outcome}
 use Rattle.rules.specs.argument.DemandsHold.{file-follow, late-numbered}
 use Rattle.rules.specs.argument.PlainRules.{plainRules}
 use Rattle.block_sheet.specs.definitions.Sheet.{members, sizeColumn, sheet}
@@ -43,23 +41,23 @@ module _ (L : Limits) (rule : FileRule) (A : Automaton) (C named : List ℕ) whe
   flows-named : (R : Pairs) (blocks : List ℕ) (xs : List Question) (at : ℕ) → accepted named ≡ judgeFlows L rule A C R blocks xs at → named ≡ blocks
   unfolding judgeFlows
   flows-named R blocks [] at e =
-      let q = pastLess (rejected (fault 22) 2 at) (accepted blocks) at (length C) (not-rejected named (fault 22) 2 at) e .1 in cc
-  flows-named R blocks (x ∷ xs) at e = flows-named R blocks xs (afterFlow C at) (no-reject named _ at _ e .1)
+      let q = pastLess (refusedIn (fault 22) 2 at) (accepted blocks) at (length C) (not-refused named (fault 22) 2 at) e .1 in cc
+  flows-named R blocks (x ∷ xs) at e = flows-named R blocks xs (afterFlow C at) (none-refused named _ at _ e .1)
 
   blocks-named : (R : Pairs) (at : ℕ) → accepted named ≡ judgeBlocks L rule A C R at → GoodBlocks A R named
   unfolding judgeBlocks
   blocks-named R at e =
-      let p = no-reject named _ at _ e in
+      let p = none-refused named _ at _ e in
       subst (GoodBlocks A R) (sym (flows-named R (blocksAt A C at) (questions A (blocksAt A C at)) (at + 2 + A .states) (p .1))) (blocks-good A C R at (p .0))
 
   refutations-named : (left : ℕ) (R : Pairs) (at : ℕ) → accepted named ≡ judgeRefutations L rule A C left R at → GoodBlocks A (relatedAfter rule A C left R at) named
   unfolding judgeRefutations relatedAfter
   refutations-named zero R at e = blocks-named R at e
-  refutations-named (suc left) R at e = refutations-named left (pairsAfter A C R at) (afterRefutation rule A C at) (no-reject named _ at _ e .1)
+  refutations-named (suc left) R at e = refutations-named left (pairsAfter A C R at) (afterRefutation rule A C at) (none-refused named _ at _ e .1)
 
   pub accepted-good : accepted named ≡ judgeCertificate L rule A C → GoodBlocks A (stillRelated rule A C) named
   unfolding judgeCertificate stillRelated
-  accepted-good e = refutations-named (refutationCount C) (equalLabels A) 4 (no-reject named _ 0 _ e .1)
+  accepted-good e = refutations-named (refutationCount C) (equalLabels A) 4 (none-refused named _ 0 _ e .1)
 
 -- blocks that are good for pairs: two states share a block exactly when they are related
 good-shared : (A : Automaton) (R : Pairs) (blocks : List ℕ) → GoodBlocks A R blocks → SharedAsRelated R blocks
@@ -75,20 +73,20 @@ good-shared A R blocks good = record { pair = λ v u h l. go v u h l (R v u) ref
 pub sheet-follow : (C : List ℕ) → FollowsLaws plainRules (writesSheet plainRule C)
 sheet-follow C = file-follow 28 (sheetFile plainRule C) (omega arith)
 
-pub sheet-numbered : (M C buffer : List ℕ) → SheetNumber (outcomeBy plainPairs (writesSheet plainRule C) M C buffer .answer .number)
-sheet-numbered M C buffer = late-numbered M C buffer (writesSheet plainRule C) (sheet-follow C) (λ N. refl)
+pub sheet-numbered : (M C : List ℕ) (before : List (List ℕ)) → SheetNumber (outcomeBy plainPairs (writesSheet plainRule C) M C before .answer .number)
+sheet-numbered M C before = late-numbered M C before (writesSheet plainRule C) (sheet-follow C) (λ N. refl)
 
 module _ (by : PairRules) (M C : List ℕ) (b : Bytes M) (c : Bytes C) where
   -- an accepted pair
   module _ (a : Found by M C) where
     abbrev related : Pairs
-    related = stillRelated (by .rule .file) (automatonOf (a .N)) C
+    related = stillRelated (by .rule M .file) (automatonOf (a .N)) C
 
     good : GoodBlocks (automatonOf (a .N)) related (a .blocks)
     unfolding judge judgeReading
     good =
-        accepted-good (by .limits) (by .rule .file) (automatonOf (a .N)) C (a .blocks)
-        (sym (a .judged) ∙ ap (λ (r : Reading). judgeReading (by .limits) (by .rule .file) r C) (a .reads))
+        accepted-good (by .limits) (by .rule M .file) (automatonOf (a .N)) C (a .blocks)
+        (sym (a .judged) ∙ ap (λ (r : Reading). judgeReading (by .limits) (by .rule M .file) r C) (a .reads))
 
     -- test 18: the pairs still related are those that share an accepted block
     pub found-shared : SharedAsRelated related (a .blocks)
@@ -116,49 +114,12 @@ module _ (by : PairRules) (M C : List ℕ) (b : Bytes M) (c : Bytes C) where
     found-sizes k h = size-members related (a .blocks) found-shared k (some-member (a .blocks) (found-whole .numbered) (found-whole .some) k h)
 
     -- and the sheet is that of the blocks
-    pub found-sheet : sheetFile (by .rule .file) C (a .N) (a .blocks) ≡ sheet (sameBlock (a .blocks)) (a .blocks)
+    pub found-sheet : sheetFile (by .rule M .file) C (a .N) (a .blocks) ≡ sheet (sameBlock (a .blocks)) (a .blocks)
     unfolding sheetFile
     found-sheet = sheet-same related (a .blocks) found-shared (found-whole .numbered) (found-whole .some)
 
-  -- the same by what the call that judges answers and leaves in a block buffer that is long enough for every model
-  module _ (lent before : List ℕ) (room : by .limits .states ≤ length before) where
-    abbrev judged : Outcome
-    judged = outcomeBy (pairsOf by) writesBlocks M C before
-
-    roomy : Roomy by M C (writesSheet (by .rule .file) C) lent
-    roomy N end e = omega arith
-
-    -- it refuses: so does this call, with the same answer
-    pub sheet-refused : (judged .answer .number ≡ 0 → ⊥) → unwritten (judged .answer) lent ≡ outcomeBy (pairsOf by) (writesSheet (by .rule .file) C) M C lent
-    sheet-refused n =
-        let r = judged-refused by M C b before room n in
-        ap (λ (x : rules.Answer). unwritten x lent) (refused-answer by M C b before room r) ∙ r .refuses (writesSheet (by .rule .file) C) lent roomy
-
-    -- it accepts: so many blocks stand in the buffer, and their sheet is written
-    pub record Sheeted (n : ℕ) (buffer : List ℕ) : Type 0 where
-      pub inside : n ≤ length buffer
-      pub some : 1 ≤ n
-      pub few : n ≤ by .limits .states
-      pub size : length (take n buffer) ≡ n
-      pub numbered : Numbered n (take n buffer)
-      pub outcome : fileOutcome 28 (sheet (sameBlock (take n buffer)) (take n buffer)) lent ≡ outcomeBy (pairsOf by) (writesSheet (by .rule .file) C) M C lent
-
-    pub judged-sheeted : judged .answer .number ≡ 0 → Sheeted (judged .answer .written) (judged .buffer)
-    unfolding filled answerWithoutPlace
-    judged-sheeted z = let f = judged-found by M C b before room z in subst (λ (o : Outcome). Sheeted (o .answer .written) (o .buffer)) (f .1) (sheeted (f .0))
-      where
-        sheeted : (a : Found by M C) → Sheeted (length (a .blocks)) (a .blocks ++ drop (length (a .blocks)) before)
-        sheeted a =
-            let w = found-whole a in
-            let e : take (length (a .blocks)) (a .blocks ++ drop (length (a .blocks)) before) ≡ a .blocks = take-append-seam (a .blocks) _ in
-            record {
-              inside = omega (arith, length-append (a .blocks) (drop (length (a .blocks)) before));
-              some = w .some;
-              few = w .few;
-              size = ap length e;
-              numbered = subst (Numbered (length (a .blocks))) (sym e) (w .numbered);
-              outcome =
-                  ap (λ (l : List ℕ). fileOutcome 28 (sheet (sameBlock l) l) lent) e
-                  ∙ ap (λ (l : List ℕ). fileOutcome 28 l lent) (sym (found-sheet a))
-                  ∙ found-outcome by M C (writesSheet (by .rule .file) C) lent roomy a;
-            }
+    -- which is written where there is room for it
+    pub found-sheeted : (before : List (List ℕ)) → filesOutcome 28 (sheet (sameBlock (a .blocks)) (a .blocks) ∷ []) before ≡ outcomeBy (pairsOf by) (writesSheet (by .rule M .file) C) M C before
+    found-sheeted before =
+        ap (λ (l : List ℕ). filesOutcome 28 (l ∷ []) before) (sym found-sheet)
+        ∙ found-outcome by M C (writesSheet (by .rule M .file) C) before (λ N end e. omega arith) a

@@ -13,7 +13,7 @@ use Rattle.rules.specs.definitions.Certificate.{refutationCount, challengerAt, 
 use Rattle.rules.specs.definitions.PlainRule.{byKind, plainPriceCount, plainRule}
 use Rattle.rules.specs.definitions.BlockCount.{blockCount}
 use Rattle.rules.specs.definitions.SoundModel.{Each}
-use Rattle.rules.specs.definitions.Answers.{Outcome, answerWithoutPlace, unwritten, filled, fileOutcome}
+use Rattle.rules.specs.definitions.Answers.{Outcome, answerWithoutPlace, unwritten, filledWith, filledEach, filled, roomFor, filesOutcome}
 use Rattle.rules.specs.cases.Cases.{modelS, certificateS}
 use Rattle.rules.specs.cases.MoreCases.{outcomeOf}
 use Rattle.block_sheet.specs.definitions.Sheet.{column, cell, blank, firstCell, cells, line, lines, lineCount, ascending, members, sizeColumn, blockLines, sheetFrom, sheet}
@@ -126,8 +126,8 @@ sheetOutcomes =
     ∷ record { before = replicate 145 7; expected = outcomeOf 28 0 0 0 0 0 (replicate 145 7) }
     ∷ []
 
-pub sheet-cases : Each (λ (c : CellCase). cell (c .number) ≡ c .expected) cellCases × Each (λ (c : SheetCase). sheet (sameBlock (c .blocks)) (c .blocks) ≡ c .expected) sheetCases × (sheet (λ v u. eqb v 0) (0 ∷ 0 ∷ 1 ∷ []) ≡ firstRelated) × Each (λ (c : SheetOutcome). writesSheet plainRule certificateS .outcome (modelAt modelS) (0 ∷ 0 ∷ 1 ∷ []) (c .before) ≡ c .expected) sheetOutcomes
-unfolding ifLess ifSame ifTrue both countBelow equalLabels isPair removed byteAt twoAt automatonOf statesOf actionsOf countOf sourceAt actionAt denominatorAt entryCountAt afterTransition entriesAt transitionAt transitionsAt modelAt refutationCount challengerAt defenderAt afterRefutation pairsAfter sameBlock byKind plainPriceCount blockCount Each answerWithoutPlace unwritten filled fileOutcome modelS certificateS column cell blank firstCell cells line lines lineCount ascending members sizeColumn blockLines sheetFrom sheet relatedAfter stillRelated sheetFile cellCases sheetCases firstRelated sheetS sheetOutcomes
+pub sheet-cases : Each (λ (c : CellCase). cell (c .number) ≡ c .expected) cellCases × Each (λ (c : SheetCase). sheet (sameBlock (c .blocks)) (c .blocks) ≡ c .expected) sheetCases × (sheet (λ v u. eqb v 0) (0 ∷ 0 ∷ 1 ∷ []) ≡ firstRelated) × Each (λ (c : SheetOutcome). writesSheet plainRule certificateS .outcome (modelAt modelS) (0 ∷ 0 ∷ 1 ∷ []) (c .before ∷ []) ≡ c .expected) sheetOutcomes
+unfolding ifLess ifSame ifTrue both countBelow equalLabels isPair removed byteAt twoAt automatonOf statesOf actionsOf countOf sourceAt actionAt denominatorAt entryCountAt afterTransition entriesAt transitionAt transitionsAt modelAt refutationCount challengerAt defenderAt afterRefutation pairsAfter sameBlock byKind plainPriceCount blockCount Each answerWithoutPlace unwritten filledWith filledEach filled roomFor filesOutcome modelS certificateS column cell blank firstCell cells line lines lineCount ascending members sizeColumn blockLines sheetFrom sheet relatedAfter stillRelated sheetFile cellCases sheetCases firstRelated sheetS sheetOutcomes
 sheet-cases = (
   (refl, (refl, (refl, (refl, (refl, (refl, (refl, tt))))))),
   (refl, (refl, (refl, (refl, (refl, (refl, tt)))))),

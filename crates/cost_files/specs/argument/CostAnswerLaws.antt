@@ -6,49 +6,45 @@ use mathlib.Core.List.{List}
 use native.Mathlib.Omega.{arith}
 use Rattle.rules.specs.definitions.Limits.{limits}
 use Rattle.rules.specs.definitions.SoundModel.{Bytes}
-use Rattle.rules.specs.definitions.Answers.{writesBlocks}
-use Rattle.rules.specs.definitions.Demands.{AcceptedBy}
+use Rattle.rules.specs.definitions.Answers.{leftIn, writesBlocks}
+use Rattle.rules.specs.definitions.Demands.{outcomeBy}
 use Rattle.rules.specs.argument.SoundModelLaws.{limits-fit}
 use Rattle.rules.specs.argument.AcceptedExactly.{accepted-exactly}
 use Rattle.rules.specs.argument.AnyRule.{AnyCertificateNumber, RefusalOf}
 use Rattle.rules.specs.argument.PlainRules.{PlainNumber, ModelNumber}
 use Rattle.rules.specs.argument.PairOutcome.{outcome-number}
 use Rattle.rules.specs.argument.DemandsHold.{demands-hold, blocks-follow}
-use Rattle.cost_files.specs.definitions.CostModel.{costsIn}
 use Rattle.cost_files.specs.definitions.CostPairs.{costPairs, CostBlocksInside}
-use Rattle.cost_files.specs.definitions.CostAnswer.{costOutcome, CostJudgeNumber, CostDemands}
+use Rattle.cost_files.specs.definitions.CostAnswer.{CostJudgeNumber, CostDemands}
 use Rattle.cost_files.specs.argument.CostCertificates.{CostNumber}
 use Rattle.cost_files.specs.argument.CostReadingLaws.{CostModelNumber, costs-in}
 use Rattle.cost_files.specs.argument.CostRules.{costRules, cost-blocks-inside}
 
 -- a refusal of judging a cost pair: 1 to 9, 11 to 22, 29 or 30
-cost-refusal : (costs : List ℕ) (k : ℕ) → RefusalOf (costRules costs) k → CostJudgeNumber k
+cost-refusal : (k : ℕ) → RefusalOf costRules k → CostJudgeNumber k
 unfolding RefusalOf AnyCertificateNumber PlainNumber ModelNumber CostNumber CostModelNumber CostJudgeNumber
-cost-refusal costs k h =
+cost-refusal k h =
     ⊎-elim (⊎-elim (λ x. inl (omega (arith, x))) (λ x. inr (inl x)))
     (⊎-elim (⊎-elim (λ x. inl (omega (arith, x))) (⊎-elim (λ x. inl (omega (arith, x))) (λ x. inl (omega (arith, x)))))
     (⊎-elim (⊎-elim (λ x. inl (omega (arith, x))) (λ x. inl (omega (arith, x)))) (λ x. inr (inr x))))
     h
 
--- the call answers one of its numbers
-pub cost-judge-numbered : (model certificate before : List ℕ) → CostJudgeNumber (costOutcome model certificate before .answer .number)
-unfolding CostJudgeNumber
-cost-judge-numbered model certificate before =
-    outcome-number (costRules (costsIn model)) writesBlocks blocks-follow model certificate before CostJudgeNumber (inl (omega arith)) (inl (omega arith))
-    (cost-refusal (costsIn model)) (λ N h. inl (omega arith))
+module _ (model certificate : List ℕ) (before : List (List ℕ)) where
+  -- the call answers one of its numbers
+  pub cost-judge-numbered : CostJudgeNumber (outcomeBy costPairs writesBlocks model certificate before .answer .number)
+  unfolding CostJudgeNumber
+  cost-judge-numbered =
+      outcome-number costRules writesBlocks blocks-follow model certificate before CostJudgeNumber (inl (omega arith)) (inl (omega arith))
+      cost-refusal (λ N h. inl (omega arith))
 
--- the demands follow from what the call answers, and leaves in the buffer
-pub cost-demands-hold : (model certificate before after : List ℕ) (number : ℕ) → Bytes model → Bytes certificate → number ≡ costOutcome model certificate before .answer .number → after ≡ costOutcome model certificate before .buffer → CostDemands model certificate before after number
-unfolding CostBlocksInside
-cost-demands-hold model certificate before after number b c e left =
-    let rules = costRules (costsIn model) in
-    let judged = demands-hold rules writesBlocks blocks-follow model certificate before after number b c e left CostJudgeNumber (subst CostJudgeNumber (sym e) (cost-judge-numbered model certificate before)) in
-    record {
-      judged = judged;
-      own = λ M f. costs-in limits limits-fit model M f;
-      oneAnswer = λ M blocks kept other C₂ blocks₂ b₂ c₂ a₂ N h h₂ one same.
-          judged .largest M blocks kept .oneAnswer other C₂ blocks₂ b₂ c₂ (subst (λ (costs : List ℕ). AcceptedBy (costPairs costs) other C₂ blocks₂) (sym same) a₂) M N h h₂ one;
-      inside = λ M blocks kept plainC plainBlocks pc p.
-          cost-blocks-inside model certificate blocks plainC plainBlocks b c pc
-          (accepted-exactly rules model certificate blocks b c .1 (record { M = M; file = kept .file; kept = kept .kept })) p;
-    }
+  -- the demands follow from what the call answers, and leaves in the buffer
+  pub cost-demands-hold : (after : List (List ℕ)) (number : ℕ) → Bytes model → Bytes certificate → number ≡ outcomeBy costPairs writesBlocks model certificate before .answer .number → after ≡ leftIn (outcomeBy costPairs writesBlocks model certificate before) → CostDemands model certificate before after number
+  unfolding CostBlocksInside
+  cost-demands-hold after number b c e left =
+      record {
+        judged = demands-hold costRules writesBlocks blocks-follow model certificate before after number b c e left CostJudgeNumber (subst CostJudgeNumber (sym e) cost-judge-numbered);
+        own = λ M f. costs-in limits limits-fit model M f;
+        inside = λ M blocks kept plainC plainBlocks pc p.
+            cost-blocks-inside model certificate blocks plainC plainBlocks b c pc
+            (accepted-exactly costRules model certificate blocks b c .1 (record { M = M; file = kept .file; kept = kept .kept })) p;
+      }

@@ -69,7 +69,7 @@ cost-answers costs =
     }
 
 -- the step rule with these costs
-abbrev pub costCertificates : (costs : List ℕ) → CertificateRule
+abbrev pub costCertificates : (costs : List ℕ) → CertificateRule CostNumber
 costCertificates costs =
     record {
       file = costFile costs;
@@ -78,6 +78,5 @@ costCertificates costs =
       theory = costRule (costOf costs);
       decides = cost-decides costs;
       covers = cost-covers costs;
-      numbers = CostNumber;
       answers = cost-answers costs;
     }

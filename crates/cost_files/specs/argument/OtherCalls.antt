@@ -1,18 +1,19 @@
 -- A cost model given to a call without costs has bytes left: 9 at the cost record.
 use Prim.Native.Nat.{ℕ}
-use mathlib.Core.Path.{_≡_, sym, _∙_, ap, ap₂}
-use mathlib.Core.List.{List}
+use mathlib.Core.Path.{_≡_, sym, _∙_, ap}
+use mathlib.Core.List.{List, [], _∷_}
 use lib.ListN.{length}
 use Rattle.rules.specs.definitions.Limits.{limits}
 use Rattle.rules.specs.definitions.Model.{Model}
 use Rattle.rules.specs.definitions.Faults.{fault}
-use Rattle.rules.specs.definitions.Reading.{Reading, readWhole, model, noModel}
+use Rattle.rules.specs.definitions.Reading.{readWhole, model, noModel}
 use Rattle.rules.specs.definitions.JudgedBy.{plainPairs}
-use Rattle.rules.specs.definitions.Answers.{Answer, Outcome, refusalIn, unwritten, Follows, fetchReading, fetchAnswer}
+use Rattle.rules.specs.definitions.Answers.{Answer, refusalIn, unwritten, Follows, fetchReading, fetchAnswer}
 use Rattle.rules.specs.definitions.Demands.{outcomeBy}
 use Rattle.rules.specs.argument.SoundModelLaws.{limits-fit}
 use Rattle.rules.specs.argument.PairOutcome.{outcome-refused}
-use Rattle.joined.specs.definitions.JoinAnswer.{readingsOutcome, joinOutcome}
+use Rattle.rules.specs.argument.MadeLaws.{first-refused, second-refused}
+use Rattle.joined.specs.definitions.JoinAnswer.{joinOutcome}
 use Rattle.cost_files.specs.definitions.CostModel.{CostFileOf, transitionsEnd}
 use Rattle.cost_files.specs.argument.CostReadingLaws.{transitions-end, read-without-costs}
 
@@ -26,7 +27,7 @@ module _ (bytes : List ℕ) {M : Model} (cost : CostFileOf limits bytes M) where
   read-left = read-without-costs limits limits-fit bytes M cost ∙ ap (noModel (fault 9)) (transitions-end limits limits-fit bytes M cost)
 
   -- a call that judges by document 01's rules, whatever follows acceptance
-  pub pair-left : (follows : Follows) (certificate before : List ℕ) → outcomeBy plainPairs follows bytes certificate before ≡ unwritten (recordLeft 1) before
+  pub pair-left : (follows : Follows) (certificate : List ℕ) (before : List (List ℕ)) → outcomeBy plainPairs follows bytes certificate before ≡ unwritten (recordLeft 1) before
   pair-left follows certificate before = sym (outcome-refused _ _ _ follows bytes certificate before _ _ read-left)
 
   -- the fetch
@@ -35,11 +36,9 @@ module _ (bytes : List ℕ) {M : Model} (cost : CostFileOf limits bytes M) where
   fetch-left state = ap (fetchReading bytes state) read-left
 
   -- the call that joins: as its first model, whatever the second is
-  pub join-first-left : (second before : List ℕ) → joinOutcome limits (readWhole limits) bytes second before ≡ unwritten (recordLeft 1) before
-  unfolding joinOutcome readingsOutcome
-  join-first-left second before = ap (λ (r : Reading). readingsOutcome limits bytes second before r (readWhole limits second)) read-left
+  pub join-first-left : (second before : List ℕ) → joinOutcome limits (readWhole limits) bytes second before ≡ unwritten (recordLeft 1) (before ∷ [])
+  join-first-left second before = sym (first-refused _ _ bytes second (before ∷ []) _ _ read-left)
 
   -- and as its second
-  pub join-second-left : (first before : List ℕ) {N : Model} {end : ℕ} → readWhole limits first ≡ model N end → joinOutcome limits (readWhole limits) first bytes before ≡ unwritten (recordLeft 3) before
-  unfolding joinOutcome readingsOutcome
-  join-second-left first before e = ap₂ (readingsOutcome limits first bytes before) e read-left
+  pub join-second-left : (first before : List ℕ) {N : Model} {end : ℕ} → readWhole limits first ≡ model N end → joinOutcome limits (readWhole limits) first bytes before ≡ unwritten (recordLeft 3) (before ∷ [])
+  join-second-left first before e = sym (second-refused _ _ first bytes (before ∷ []) _ _ e read-left)

@@ -18,8 +18,8 @@ use Rattle.rules.specs.definitions.Certificate.{refutationCount, certificateHea
 use Rattle.rules.specs.definitions.Encoding.{fourBytes, complement, priceBytes}
 use Rattle.rules.specs.definitions.Faults.{faultBy, fault, firstOf, openFault}
 use Rattle.rules.specs.definitions.PlainRule.{byKind, plainPriceCount, priceCondition, allWithAction, allRelated, below, lastFault, internalPricesFault, externalPricesFault, internalInQuestion, externalInQuestion, plainInQuestion, breakFrom, firstBreak, internalEquationsFault, externalEquationsFault, plainEquationsFault, plainRule}
-use Rattle.rules.specs.definitions.Judging.{accepted, rejected, rejectAt, questionsOfPair, questionsOfState, questionsFrom, questions, judgeFlows, judgeBlocks, judgeRefutations, judgeCertificate, judgeReading, judge}
-use Rattle.rules.specs.definitions.Answers.{Outcome, refusalIn, answerWithoutPlace, fileOf, judgementAnswer, unwritten, filled, judgedOutcome, readOutcome, pairOutcome, writesBlocks}
+use Rattle.rules.specs.definitions.Judging.{accepted, refusedIn, refuseRecordAt, questionsOfPair, questionsOfState, questionsFrom, questions, judgeFlows, judgeBlocks, judgeRefutations, judgeCertificate, judgeReading, judge}
+use Rattle.rules.specs.definitions.Answers.{Outcome, refusalIn, answerWithoutPlace, fileOf, judgementAnswer, unwritten, filledWith, filledEach, filled, judgedOutcome, readOutcome, pairOutcome, writesBlocks}
 use Rattle.rules.specs.cases.MoreCases.{FilesCase, outcomeOf}
 use Rattle.costs.specs.definitions.CostPrices.{priceWithCost}
 use Rattle.costs.specs.definitions.CostRefutation.{priceAfter}
@@ -132,43 +132,43 @@ costCases =
     -- no transitions
     ∷ record { model = stillFile; certificate = 0x43 ∷ 0x43 ∷ 0 ∷ 0 ∷ 0x42 ∷ 0x4B ∷ 0 ∷ []; expected = accepted (0 ∷ []) }
     -- the cost record is missing, half its mark, has another mark, is cut in its costs, is cut and has another mark
-    ∷ record { model = take 41 sendersFile; certificate = sendersCertificate; expected = rejected (fault 1) 1 41 }
-    ∷ record { model = take 42 sendersFile; certificate = sendersCertificate; expected = rejected (fault 1) 1 41 }
-    ∷ record { model = set sendersFile 42 0x4E; certificate = sendersCertificate; expected = rejected (fault 2) 1 41 }
-    ∷ record { model = take 45 sendersFile; certificate = sendersCertificate; expected = rejected (fault 1) 1 41 }
-    ∷ record { model = take 44 (set sendersFile 42 0x4E); certificate = sendersCertificate; expected = rejected (fault 2) 1 41 }
+    ∷ record { model = take 41 sendersFile; certificate = sendersCertificate; expected = refusedIn (fault 1) 1 41 }
+    ∷ record { model = take 42 sendersFile; certificate = sendersCertificate; expected = refusedIn (fault 1) 1 41 }
+    ∷ record { model = set sendersFile 42 0x4E; certificate = sendersCertificate; expected = refusedIn (fault 2) 1 41 }
+    ∷ record { model = take 45 sendersFile; certificate = sendersCertificate; expected = refusedIn (fault 1) 1 41 }
+    ∷ record { model = take 44 (set sendersFile 42 0x4E); certificate = sendersCertificate; expected = refusedIn (fault 2) 1 41 }
     -- '29, cost above 63, at its byte': the first of two; not before the record is whole
-    ∷ record { model = set (set sendersFile 44 64) 45 255; certificate = sendersCertificate; expected = rejected (fault 29) 1 44 }
-    ∷ record { model = take 45 (set sendersFile 44 64); certificate = sendersCertificate; expected = rejected (fault 1) 1 41 }
+    ∷ record { model = set (set sendersFile 44 64) 45 255; certificate = sendersCertificate; expected = refusedIn (fault 29) 1 44 }
+    ∷ record { model = take 45 (set sendersFile 44 64); certificate = sendersCertificate; expected = refusedIn (fault 1) 1 41 }
     -- a byte left after the record: 9; with 64 for the last cost 29
-    ∷ record { model = sendersFile ++ (0 ∷ []); certificate = sendersCertificate; expected = rejected (fault 9) 1 46 }
-    ∷ record { model = set sendersFile 45 64 ++ (0 ∷ []); certificate = sendersCertificate; expected = rejected (fault 29) 1 45 }
+    ∷ record { model = sendersFile ++ (0 ∷ []); certificate = sendersCertificate; expected = refusedIn (fault 9) 1 46 }
+    ∷ record { model = set sendersFile 45 64 ++ (0 ∷ []); certificate = sendersCertificate; expected = refusedIn (fault 29) 1 45 }
     -- a certificate without costs
-    ∷ record { model = sendersFile; certificate = set sendersCertificate 1 0x54; expected = rejected (fault 12) 2 0 }
+    ∷ record { model = sendersFile; certificate = set sendersCertificate 1 0x54; expected = refusedIn (fault 12) 2 0 }
     -- L 1 in the first refutation: 2·0 is not at least 0 + 1·1·2
-    ∷ record { model = sendersFile; certificate = withPrice 45 (pos 1) sendersCertificate; expected = rejected (fault 15) 2 4 }
+    ∷ record { model = sendersFile; certificate = withPrice 45 (pos 1) sendersCertificate; expected = refusedIn (fault 15) 2 4 }
     -- L 0, 2 and -1 in the second: 3 is not below 0·5, 5 not at least 2·5, 3 not below -1·5
-    ∷ record { model = sendersFile; certificate = withPrice 90 (pos 0) sendersCertificate; expected = rejected (faultBy 16 2 (pos 3)) 2 49 }
-    ∷ record { model = sendersFile; certificate = withPrice 90 (pos 2) sendersCertificate; expected = rejected (fault 15) 2 49 }
-    ∷ record { model = sendersFile; certificate = withPrice 90 (negsuc 0) sendersCertificate; expected = rejected (faultBy 16 2 (pos 8)) 2 49 }
+    ∷ record { model = sendersFile; certificate = withPrice 90 (pos 0) sendersCertificate; expected = refusedIn (faultBy 16 2 (pos 3)) 2 49 }
+    ∷ record { model = sendersFile; certificate = withPrice 90 (pos 2) sendersCertificate; expected = refusedIn (fault 15) 2 49 }
+    ∷ record { model = sendersFile; certificate = withPrice 90 (negsuc 0) sendersCertificate; expected = refusedIn (faultBy 16 2 (pos 8)) 2 49 }
     -- A 3 0 6 there: 0 is not at least 0 + 1·5·1, and 6 not below 1·5; 15 comes first. B -1 0 0: -1 is not at least G's 0
-    ∷ record { model = sendersFile; certificate = withPrice 58 (pos 0) (withPrice 62 (pos 6) sendersCertificate); expected = rejected (fault 15) 2 49 }
-    ∷ record { model = sendersFile; certificate = withPrice 66 (negsuc 0) sendersCertificate; expected = rejected (fault 15) 2 49 }
+    ∷ record { model = sendersFile; certificate = withPrice 58 (pos 0) (withPrice 62 (pos 6) sendersCertificate); expected = refusedIn (fault 15) 2 49 }
+    ∷ record { model = sendersFile; certificate = withPrice 66 (negsuc 0) sendersCertificate; expected = refusedIn (fault 15) 2 49 }
     -- an internal challenger. L 0: -1 is not at least 0; and with A -1 0 0 neither is 0 below 0. L -3: -2 is not below -3
-    ∷ record { model = stepsFile; certificate = withPrice 33 (pos 0) stepsCertificate; expected = rejected (fault 15) 2 4 }
-    ∷ record { model = stepsFile; certificate = withPrice 13 (pos 0) (withPrice 33 (pos 0) stepsCertificate); expected = rejected (fault 15) 2 4 }
-    ∷ record { model = stepsFile; certificate = withPrice 33 (negsuc 2) stepsCertificate; expected = rejected (faultBy 16 1 (pos 1)) 2 4 }
+    ∷ record { model = stepsFile; certificate = withPrice 33 (pos 0) stepsCertificate; expected = refusedIn (fault 15) 2 4 }
+    ∷ record { model = stepsFile; certificate = withPrice 13 (pos 0) (withPrice 33 (pos 0) stepsCertificate); expected = refusedIn (fault 15) 2 4 }
+    ∷ record { model = stepsFile; certificate = withPrice 33 (negsuc 2) stepsCertificate; expected = refusedIn (faultBy 16 1 (pos 1)) 2 4 }
     -- its flows: both steps cost 1; the second costs 2; and with w(2,2) 2 then 20 comes first
     ∷ record { model = set stepsFile 34 1; certificate = stepsMetCertificate; expected = accepted (0 ∷ 0 ∷ 1 ∷ []) }
-    ∷ record { model = stepsFile; certificate = stepsMetCertificate; expected = rejected (fault 30) 2 9 }
-    ∷ record { model = stepsFile; certificate = set stepsMetCertificate 31 2; expected = rejected (faultBy 20 2 (negsuc 0)) 2 9 }
+    ∷ record { model = stepsFile; certificate = stepsMetCertificate; expected = refusedIn (fault 30) 2 9 }
+    ∷ record { model = stepsFile; certificate = set stepsMetCertificate 31 2; expected = refusedIn (faultBy 20 2 (negsuc 0)) 2 9 }
     -- a step after the move pays 9, or 8 where 9 are owed
     ∷ record { model = laterFile; certificate = laterCertificate; expected = accepted (0 ∷ 0 ∷ 1 ∷ 2 ∷ []) }
-    ∷ record { model = set laterFile 57 8; certificate = laterCertificate; expected = rejected (fault 30) 2 10 }
+    ∷ record { model = set laterFile 57 8; certificate = laterCertificate; expected = refusedIn (fault 30) 2 10 }
     -- transition 2 costs 2: the first flow's equations hold but for the cost equation, 1·1·2 and 1·1
-    ∷ record { model = set sendersFile 45 2; certificate = sendersCertificate; expected = rejected (fault 30) 2 99 }
+    ∷ record { model = set sendersFile 45 2; certificate = sendersCertificate; expected = refusedIn (fault 30) 2 99 }
     -- and with w(2,2) for w(2,0) 21 comes first
-    ∷ record { model = set sendersFile 45 2; certificate = set sendersCertificate 117 2; expected = rejected (faultBy 21 0 (negsuc 1)) 2 99 }
+    ∷ record { model = set sendersFile 45 2; certificate = set sendersCertificate 117 2; expected = refusedIn (faultBy 21 0 (negsuc 1)) 2 99 }
     ∷ []
 
 -- a model file, the lent block buffer before, and what judging the certificate above answers and leaves in the buffer
@@ -195,8 +195,8 @@ unfolding ifLess ifSame byteAt twoAt twoBytes headBytes labelsBytes entriesBytes
 cost-model-cases = (refl, refl, refl, refl, refl, refl)
 
 -- the tables; and for document 01's calls a cost model has bytes left, and a cost certificate another mark
-pub cost-cases : Each (λ (c : FilesCase). judge limits (readCosts limits) (costFile (costsIn (c .model))) (c .model) (c .certificate) ≡ c .expected) costCases × (judge limits (readWhole limits) plainRule sendersFile sendersCertificate ≡ rejected (fault 9) 1 41) × (judge limits (readWhole limits) plainRule (withoutCosts sendersFile) sendersCertificate ≡ rejected (fault 12) 2 0) × Each (λ (c : CostOutcomeCase). pairOutcome limits (readCosts limits) (costFile (costsIn (c .model))) writesBlocks (c .model) sendersCertificate (c .before) ≡ c .expected) costOutcomeCases
-unfolding ifLess ifSame ifTrue allBelow sum sumℤ arriving leaving overTargets overSources beforeMove afterMove internalMove atTarget priceAt priceOfTargets byteAt twoAt threeAt fourAt signedAt twoBytes fourBytes complement priceBytes weightOf automatonOf openFault statesOf actionsOf countOf rangeFault headFault labelFault labelsFault sourceAt actionAt denominatorAt entryCountAt afterTransition fixedFault fixedFaultAt entriesFault transitionFault refuseAt scanTransitions scanModel refuseBytesLeft scanWhole entriesAt transitionAt transitionsAt modelAt readingOf readWhole placeOf firstOf both equalLabels isPair removed refutationCount certificateHeadFault challengerAt defenderAt pricesAt afterRefutation pairFault refutationFault pairsAfter blocksAt numberedFault sameBlock agree pairsFault blocksFault kCountAt afterK wCountAt afterFlow kOf wOf flowAt kFault wFault flowFault byKind plainPriceCount allWithAction allRelated internalInQuestion externalInQuestion plainInQuestion breakFrom firstBreak internalEquationsFault externalEquationsFault plainEquationsFault rejectAt questionsOfPair questionsOfState questionsFrom questions judgeFlows judgeBlocks judgeRefutations judgeCertificate judgeReading judge Each priceWithCost priceAfter costOfLayer layers costEquation costOf costsBytes transitionsEnd costsIn withoutCosts costFault scanCosts scanCostRecord scanCostModel readCosts costPriceCount priceCondition below lastFault internalPricesFault externalPricesFault costPricesFault costEquationFault costEquationsFault sendersFile sendersCertificate stepsFile stepsCertificate stepsMetCertificate laterFile laterCertificate stillFile withPrice costCases refusalIn answerWithoutPlace fileOf judgementAnswer unwritten filled judgedOutcome readOutcome pairOutcome costOutcomeCases
+pub cost-cases : Each (λ (c : FilesCase). judge limits (readCosts limits) (costFile (costsIn (c .model))) (c .model) (c .certificate) ≡ c .expected) costCases × (judge limits (readWhole limits) plainRule sendersFile sendersCertificate ≡ refusedIn (fault 9) 1 41) × (judge limits (readWhole limits) plainRule (withoutCosts sendersFile) sendersCertificate ≡ refusedIn (fault 12) 2 0) × Each (λ (c : CostOutcomeCase). pairOutcome limits (readCosts limits) (costFile (costsIn (c .model))) writesBlocks (c .model) sendersCertificate (c .before ∷ []) ≡ c .expected) costOutcomeCases
+unfolding ifLess ifSame ifTrue allBelow sum sumℤ arriving leaving overTargets overSources beforeMove afterMove internalMove atTarget priceAt priceOfTargets byteAt twoAt threeAt fourAt signedAt twoBytes fourBytes complement priceBytes weightOf automatonOf openFault statesOf actionsOf countOf rangeFault headFault labelFault labelsFault sourceAt actionAt denominatorAt entryCountAt afterTransition fixedFault fixedFaultAt entriesFault transitionFault refuseAt scanTransitions scanModel refuseBytesLeft scanWhole entriesAt transitionAt transitionsAt modelAt readingOf readWhole placeOf firstOf both equalLabels isPair removed refutationCount certificateHeadFault challengerAt defenderAt pricesAt afterRefutation pairFault refutationFault pairsAfter blocksAt numberedFault sameBlock agree pairsFault blocksFault kCountAt afterK wCountAt afterFlow kOf wOf flowAt kFault wFault flowFault byKind plainPriceCount allWithAction allRelated internalInQuestion externalInQuestion plainInQuestion breakFrom firstBreak internalEquationsFault externalEquationsFault plainEquationsFault refuseRecordAt questionsOfPair questionsOfState questionsFrom questions judgeFlows judgeBlocks judgeRefutations judgeCertificate judgeReading judge Each priceWithCost priceAfter costOfLayer layers costEquation costOf costsBytes transitionsEnd costsIn withoutCosts costFault scanCosts scanCostRecord scanCostModel readCosts costPriceCount priceCondition below lastFault internalPricesFault externalPricesFault costPricesFault costEquationFault costEquationsFault sendersFile sendersCertificate stepsFile stepsCertificate stepsMetCertificate laterFile laterCertificate stillFile withPrice costCases refusalIn answerWithoutPlace fileOf judgementAnswer unwritten filledWith filledEach filled judgedOutcome readOutcome pairOutcome costOutcomeCases
 cost-cases = (
   (refl, (refl, (refl, (refl, (refl, (refl, (refl, (refl, (refl, (refl, (refl, (refl, (refl, (refl, (refl, (refl, (refl, (refl, (refl, (refl, (refl, (refl, (refl, (refl, (refl, (refl, (refl, (refl, (refl, tt))))))))))))))))))))))))))))),
   refl,

@@ -4,32 +4,25 @@ use mathlib.Core.Path.{_≡_}
 use mathlib.Core.Logic.{_⊎_}
 use mathlib.Core.List.{List}
 use Rattle.rules.specs.definitions.Limits.{limits}
-use Rattle.rules.specs.definitions.Model.{Model, HoldOneAutomaton}
+use Rattle.rules.specs.definitions.Model.{Model}
 use Rattle.rules.specs.definitions.SoundModel.{Bytes}
-use Rattle.rules.specs.definitions.Judging.{NameSameBlocks}
-use Rattle.rules.specs.definitions.JudgedBy.{plainPairs}
-use Rattle.rules.specs.definitions.Demand3.{InOneBlock, HoldsModel}
-use Rattle.rules.specs.definitions.Answers.{Outcome, writesBlocks}
-use Rattle.rules.specs.definitions.Demands.{AcceptedBy, KeepsRulesOn, outcomeBy, Demands}
+use Rattle.rules.specs.definitions.JudgedBy.{plainPairs, AcceptedBy}
+use Rattle.rules.specs.definitions.Demand3.{InOneBlock}
+use Rattle.rules.specs.definitions.Answers.{writesBlocks}
+use Rattle.rules.specs.definitions.Demands.{KeepsRulesOn, Demands}
 use Rattle.cost_files.specs.definitions.CostModel.{CostFileOf, costsIn, withoutCosts}
-use Rattle.cost_files.specs.definitions.CostReading.{readCosts}
-use Rattle.cost_files.specs.definitions.CostPairs.{costPairs, AcceptedWithCosts}
+use Rattle.cost_files.specs.definitions.CostPairs.{costPairs}
 
--- 'Cost pairs have a judging call of their own, with a block buffer': what it answers, and leaves in the lent buffer
-abbrev pub costOutcome : (model certificate before : List ℕ) → Outcome
-costOutcome model certificate before = outcomeBy (costPairs (costsIn model)) writesBlocks model certificate before
-
--- its numbers: those of document 01's judging, '29, cost above 63', and '30, the cost equation breaks'
+-- 'Cost pairs have a judging call of their own, with a block buffer': what it answers is `outcomeBy costPairs writesBlocks`. Its numbers: those of
+-- document 01's judging, '29, cost above 63', and '30, the cost equation breaks'
 unfoldable pub CostJudgeNumber : ℕ → Type 0
 CostJudgeNumber k = (k ≤ 22) ⊎ ((k ≡ 29) ⊎ (k ≡ 30))
 
--- what it keeps when it answers this number, with these bytes in the lent buffer before and after it
-pub record CostDemands (model certificate before after : List ℕ) (number : ℕ) : Type 0 where
+-- what it keeps when it answers this number, with these bytes in the lent buffers before and after it
+pub record CostDemands (model certificate : List ℕ) (before after : List (List ℕ)) (number : ℕ) : Type 0 where
   -- the demands of every call that judges, by the rule with the costs that stand in the model file
-  pub judged : Demands (costPairs (costsIn model)) writesBlocks CostJudgeNumber model certificate before after number
+  pub judged : Demands costPairs writesBlocks CostJudgeNumber model certificate before after number
   -- these are the costs of the model whose file it is
   pub own : (M : Model) (f : CostFileOf limits model M) → costsIn model ≡ f .costs
-  -- demand 3 of two pairs, each judged with its own costs: a certificate accepted for the same automaton with the same costs has the same blocks
-  pub oneAnswer : (M : Model) (blocks : List ℕ) → KeepsRulesOn (costPairs (costsIn model)) model certificate M blocks → (other certificate₂ blocks₂ : List ℕ) → Bytes other → Bytes certificate₂ → AcceptedWithCosts other certificate₂ blocks₂ → (N : Model) → HoldsModel (readCosts limits) model M → HoldsModel (readCosts limits) other N → HoldOneAutomaton M N → costsIn model ≡ costsIn other → NameSameBlocks blocks blocks₂
   -- 'accepted cost blocks must lie inside the accepted blocks of the same model without costs', of every certificate without costs
-  pub inside : (M : Model) (blocks : List ℕ) → KeepsRulesOn (costPairs (costsIn model)) model certificate M blocks → (plainC plainBlocks : List ℕ) → Bytes plainC → AcceptedBy plainPairs (withoutCosts model) plainC plainBlocks → (s t : ℕ) → InOneBlock blocks s t → InOneBlock plainBlocks s t
+  pub inside : (M : Model) (blocks : List ℕ) → KeepsRulesOn costPairs model certificate M blocks → (plainC plainBlocks : List ℕ) → Bytes plainC → AcceptedBy plainPairs (withoutCosts model) plainC plainBlocks → (s t : ℕ) → InOneBlock blocks s t → InOneBlock plainBlocks s t

@@ -8,15 +8,17 @@ use Rattle.rules.specs.definitions.Limits.{limits}
 use Rattle.rules.specs.definitions.Answers.{Answer, refusalIn, fetchAnswer}
 use Rattle.rules.specs.definitions.Faults.{Fault}
 use Rattle.rules.specs.argument.AnswerLaws.{fetch-inside}
-use Rattle.fetch.specs.Fetched.{answerOf}
+use Rattle.fetch.specs.Fetched.{answerOf, FetchAnswered, fetch-answered}
+use Rattle.answer.specs.declared.Answer as declared
+use Rattle.answer.specs.Answered.{Says}
 use Rattle.answer.specs.AnsweredLaws.{without-as, refusal-as}
 use borrow.Author.Needs.{needs}
 use Rattle.fetch.proofs.fetch_answer.Statement.{statement}
 use Rattle.fetch.proofs.fetch_answer.Tie as tie
 
--- the state that is fetched
-fetched : {a : Answer} (s : List ℕ) (x y : ℕ) → a ≡ fetchAnswer limits s x → x ≡ y → a ≡ fetchAnswer limits s y
-fetched s x y e f = e ∙ ap (fetchAnswer limits s) f
+-- what is answered for a case of the fetch, and the state that is fetched
+told : {a b : Answer} (s : List ℕ) (x y : ℕ) {r : declared.Answer} → Says a 0 r → a ≡ b → b ≡ fetchAnswer limits s x → x ≡ y → FetchAnswered s y r
+told s x y t e f g = fetch-answered s y (record { answer = t .answer ∙ e ∙ f ∙ ap (fetchAnswer limits s) g; wrote = t .wrote })
 
 -- a refusal that a fetch answers is at a place of the model
 placed : (s : List ℕ) (state : ℕ) (f : Fault) (place : ℕ) → refusalIn f 1 place (length s) ≡ fetchAnswer limits s state → place ≤ length s
@@ -45,16 +47,17 @@ refusal-in-requires : tie.Need-refusal-in-requires
 refusal-in-requires c κs = placed _ _ _ _ (sym (ap (answerOf _) (c .before .fetched2 .given .1)) ∙ c .before .before .before .fetch-run .ensures)
 
 returns : tie.Need-returns
-returns c = c .run-from .ensures ∙ sym (ap (answerOf _) (c .before .before .fetched .given .1)) ∙ fetched _ _ _ (c .before .before .before .before .fetch-run .ensures) (omega arith)
+returns c = told _ _ _ (c .run-from .ensures) (sym (ap (answerOf _) (c .before .before .fetched .given .1))) (c .before .before .before .before .fetch-run .ensures) (omega arith)
 
 returns-2 : tie.Need-returns-2
 returns-2 c =
-    without-as 24 0 (c .without-place .ensures) (omega arith) (omega arith)
-    ∙ sym (ap (answerOf _) (c .before .enum-told .given .1))
-    ∙ fetched _ _ _ (c .before .before .before .fetch-run .ensures) (omega arith)
+    told _ _ _ (without-as 24 0 (c .without-place .ensures) (omega arith) (omega arith)) (sym (ap (answerOf _) (c .before .enum-told .given .1)))
+    (c .before .before .before .fetch-run .ensures) (omega arith)
 
 returns-3 : tie.Need-returns-3
-returns-3 c = refusal-as _ 1 _ _ (c .refusal-in .ensures) (omega arith) (omega arith) ∙ sym (ap (answerOf _) (c .before .before .fetched2 .given .1)) ∙ fetched _ _ _ (c .before .before .before .before .fetch-run .ensures) (omega arith)
+returns-3 c =
+    told _ _ _ (refusal-as _ 1 _ _ (c .refusal-in .ensures) (omega arith) (omega arith)) (sym (ap (answerOf _) (c .before .before .fetched2 .given .1)))
+    (c .before .before .before .before .fetch-run .ensures) (omega arith)
 
 pub fetch-answer-spec : {M : Type 1} → statement M
 fetch-answer-spec =

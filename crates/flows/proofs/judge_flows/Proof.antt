@@ -12,7 +12,7 @@ use Rattle.transition.specs.Known.{automatonIn}
 use Rattle.transition.specs.KnownLaws.{known-own, few-states, few-transitions}
 use Rattle.runs.specs.Runs.{Splits}
 use Rattle.runs.specs.RunsLaws.{splits-start, splits-next, end-between}
-use Rattle.flows.specs.Going.{leftStates, leftDefenders, leftRun, Going, going-stops, going-passes, going-left, going-ends, rejected-as, going-at}
+use Rattle.flows.specs.Going.{leftStates, leftDefenders, leftRun, Going, going-stops, going-passes, going-left, going-ends, unaccepted-as, going-at}
 use Rattle.flows.specs.GoingLaws.{going-all, going-state, states-end, going-defender, defenders-end, going-transition, run-ends}
 use Rattle.flows.proofs.judge_flows.Statement.{statement}
 use Rattle.flows.proofs.judge_flows.Tie as tie
@@ -200,7 +200,7 @@ returns c =
     (λ x. absurd (c .if2 .taken (ap (λ (f : Fault). f .number) (x .2) ∙ at-flows .flows .inv .2 .none)))
     (λ x.
     let asked = going-transition (at-flows .flows .state) (x .2 .t) (x .5 .r) (x .4 .result) (omega (arith, x .6)) (x .5 .inv .2) in
-    rejected-as _ _ _ _ _ _ (x .14) (going-stops _ _ _ _ _ _ asked (x .9 .ensures) (λ z. c .if2 .taken (ap (λ (f : Fault). f .number) (x .14) ∙ z))))
+    unaccepted-as _ _ _ _ _ _ (x .14) (going-stops _ _ _ _ _ _ asked (x .9 .ensures) (λ z. c .if2 .taken (ap (λ (f : Fault). f .number) (x .14) ∙ z))))
     (at-flows-test .flows-test .came)
 
 refusal-requires : tie.Need-refusal-requires Inv-loop2 μ-loop2 Inv-loop μ-loop Inv-flows μ-flows

@@ -1,10 +1,9 @@
--- `join_answer` meets its contract: the first model is sound, or refused as file 1.
+-- `join_answer` meets its contract: a model is refused, or the two are joined.
 use native.Mathlib.Omega.{arith}
 use Rattle.rules.specs.definitions.Bytes.{byteAt}
 use Rattle.rules.specs.definitions.SoundModel.{Bytes}
-use Rattle.transition.specs.ModelRead.{refused-told}
-use Rattle.answer.specs.AnsweredLaws.{refusal-as}
-use Rattle.join.specs.JoinLaws.{sound-file, refused-first, with-demands}
+use Rattle.two_models.specs.TwoModelsLaws.{found-both, found-refused}
+use Rattle.join.specs.JoinLaws.{two-sound, two-refused}
 use borrow.Author.Needs.{needs}
 use Rattle.join.proofs.join_answer.Statement.{statement}
 use Rattle.join.proofs.join_answer.Tie as tie
@@ -12,23 +11,17 @@ use Rattle.join.proofs.join_answer.Tie as tie
 no-places-requires : tie.Need-no-places-requires
 no-places-requires c κs = search needs
 
-scan-file-requires : tie.Need-scan-file-requires
-scan-file-requires c κs = search needs
+read-two-requires : tie.Need-read-two-requires
+read-two-requires c κs = search needs
 
-enum-known-scanned : tie.Need-enum-known-scanned
-enum-known-scanned c = search needs
+enum-known-read : tie.Need-enum-known-read
+enum-known-read c = search needs
 
-join-second-requires : tie.Need-join-second-requires
-unfolding Bytes byteAt
-join-second-requires c κs =
-    let scan = c .before .before .before .before .before in
-    (sound-file _ (scan .scan-file .ensures) (c .before .before .before .scanned .given .1) (λ i h. omega (arith, scan .before .before .before .before .before .shared-slice-known .given i)), scan .scan-file .ensures .size)
+join-sound-requires : tie.Need-join-sound-requires
+join-sound-requires c κs = found-both (c .before .before .before .before .before .read-two .ensures) (c .before .before .before .read .given .1)
 
-enum-known-scanned-2 : tie.Need-enum-known-scanned-2
-enum-known-scanned-2 c = search needs
-
-refusal-in-requires : tie.Need-refusal-in-requires
-refusal-in-requires c κs = refused-told _ (c .before .before .before .scan-file .ensures) _ (c .before .scanned2 .given .1) .1
+enum-known-read-2 : tie.Need-enum-known-read-2
+enum-known-read-2 c = search needs
 
 same-length : tie.Need-same-length
 same-length c = search needs
@@ -37,28 +30,26 @@ returns : tie.Need-returns
 unfolding Bytes byteAt
 returns c =
     let joined = c .before .before in
-    let files = joined .before .before .before .before .before .before .before .before .before .before in
-    with-demands _ _ _ _ (λ i h. omega (arith, files .before .shared-slice-known .given i)) (λ i h. omega (arith, files .shared-slice-known2 .given i)) (joined .join-second .ensures)
+    let read = joined .before .before .before .before .before .before in
+    two-sound (λ i h. omega (arith, read .before .before .before .before .before .shared-slice-known .given i)) (λ i h. omega (arith, read .before .before .before .before .shared-slice-known2 .given i)) _
+    (join-sound-requires (joined .before) (joined .join-sound .lifetimes)) (joined .join-sound .ensures)
 
 returns-2 : tie.Need-returns-2
 unfolding Bytes byteAt
 returns-2 c =
-    let scan = c .before .before .before .before in
-    let files = scan .before .before .before .before in
-    let told = refused-told _ (scan .scan-file .ensures) _ (c .before .before .scanned2 .given .1) in
-    with-demands _ _ _ _ (λ i h. omega (arith, files .before .shared-slice-known .given i)) (λ i h. omega (arith, files .shared-slice-known2 .given i))
-    (refused-first _ _ _ _ (told .0) (told .1) (refusal-as _ 1 _ _ (c .refusal-in .ensures) (omega arith) (omega arith)))
+    let read = c .before .before .before in
+    two-refused (λ i h. omega (arith, read .before .before .before .before .before .shared-slice-known .given i)) (λ i h. omega (arith, read .before .before .before .before .shared-slice-known2 .given i)) _
+    (found-refused _ (read .read-two .ensures) (c .before .read2 .given .1))
 
 pub join-answer-spec : {M : Type 1} → statement M
 join-answer-spec =
     tie.close
     (tie.spec
     no-places-requires
-    scan-file-requires
-    enum-known-scanned
-    join-second-requires
-    enum-known-scanned-2
-    refusal-in-requires
+    read-two-requires
+    enum-known-read
+    join-sound-requires
+    enum-known-read-2
     same-length
     returns
     returns-2)

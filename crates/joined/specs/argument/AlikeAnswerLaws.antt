@@ -3,7 +3,7 @@ use Prim.Native.Nat.{ℕ, _+_, _≤_, _<_}
 use mathlib.Core.Path.{_≡_, refl, sym, _∙_, ap, ap₂, subst}
 use mathlib.Core.Logic.{_↔_, _⊎_, inl, inr, ⊎-elim}
 use mathlib.Core.List.{List, []}
-use lib.ListN.{length, drop, getD, length-append, List·getD-append}
+use lib.ListN.{length, getD}
 use native.Mathlib.Omega.{arith}
 use Rattle.bisimulation.specs.definitions.Choice.{ifLess, ifSame, ifTrue}
 use Rattle.bisimulation.specs.argument.ChoiceLaws.{less, notLess, eitherLess, same, notSame, pastLess, keptLess, keptSame}
@@ -14,9 +14,9 @@ use Rattle.rules.specs.definitions.Model.{Model, automatonOf}
 use Rattle.rules.specs.definitions.Reading.{Reading, model, noModel, readWhole}
 use Rattle.rules.specs.definitions.SoundModel.{Bytes}
 use Rattle.rules.specs.definitions.Certificate.{sameBlock}
-use Rattle.rules.specs.definitions.Judging.{Judgement, accepted, rejected, judge}
+use Rattle.rules.specs.definitions.Judging.{Judgement, accepted, refusedIn, judge}
 use Rattle.rules.specs.definitions.Answers as rules
-use Rattle.rules.specs.definitions.Answers.{Outcome, answerWithoutPlace, unwritten, filled, writesBlocks}
+use Rattle.rules.specs.definitions.Answers.{Outcome, answerWithoutPlace, unwritten}
 use Rattle.rules.specs.definitions.Accepted.{Kept, FileOf}
 use Rattle.rules.specs.definitions.PlainSays.{plainSays}
 use Rattle.rules.specs.definitions.JudgedBy.{plainPairs}
@@ -24,9 +24,10 @@ use Rattle.rules.specs.argument.SoundModelLaws.{limits-fit, sound-bytes}
 use Rattle.rules.specs.definitions.Demand3.{InOneBlock, HoldsModel}
 use Rattle.rules.specs.definitions.Demands.{outcomeBy, Accepting}
 use Rattle.rules.specs.argument.AnyRule.{PairRules, pairsOf}
+use Rattle.rules.specs.argument.AnswerLaws.{left-unwritten}
 use Rattle.rules.specs.argument.FaultLaws.{told-fault}
 use Rattle.rules.specs.argument.PairOutcome.{FollowsLaws}
-use Rattle.rules.specs.argument.JudgedFirst.{Roomy, Refused, Found, refused-or-found, found-outcome, judged-refused, refused-answer, judged-found}
+use Rattle.rules.specs.argument.JudgedFirst.{Roomy, Refused, Found, refused-or-found, found-outcome}
 use Rattle.rules.specs.argument.AcceptedExactly.{accepted-exactly}
 use Rattle.rules.specs.argument.Demand3Holds.{one-model, holds-read, facts-of, largest-block-pairs}
 use Rattle.rules.specs.argument.DemandsHold.{plain-refusal, late-numbered}
@@ -67,9 +68,9 @@ pub parts-follow : (x : Named) → FollowsLaws plainRules (testsParts x)
 unfolding unwritten answerWithoutPlace Accepting
 parts-follow x =
     record {
-      numbered = λ N blocks buffer. parts-number (length (N .labels)) x;
-      told = λ N blocks buffer. told-fault _ (⊎-elim (λ z. omega (arith, z)) (λ z. omega (arith, z)) (parts-number (length (N .labels)) x));
-      unwritten = λ N blocks buffer n. refl;
+      numbered = λ N blocks before. parts-number (length (N .labels)) x;
+      told = λ N blocks before. told-fault _ (⊎-elim (λ z. omega (arith, z)) (λ z. omega (arith, z)) (parts-number (length (N .labels)) x));
+      unwritten = λ N blocks before n. left-unwritten (answerWithoutPlace (partsNumber (length (N .labels)) x)) before;
       late = λ k h n z. ⊎-elim (λ w. omega (arith, w, z)) (λ w. omega (arith, w, z)) (plain-refusal k h);
       notTen = omega arith;
     }
@@ -85,11 +86,11 @@ module _ (by : PairRules) (M C : List ℕ) where
   -- no is said of a pair that is refused
   no-said : (x : Named) → Refused by M C → 0 ≡ alikeSays (pairsOf by) x M C
   unfolding alikeSays alikeRead alikeJudged
-  no-said x r = go (by .models .read M) (judge (by .limits) (by .models .read) (by .rule .file) M C) refl
+  no-said x r = go (by .models .read M) (judge (by .limits) (by .models .read) (by .rule M .file) M C) refl
     where
-      go : (a : Reading) (j : Judgement) → judge (by .limits) (by .models .read) (by .rule .file) M C ≡ j → 0 ≡ alikeRead x a j
-      go (model N end) (accepted blocks) e = absurd (r .rejects blocks e)
-      go (model N end) (rejected f file place) e = refl
+      go : (a : Reading) (j : Judgement) → judge (by .limits) (by .models .read) (by .rule M .file) M C ≡ j → 0 ≡ alikeRead x a j
+      go (model N end) (accepted blocks) e = absurd (r .unaccepted blocks e)
+      go (model N end) (refusedIn f file place) e = refl
       go (noModel f place) j e = refl
 
   -- what the call answers and says of an accepted certificate
@@ -97,18 +98,21 @@ module _ (by : PairRules) (M C : List ℕ) where
     abbrev parts : ℕ
     parts = partsNumber (length (a .N .labels)) x
 
-    found-answer : answerWithoutPlace parts 0 ≡ outcomeBy (pairsOf by) (testsParts x) M C [] .answer
+    pub found-parts : unwritten (answerWithoutPlace parts) [] ≡ outcomeBy (pairsOf by) (testsParts x) M C []
+    found-parts = found-outcome by M C (testsParts x) [] (roomy x) a
+
+    found-answer : answerWithoutPlace parts ≡ outcomeBy (pairsOf by) (testsParts x) M C [] .answer
     unfolding unwritten
-    found-answer = ap (λ (o : Outcome). o .answer) (found-outcome by M C (testsParts x) [] (roomy x) a)
+    found-answer = ap (λ (o : Outcome). o .answer) found-parts
 
     found-says : ifSame parts 0 (ifTrue (sameBlock (a .blocks) (x .firstState) (x .secondState)) 1 0) 0 ≡ alikeSays (pairsOf by) x M C
     unfolding alikeSays alikeRead alikeJudged
     found-says = sym (ap₂ (alikeRead x) (a .reads) (a .judged))
 
-    found-parted : (parts ≡ 0 → ⊥) → 0 ≡ alikeSays (pairsOf by) x M C
+    pub found-parted : (parts ≡ 0 → ⊥) → 0 ≡ alikeSays (pairsOf by) x M C
     found-parted n = notSame _ n refl ∙ found-says
 
-    found-said : parts ≡ 0 → ifSame (getD (a .blocks) (x .firstState) 0) (getD (a .blocks) (x .secondState) 0) 1 0 ≡ alikeSays (pairsOf by) x M C
+    pub found-said : parts ≡ 0 → ifSame (getD (a .blocks) (x .firstState) 0) (getD (a .blocks) (x .secondState) 0) 1 0 ≡ alikeSays (pairsOf by) x M C
     unfolding sameBlock ifSame ifTrue
     found-said z = same _ z refl ∙ found-says
 
@@ -117,17 +121,6 @@ module _ (by : PairRules) (M C : List ℕ) where
   unfolding answerWithoutPlace
   alike-refused x n =
       ⊎-elim (λ r. no-said x r) (λ a. found-parted x a (λ z. n (ap (λ (y : rules.Answer). y .number) (sym (found-answer x a)) ∙ z))) (refused-or-found by M C)
-
-  -- no buffer is lent, and nothing is written
-  pub alike-written : (x : Named) → 0 ≡ outcomeBy (pairsOf by) (testsParts x) M C [] .answer .written
-  unfolding unwritten answerWithoutPlace
-  alike-written x =
-      ⊎-elim (λ r. sym (r .wrote) ∙ ap (λ (o : Outcome). o .answer .written) (r .refuses (testsParts x) [] (roomy x))) (λ a. ap (λ (o : Outcome). o .answer .written) (found-outcome by M C (testsParts x) [] (roomy x) a)) (refused-or-found by M C)
-
-  pub alike-buffer : (x : Named) → outcomeBy (pairsOf by) (testsParts x) M C [] .buffer ≡ []
-  unfolding unwritten
-  alike-buffer x =
-      ⊎-elim (λ r. ap (λ (o : Outcome). o .buffer) (sym (r .refuses (testsParts x) [] (roomy x)))) (λ a. ap (λ (o : Outcome). o .buffer) (sym (found-outcome by M C (testsParts x) [] (roomy x) a))) (refused-or-found by M C)
 
   module _ (b : Bytes M) (c : Bytes C) (x : Named) where
     -- said of an accepted certificate where 27 does not refuse: whether the two states share a block
@@ -152,16 +145,16 @@ module _ (by : PairRules) (M C : List ℕ) where
       holds = record { reads = by .models .exactly M N b .1 f }
 
       -- 'yes is said exactly when some symmetric relation that keeps labels and meets the step rule links the two', for sets of pairs
-      alike-pairs : (alikeSays (pairsOf by) x M C ≡ 1) ↔ BisimilarByPairs (by .rule .theory .met) (automatonOf N) (x .firstState) (x .secondState)
+      alike-pairs : (alikeSays (pairsOf by) x M C ≡ 1) ↔ BisimilarByPairs (by .rule M .theory .met) (automatonOf N) (x .firstState) (x .secondState)
       alike-pairs =
           let a = found-of z .0 in
           let s = shares a (found-of z .1) in
           let l = largest-block-pairs by M C (a .blocks) b c (record { answers = a .judged }) in
-          let e = subst (λ (J : Model). InOneBlock (a .blocks) (x .firstState) (x .secondState) ↔ BisimilarByPairs (by .rule .theory .met) (automatonOf J) (x .firstState) (x .secondState)) (one-model by M (l .M) N (l .holds) holds) (l .largest .exactly (x .firstState) (x .secondState)) in
+          let e = subst (λ (J : Model). InOneBlock (a .blocks) (x .firstState) (x .secondState) ↔ BisimilarByPairs (by .rule M .theory .met) (automatonOf J) (x .firstState) (x .secondState)) (one-model by M (l .M) N (l .holds) holds) (l .largest .exactly (x .firstState) (x .secondState)) in
           (λ h. e .0 (s .0 h), λ h. s .1 (e .1 h))
 
       -- and for relations of any kind
-      pub alike-bisimilar : (alikeSays (pairsOf by) x M C ≡ 1) ↔ Bisimilar (by .rule .theory .met) (automatonOf N) (x .firstState) (x .secondState)
+      pub alike-bisimilar : (alikeSays (pairsOf by) x M C ≡ 1) ↔ Bisimilar (by .rule M .theory .met) (automatonOf N) (x .firstState) (x .secondState)
       alike-bisimilar =
           let a = found-of z .0 in
           let s = shares a (found-of z .1) in
@@ -182,45 +175,6 @@ module _ (by : PairRules) (M C : List ℕ) where
           refused = λ n. sym (alike-refused x (λ z. n (e ∙ z)));
           exactly = λ z N f. alike-pairs (sym e ∙ z) N f;
         }
-
-    -- the same by what the call that judges answers and leaves in a block buffer that is long enough for every model
-    module _ (before : List ℕ) (room : by .limits .states ≤ length before) where
-      abbrev judged : Outcome
-      judged = outcomeBy (pairsOf by) writesBlocks M C before
-
-      -- it refuses: with the same answer, and no is said
-      pub alike-unjudged : (judged .answer .number ≡ 0 → ⊥) → (judged .answer ≡ outcomeBy (pairsOf by) (testsParts x) M C [] .answer) × (0 ≡ alikeSays (pairsOf by) x M C)
-      unfolding unwritten
-      alike-unjudged n =
-          let r = judged-refused by M C b before room n in
-          (refused-answer by M C b before room r ∙ ap (λ (o : Outcome). o .answer) (r .refuses (testsParts x) [] (roomy x)), no-said x r)
-
-      -- it accepts: so many blocks stand in the buffer, and they decide
-      pub record Compared (n : ℕ) (buffer : List ℕ) : Type 0 where
-        pub inside : n ≤ length buffer
-        pub answer : answerWithoutPlace (partsNumber n x) 0 ≡ outcomeBy (pairsOf by) (testsParts x) M C [] .answer
-        pub parted : (partsNumber n x ≡ 0 → ⊥) → 0 ≡ alikeSays (pairsOf by) x M C
-        pub said : partsNumber n x ≡ 0 → ifSame (getD buffer (x .firstState) 0) (getD buffer (x .secondState) 0) 1 0 ≡ alikeSays (pairsOf by) x M C
-
-      pub judged-compared : judged .answer .number ≡ 0 → Compared (judged .answer .written) (judged .buffer)
-      unfolding unwritten filled answerWithoutPlace
-      judged-compared z = let f = judged-found by M C b before room z in compared (f .0) (f .1)
-        where
-          compared : (a : Found by M C) → filled (a .blocks) before ≡ judged → Compared (judged .answer .written) (judged .buffer)
-          compared a e =
-              let whole = facts-of by M C (a .blocks) b c (record { answers = a .judged }) (a .N) (holds-read by M b (a .reads)) .whole in
-              let n : length (a .N .labels) ≡ judged .answer .written = sym whole ∙ ap (λ (o : Outcome). o .answer .written) e in
-              let block : (v : ℕ) → v < length (a .N .labels) → getD (judged .buffer) v 0 ≡ getD (a .blocks) v 0 =
-              λ v h. ap (λ (o : Outcome). getD (o .buffer) v 0) (sym e) ∙ List·getD-append (a .blocks) (drop (length (a .blocks)) before) 0 v (omega (arith, h, whole)) in
-              record {
-                inside = omega (arith, ap (λ (o : Outcome). length (o .buffer)) e, length-append (a .blocks) (drop (length (a .blocks)) before), whole, n);
-                answer = ap (λ (k : ℕ). answerWithoutPlace (partsNumber k x) 0) (sym n) ∙ found-answer x a;
-                parted = λ m. found-parted x a (λ z. m (ap (λ (k : ℕ). partsNumber k x) (sym n) ∙ z));
-                said = λ z.
-                    let q = ap (λ (k : ℕ). partsNumber k x) n ∙ z in
-                    let named = parts-named (length (a .N .labels)) x q in
-                    ap₂ (λ (p r : ℕ). ifSame p r 1 0) (block (x .firstState) (named .0)) (block (x .secondState) (named .1)) ∙ found-said x a q;
-              }
 
 -- two designs in one question: where joining two models answers 0 and a certificate is accepted for the file that it wrote, a state of the
 -- first and one of the second are in their parts, and yes is said exactly when they are bisimilar in the joined model

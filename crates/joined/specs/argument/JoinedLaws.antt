@@ -15,6 +15,7 @@ use Rattle.rules.specs.definitions.SoundModel.{Each, Along, sumOver, Transition
 use Rattle.rules.specs.argument.SoundModelLaws.{each-at, each-append, each-map}
 use Rattle.rules.specs.argument.ReadBack.{transitionBytes-length, read-back-whole}
 use Rattle.bisimulation.specs.definitions.Joined.{larger, IsJoined}
+use Rattle.rules.specs.argument.MadeLaws.{Within}
 use Rattle.joined.specs.definitions.Joined.{raisedEntry, raisedTransition, joined, joinedFile}
 
 -- the larger of two is at least each, and one of them
@@ -155,12 +156,6 @@ grown-rules n n′ m m′ le lm t r =
       weights = r .weights;
       whole = r .whole;
     }
-
--- 25 does not refuse: states, transitions and entries of a model are within the limits
-pub record Within (L : Limits) (J : Model) : Type 0 where
-  pub states : length (J .labels) ≤ L .states
-  pub transitions : length (J .transitions) ≤ L .transitions
-  pub entries : entryCount J ≤ L .entries
 
 -- how many states, transitions and entries the joined model has, and how long its file is
 module _ (M N : Model) where

@@ -10,12 +10,12 @@ use Rattle.rules.specs.definitions.Model.{automatonOf}
 use Rattle.rules.specs.definitions.Faults.{fault, firstOf, openFault}
 use Rattle.rules.specs.definitions.Reading.{statesOf, actionsOf, countOf, rangeFault, headFault, labelFault, labelsFault, scanTransitions, refuseAt, scanModel, refuseBytesLeft, scanWhole, transitionsAt, modelAt, readingOf, readWhole}
 use Rattle.rules.specs.definitions.Certificate.{refutationCount, certificateHeadFault, blocksAt, numberedFault, sameBlock, agree, pairsFault, blocksFault}
-use Rattle.rules.specs.definitions.Judging.{rejectAt, questionsOfPair, questionsOfState, questionsFrom, questions, judgeFlows, judgeBlocks, judgeRefutations, judgeCertificate, judgeReading, judge}
+use Rattle.rules.specs.definitions.Judging.{refuseRecordAt, questionsOfPair, questionsOfState, questionsFrom, questions, judgeFlows, judgeBlocks, judgeRefutations, judgeCertificate, judgeReading, judge}
 use Rattle.rules.specs.definitions.SoundModel.{Each}
 use Rattle.rules.specs.definitions.JudgedBy.{plainPairs}
 use Rattle.rules.specs.definitions.Answers.{Outcome, refusalIn, answerWithoutPlace, fileOf, judgementAnswer, unwritten, judgedOutcome, readOutcome, pairOutcome}
 use Rattle.rules.specs.definitions.Demands.{outcomeBy}
-use Rattle.rules.specs.cases.MoreCases.{outcomeOf, blocksOnly}
+use Rattle.rules.specs.cases.MoreCases.{answerAt, blocksOnly}
 use Rattle.joined.specs.definitions.AlikeAnswer.{Named, partsNumber, testsParts, alikeJudged, alikeRead, alikeSays}
 
 -- the first's count and the two states, and the number for a model of 4 states
@@ -63,7 +63,7 @@ one labels blocks size secondState number file place length says =
       blocks = blocks;
       size = size;
       named = record { firstCount = 1; firstState = 0; secondState = secondState };
-      expected = outcomeOf number file place place length 0 [];
+      expected = record { answer = answerAt number file place place length; lent = [] };
       says = says;
     }
 
@@ -81,7 +81,7 @@ alikeCases =
     ∷ []
 
 pub alike-cases : Each (λ (c : PartsCase). partsNumber 4 (c .named) ≡ c .number) partsCases × Each (λ (c : AlikeCase). outcomeBy plainPairs (testsParts (c .named)) (alikeModel (c .labels)) (take (c .size) (blocksOnly (c .blocks))) [] ≡ c .expected) alikeCases × Each (λ (c : AlikeCase). alikeSays plainPairs (c .named) (alikeModel (c .labels)) (take (c .size) (blocksOnly (c .blocks))) ≡ c .says) alikeCases
-unfolding ifLess ifSame ifTrue allBelow equalLabels byteAt twoAt automatonOf openFault firstOf statesOf actionsOf countOf rangeFault headFault labelFault labelsFault scanTransitions refuseAt scanModel refuseBytesLeft scanWhole transitionsAt modelAt readingOf readWhole refutationCount certificateHeadFault blocksAt numberedFault sameBlock agree pairsFault blocksFault rejectAt questionsOfPair questionsOfState questionsFrom questions judgeFlows judgeBlocks judgeRefutations judgeCertificate judgeReading judge Each refusalIn answerWithoutPlace fileOf judgementAnswer unwritten judgedOutcome readOutcome pairOutcome blocksOnly partsNumber alikeJudged alikeRead alikeSays partsCases alikeModel alikeCases
+unfolding ifLess ifSame ifTrue allBelow equalLabels byteAt twoAt automatonOf openFault firstOf statesOf actionsOf countOf rangeFault headFault labelFault labelsFault scanTransitions refuseAt scanModel refuseBytesLeft scanWhole transitionsAt modelAt readingOf readWhole refutationCount certificateHeadFault blocksAt numberedFault sameBlock agree pairsFault blocksFault refuseRecordAt questionsOfPair questionsOfState questionsFrom questions judgeFlows judgeBlocks judgeRefutations judgeCertificate judgeReading judge Each refusalIn answerWithoutPlace fileOf judgementAnswer unwritten judgedOutcome readOutcome pairOutcome blocksOnly partsNumber alikeJudged alikeRead alikeSays partsCases alikeModel alikeCases
 alike-cases = (
   (refl, (refl, (refl, (refl, (refl, (refl, (refl, (refl, (refl, (refl, tt)))))))))),
   (refl, (refl, (refl, (refl, (refl, tt))))),

@@ -3,18 +3,19 @@ use Prim.Native.Nat.{ℕ}
 use mathlib.Core.Path.{_≡_, refl}
 use mathlib.Core.List.{List, [], _∷_, _++_}
 use lib.ListN.{length, take, drop, replicate}
-use Rattle.bisimulation.specs.definitions.Choice.{ifLess, ifSame}
+use Rattle.bisimulation.specs.definitions.Choice.{ifLess, ifSame, ifTrue}
 use Rattle.rules.specs.definitions.Limits.{Limits, limits}
 use Rattle.rules.specs.definitions.Bytes.{byteAt, twoAt, twoBytes}
 use Rattle.rules.specs.definitions.Model.{Model, headBytes, labelsBytes, entriesBytes, transitionBytes, transitionsBytes, modelBytes}
 use Rattle.rules.specs.definitions.Faults.{fault, firstOf, openFault}
 use Rattle.rules.specs.definitions.Reading.{statesOf, actionsOf, countOf, rangeFault, headFault, labelFault, labelsFault, sourceAt, actionAt, denominatorAt, entryCountAt, afterTransition, fixedFault, fixedFaultAt, entriesFault, transitionFault, refuseAt, scanTransitions, scanModel, refuseBytesLeft, scanWhole, entriesAt, transitionAt, transitionsAt, modelAt, readingOf, readWhole}
 use Rattle.rules.specs.definitions.SoundModel.{Each, sumOver}
-use Rattle.rules.specs.definitions.Answers.{Outcome, refusalIn, answerWithoutPlace, unwritten, filled, fileOutcome}
+use Rattle.rules.specs.definitions.Answers.{Outcome, refusalIn, answerWithoutPlace, unwritten, filledWith, filledEach, filled, roomFor, filesOutcome}
+use Rattle.rules.specs.definitions.Made.{passesLimit, madeOutcome, readingsOutcome, twoOutcome}
 use Rattle.rules.specs.cases.MoreCases.{outcomeOf}
 use Rattle.bisimulation.specs.definitions.Joined.{larger}
 use Rattle.joined.specs.definitions.Joined.{raisedEntry, raisedTransition, joined, joinedFile}
-use Rattle.joined.specs.definitions.JoinAnswer.{joinedOutcome, readingsOutcome, joinOutcome}
+use Rattle.joined.specs.definitions.JoinAnswer.{joinOutcome}
 use Rattle.joined.specs.cases.JoinedCases.{firstModel, secondModel}
 
 -- limits, two files, the lent buffer before, and what joining answers and leaves in the buffer
@@ -63,5 +64,5 @@ joinCases =
     ∷ []
 
 pub join-cases : Each (λ (c : JoinCase). joinOutcome (c .within) (readWhole (c .within)) (c .first) (c .second) (c .before) ≡ c .expected) joinCases
-unfolding ifLess ifSame byteAt twoAt twoBytes headBytes labelsBytes entriesBytes transitionBytes transitionsBytes modelBytes firstOf openFault statesOf actionsOf countOf rangeFault headFault labelFault labelsFault sourceAt actionAt denominatorAt entryCountAt afterTransition fixedFault fixedFaultAt entriesFault transitionFault refuseAt scanTransitions scanModel refuseBytesLeft scanWhole entriesAt transitionAt transitionsAt modelAt readingOf readWhole Each sumOver refusalIn answerWithoutPlace unwritten filled fileOutcome raisedEntry raisedTransition larger joined joinedOutcome readingsOutcome joinOutcome firstModel secondModel still joinCases
+unfolding ifLess ifSame ifTrue byteAt twoAt twoBytes headBytes labelsBytes entriesBytes transitionBytes transitionsBytes modelBytes firstOf openFault statesOf actionsOf countOf rangeFault headFault labelFault labelsFault sourceAt actionAt denominatorAt entryCountAt afterTransition fixedFault fixedFaultAt entriesFault transitionFault refuseAt scanTransitions scanModel refuseBytesLeft scanWhole entriesAt transitionAt transitionsAt modelAt readingOf readWhole Each sumOver refusalIn answerWithoutPlace unwritten filledWith filledEach filled roomFor filesOutcome raisedEntry raisedTransition larger joined passesLimit madeOutcome readingsOutcome twoOutcome firstModel secondModel still joinCases
 join-cases = (refl, (refl, (refl, (refl, (refl, (refl, (refl, (refl, (refl, (refl, tt))))))))))

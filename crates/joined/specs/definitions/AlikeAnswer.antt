@@ -10,7 +10,7 @@ use Rattle.bisimulation.specs.definitions.Largest.{BisimilarByPairs}
 use Rattle.rules.specs.definitions.Model.{Model, automatonOf}
 use Rattle.rules.specs.definitions.Reading.{Reading, model, noModel}
 use Rattle.rules.specs.definitions.Certificate.{sameBlock}
-use Rattle.rules.specs.definitions.Judging.{Judgement, accepted, rejected, judge}
+use Rattle.rules.specs.definitions.Judging.{Judgement, accepted, refusedIn, judge}
 use Rattle.rules.specs.definitions.JudgedBy.{JudgedBy}
 use Rattle.rules.specs.definitions.Answers.{answerWithoutPlace, unwritten, Follows, LateNumber}
 use Rattle.rules.specs.definitions.Demands.{KeepsRulesOn}
@@ -42,7 +42,7 @@ abbrev pub testsParts : Named → Follows
 testsParts x =
     record {
       blockRoom = λ N. 0;
-      outcome = λ N blocks buffer. unwritten (answerWithoutPlace (partsNumber (length (N .labels)) x) 0) buffer;
+      outcome = λ N blocks before. unwritten (answerWithoutPlace (partsNumber (length (N .labels)) x)) before;
       late = 27;
     }
 
@@ -50,7 +50,7 @@ testsParts x =
 unfoldable pub alikeJudged : Named → Model → Judgement → ℕ
 alikeJudged x N (accepted blocks) =
     ifSame (partsNumber (length (N .labels)) x) 0 (ifTrue (sameBlock blocks (x .firstState) (x .secondState)) 1 0) 0
-alikeJudged x N (rejected f file place) = 0
+alikeJudged x N (refusedIn f file place) = 0
 
 unfoldable pub alikeRead : Named → Reading → Judgement → ℕ
 alikeRead x (model N end) judged = alikeJudged x N judged
@@ -58,7 +58,7 @@ alikeRead x (noModel f place) judged = 0
 
 -- what the call says
 unfoldable pub alikeSays : JudgedBy → Named → (M C : List ℕ) → ℕ
-alikeSays by x M C = alikeRead x (by .read M) (judge (by .limits) (by .read) (by .file) M C)
+alikeSays by x M C = alikeRead x (by .read M) (judge (by .limits) (by .read) (by .file M) M C)
 
 -- its numbers
 abbrev pub AlikeNumber : ℕ → Type 0
@@ -73,4 +73,4 @@ pub record SaysAlike (by : JudgedBy) (x : Named) (M C : List ℕ) (number said :
   pub refused : (number ≡ 0 → ⊥) → said ≡ 0
   -- 'For an accepted certificate, where 27 does not refuse, yes is said exactly when some symmetric relation that keeps labels and meets the
   -- step rule links the two'; for sets of pairs, as a contract can say it (`alike-bisimilar` has it for relations of any kind)
-  pub exactly : number ≡ 0 → (N : Model) → by .isFile M N → (said ≡ 1) ↔ BisimilarByPairs (by .met) (automatonOf N) (x .firstState) (x .secondState)
+  pub exactly : number ≡ 0 → (N : Model) → by .isFile M N → (said ≡ 1) ↔ BisimilarByPairs (by .met M) (automatonOf N) (x .firstState) (x .secondState)

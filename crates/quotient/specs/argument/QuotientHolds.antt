@@ -22,7 +22,7 @@ use Rattle.quotient.specs.argument.MergedSpelling.{merged-one}
 use Rattle.rules.specs.argument.NumberedBlocks.{accepted-numbered}
 use Rattle.quotient.specs.argument.QuotientLaws.{quotient-sound, merged-reads, merged-length, merged-states, merged-below, merged-label, merged-each}
 
-module _ (L : Limits) (widths : FitsWidths L) (few : L .refutations < 65536) (rule : CertificateRule) where
+module _ (L : Limits) (widths : FitsWidths L) (few : L .refutations < 65536) {numbers : ℕ → Type 0} (rule : CertificateRule numbers) where
   pub merges : Merges L (rule .file)
   unfolding NameSameBlocks
   merges =

@@ -16,8 +16,8 @@ pub merged-follow : FollowsLaws plainRules writesMerged
 merged-follow = file-follow 23 mergedFile (omega arith)
 
 -- the call that reduces answers one of 0 to 9 and 11 to 23
-pub reduce-numbered : (M C buffer : List ℕ) → ReduceNumber (outcomeBy plainPairs writesMerged M C buffer .answer .number)
+pub reduce-numbered : (M C : List ℕ) (before : List (List ℕ)) → ReduceNumber (outcomeBy plainPairs writesMerged M C before .answer .number)
 unfolding ReduceNumber
-reduce-numbered M C buffer =
-    outcome-number plainRules writesMerged merged-follow M C buffer (λ k. (k ≤ 9) ⊎ ((11 ≤ k) × (k ≤ 23))) (inl (omega arith)) (inr (omega arith, omega arith))
+reduce-numbered M C before =
+    outcome-number plainRules writesMerged merged-follow M C before (λ k. (k ≤ 9) ⊎ ((11 ≤ k) × (k ≤ 23))) (inl (omega arith)) (inr (omega arith, omega arith))
     (λ k h. ⊎-elim (λ x. inl x) (λ x. inr (x .0, omega (arith, x .1))) (plain-refusal k h)) (λ N h. absurd (omega arith))

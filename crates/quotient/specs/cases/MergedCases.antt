@@ -15,13 +15,13 @@ use Rattle.rules.specs.definitions.Reading.{statesOf, actionsOf, countOf, range
 use Rattle.rules.specs.definitions.Certificate.{refutationCount, certificateHeadFault, challengerAt, defenderAt, pricesAt, afterRefutation, pairFault, refutationFault, pairsAfter, blocksAt, numberedFault, sameBlock, agree, pairsFault, blocksFault, kCountAt, afterK, wCountAt, afterFlow, kOf, wOf, flowAt, kFault, wFault, flowFault}
 use Rattle.rules.specs.definitions.Faults.{fault, firstOf, openFault}
 use Rattle.rules.specs.definitions.PlainRule.{byKind, plainPriceCount, priceCondition, allWithAction, allRelated, below, lastFault, internalPricesFault, externalPricesFault, plainPricesFault, internalInQuestion, externalInQuestion, plainInQuestion, breakFrom, firstBreak, internalEquationsFault, externalEquationsFault, plainEquationsFault, plainRule}
-use Rattle.rules.specs.definitions.Judging.{Judgement, accepted, rejected, rejectAt, questionsOfPair, questionsOfState, questionsFrom, questions, judgeFlows, judgeBlocks, judgeRefutations, judgeCertificate, judgeReading, judge}
+use Rattle.rules.specs.definitions.Judging.{Judgement, accepted, refusedIn, refuseRecordAt, questionsOfPair, questionsOfState, questionsFrom, questions, judgeFlows, judgeBlocks, judgeRefutations, judgeCertificate, judgeReading, judge}
 use Rattle.rules.specs.definitions.BlockCount.{blockCount}
 use Rattle.quotient.specs.definitions.Quotient.{labelOfBlock, blockLabels, weightToBlock, blockEntries, mergedTransition, fromBlock, sameTransition, isAmong, distinct, byBlock, quotient, mergedFile}
 use Rattle.rules.specs.definitions.SoundModel.{Each}
 use Rattle.rules.specs.cases.Cases.{modelS, certificateS}
 use Rattle.rules.specs.cases.MoreCases.{OutcomeCase, outcomeOf}
-use Rattle.rules.specs.definitions.Answers.{refusalIn, answerWithoutPlace, fileOf, judgementAnswer, unwritten, filled, judgedOutcome, readOutcome, pairOutcome, fileOutcome}
+use Rattle.rules.specs.definitions.Answers.{refusalIn, answerWithoutPlace, fileOf, judgementAnswer, unwritten, filledWith, filledEach, filled, judgedOutcome, readOutcome, pairOutcome, roomFor, filesOutcome}
 use Rattle.quotient.specs.definitions.ReduceAnswer.{writesMerged}
 
 -- S merged: states 0 and 1 are one
@@ -99,6 +99,6 @@ halvesMerged =
     ∷ 0x54 ∷ 0x52 ∷ 0 ∷ 0 ∷ 0 ∷ 4 ∷ 2 ∷ 0 ∷ 0 ∷ 2 ∷ 1 ∷ 0 ∷ 2
     ∷ 0x54 ∷ 0x52 ∷ 0 ∷ 1 ∷ 0 ∷ 2 ∷ 1 ∷ 0 ∷ 0 ∷ 2 ∷ []
 
-pub merged-cases : (mergedFile fourStates (0 ∷ 1 ∷ 0 ∷ 1 ∷ []) ≡ fourMerged) × (mergedFile halves (0 ∷ 1 ∷ 2 ∷ 0 ∷ []) ≡ halvesMerged) × Each (λ (c : OutcomeCase). pairOutcome limits (readWhole limits) plainRule writesMerged modelS (c .certificate) (c .before) ≡ c .expected) reduceCases
-unfolding ifLess ifSame ifTrue allBelow sum sumℤ arriving leaving overTargets overSources beforeMove afterMove internalMove atTarget priceAt priceOfTargets byteAt twoAt threeAt fourAt signedAt weightOf automatonOf openFault statesOf actionsOf countOf rangeFault headFault labelFault labelsFault sourceAt actionAt denominatorAt entryCountAt afterTransition fixedFault fixedFaultAt entriesFault transitionFault refuseAt scanTransitions scanModel refuseBytesLeft scanWhole entriesAt transitionAt transitionsAt modelAt readingOf readWhole firstOf both equalLabels isPair removed refutationCount certificateHeadFault challengerAt defenderAt pricesAt afterRefutation pairFault refutationFault pairsAfter blocksAt numberedFault sameBlock agree pairsFault blocksFault kCountAt afterK wCountAt afterFlow kOf wOf flowAt kFault wFault flowFault byKind plainPriceCount priceCondition allWithAction allRelated below lastFault internalPricesFault externalPricesFault plainPricesFault internalInQuestion externalInQuestion plainInQuestion breakFrom firstBreak internalEquationsFault externalEquationsFault plainEquationsFault rejectAt questionsOfPair questionsOfState questionsFrom questions judgeFlows judgeBlocks judgeRefutations judgeCertificate judgeReading judge modelS certificateS refusalIn answerWithoutPlace fileOf judgementAnswer unwritten filled judgedOutcome readOutcome pairOutcome Each twoBytes headBytes labelsBytes entriesBytes transitionBytes transitionsBytes modelBytes blockCount labelOfBlock blockLabels weightToBlock blockEntries mergedTransition fromBlock sameTransition isAmong distinct byBlock quotient mergedFile fileOutcome mergedS reduceCases fourStates fourMerged halves halvesMerged
+pub merged-cases : (mergedFile fourStates (0 ∷ 1 ∷ 0 ∷ 1 ∷ []) ≡ fourMerged) × (mergedFile halves (0 ∷ 1 ∷ 2 ∷ 0 ∷ []) ≡ halvesMerged) × Each (λ (c : OutcomeCase). pairOutcome limits (readWhole limits) plainRule writesMerged modelS (c .certificate) (c .before ∷ []) ≡ c .expected) reduceCases
+unfolding ifLess ifSame ifTrue allBelow sum sumℤ arriving leaving overTargets overSources beforeMove afterMove internalMove atTarget priceAt priceOfTargets byteAt twoAt threeAt fourAt signedAt weightOf automatonOf openFault statesOf actionsOf countOf rangeFault headFault labelFault labelsFault sourceAt actionAt denominatorAt entryCountAt afterTransition fixedFault fixedFaultAt entriesFault transitionFault refuseAt scanTransitions scanModel refuseBytesLeft scanWhole entriesAt transitionAt transitionsAt modelAt readingOf readWhole firstOf both equalLabels isPair removed refutationCount certificateHeadFault challengerAt defenderAt pricesAt afterRefutation pairFault refutationFault pairsAfter blocksAt numberedFault sameBlock agree pairsFault blocksFault kCountAt afterK wCountAt afterFlow kOf wOf flowAt kFault wFault flowFault byKind plainPriceCount priceCondition allWithAction allRelated below lastFault internalPricesFault externalPricesFault plainPricesFault internalInQuestion externalInQuestion plainInQuestion breakFrom firstBreak internalEquationsFault externalEquationsFault plainEquationsFault refuseRecordAt questionsOfPair questionsOfState questionsFrom questions judgeFlows judgeBlocks judgeRefutations judgeCertificate judgeReading judge modelS certificateS refusalIn answerWithoutPlace fileOf judgementAnswer unwritten filledWith filledEach filled judgedOutcome readOutcome pairOutcome Each twoBytes headBytes labelsBytes entriesBytes transitionBytes transitionsBytes modelBytes blockCount labelOfBlock blockLabels weightToBlock blockEntries mergedTransition fromBlock sameTransition isAmong distinct byBlock quotient mergedFile roomFor filesOutcome mergedS reduceCases fourStates fourMerged halves halvesMerged
 merged-cases = (refl, refl, (refl, (refl, (refl, (refl, tt)))))

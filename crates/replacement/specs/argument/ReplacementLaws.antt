@@ -4,7 +4,7 @@
 use Prim.Native.Nat.{ℕ, _+_, _<_}
 use mathlib.Core.Path.{_≡_, refl, sym, _∙_, ap, subst}
 use mathlib.Core.Logic.{_↔_, inl}
-use mathlib.Core.List.{List, _++_}
+use mathlib.Core.List.{List, [], _∷_, _++_}
 use lib.ListN.{length, take, drop, getD}
 use lib.Seq.{take-append-seam}
 use native.Mathlib.Omega.{arith}
@@ -17,11 +17,11 @@ use Rattle.rules.specs.definitions.SoundModel.{Bytes, SoundModel, FitsWidths}
 use Rattle.quotient.specs.definitions.Quotient.{quotient, mergedFile}
 use Rattle.quotient.specs.definitions.Merged.{MergedModel}
 use Rattle.rules.specs.definitions.Accepted.{FileOf}
-use Rattle.rules.specs.definitions.JudgedBy.{plainPairs}
-use Rattle.rules.specs.definitions.Answers.{Outcome, answerWithoutPlace, fileOutcome, filled}
+use Rattle.rules.specs.definitions.JudgedBy.{plainPairs, AcceptedBy}
+use Rattle.rules.specs.definitions.Answers.{Outcome, leftIn, lengthsOf, filledWith, filledEach, filled, filesOutcome, firstLent}
 use Rattle.quotient.specs.definitions.ReduceAnswer.{writesMerged, ReduceNumber}
 use Rattle.rules.specs.definitions.Demand3.{InOneBlock, HoldsModel}
-use Rattle.rules.specs.definitions.Demands.{AcceptedBy, KeepsRulesOn, outcomeBy, Accepting, Demands}
+use Rattle.rules.specs.definitions.Demands.{KeepsRulesOn, outcomeBy, Accepting, Demands}
 use Rattle.rules.specs.argument.AnyRule.{PairRules, pairsOf}
 use Rattle.rules.specs.argument.SoundModelLaws.{sound-automaton, sound-bytes, limits-fit}
 use Rattle.rules.specs.argument.AnswerLaws.{file-whole, file-fits}
@@ -84,7 +84,7 @@ module _ (L : Limits) (widths : FitsWidths L) (few : L .refutations < 65536) whe
     m : MergedModel L bytes M blocks
     m = merges L widths few plainCertificates .merged bytes C blocks b c a M h
 
-    facts : AcceptedFacts by M blocks
+    facts : AcceptedFacts by bytes M blocks
     facts = facts-of by bytes C blocks b c a M h
 
     below : (s : ℕ) → s < length (M .labels) → block s < length (N .labels)
@@ -129,7 +129,10 @@ module _ (L : Limits) (widths : FitsWidths L) (few : L .refutations < 65536) whe
   merged-replaces = replaces
 
 -- the call that reduces keeps its demands where it keeps those of a call that judges
-module _ (model certificate before after : List ℕ) (number : ℕ) (b : Bytes model) (c : Bytes certificate) (e : number ≡ outcomeBy plainPairs writesMerged model certificate before .answer .number) (d : Demands plainPairs writesMerged ReduceNumber model certificate before after number) where
+module _ (model certificate lent : List ℕ) (after : List (List ℕ)) (number : ℕ) (b : Bytes model) (c : Bytes certificate) (e : number ≡ outcomeBy plainPairs writesMerged model certificate (lent ∷ []) .answer .number) (d : Demands plainPairs writesMerged ReduceNumber model certificate (lent ∷ []) after number) where
+  abbrev before : List (List ℕ)
+  before = lent ∷ []
+
   abbrev o : Outcome
   o = outcomeBy plainPairs writesMerged model certificate before
 
@@ -143,21 +146,24 @@ module _ (model certificate before after : List ℕ) (number : ℕ) (b : Bytes m
     read : HoldsModel (plainPairs .read) model M
     read = holds-of plainRules model certificate blocks b M k
 
-    followed : fileOutcome 23 file before ≡ o
+    followed : filesOutcome 23 (file ∷ []) before ≡ o
     followed = outcome-followed plainRules writesMerged merged-follow model certificate before blocks (read .reads) (accepted .answers) (omega arith)
 
-    whole : filled file before ≡ o
-    whole = file-whole 23 file before (file-fits 23 file before (λ w. omega (arith, w)) (ap (λ (x : Outcome). x .answer .number) followed ∙ sym e ∙ z)) ∙ followed
+    whole : filled (file ∷ []) before ≡ o
+    whole = file-whole 23 file lent (file-fits 23 file lent (λ w. omega (arith, w)) (ap (λ (x : Outcome). x .answer .number) followed ∙ sym e ∙ z)) ∙ followed
 
     -- the bytes written are the merged file
-    wrote : take (o .answer .written) after ≡ file
-    unfolding filled answerWithoutPlace Accepting
+    abbrev written : List ℕ
+    written = take (getD (lengthsOf o) 0 0) (firstLent after)
+
+    wrote : written ≡ file
+    unfolding filled filledEach filledWith Accepting
     wrote =
-        ap (λ (x : Outcome). take (x .answer .written) after) (sym whole)
-        ∙ ap (take (length file)) (d .written (inl z) M blocks k ∙ ap (λ (x : Outcome). x .buffer) (followed ∙ sym whole))
+        ap (λ (x : Outcome). take (getD (lengthsOf x) 0 0) (firstLent after)) (sym whole)
+        ∙ ap (λ (l : List (List ℕ)). take (length file) (firstLent l)) (d .written (inl z) M blocks k ∙ ap leftIn (followed ∙ sym whole))
         ∙ take-append-seam file _
 
-    replacement : HoldsReplacement plainPairs (take (o .answer .written) after) M blocks
+    replacement : HoldsReplacement plainPairs written M blocks
     replacement =
         record {
           N = quotient M blocks;

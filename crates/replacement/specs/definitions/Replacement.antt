@@ -9,10 +9,11 @@ use Rattle.bisimulation.specs.definitions.Largest.{Bisimulation, BisimilarByPai
 use Rattle.rules.specs.definitions.Model.{Model, automatonOf}
 use Rattle.rules.specs.definitions.SoundModel.{Bytes, SoundModel}
 use Rattle.quotient.specs.definitions.Quotient.{quotient}
-use Rattle.rules.specs.definitions.JudgedBy.{JudgedBy, plainPairs}
+use Rattle.rules.specs.definitions.JudgedBy.{JudgedBy, plainPairs, AcceptedBy}
+use Rattle.rules.specs.definitions.Answers.{lengthsOf, firstLent}
 use Rattle.quotient.specs.definitions.ReduceAnswer.{writesMerged, ReduceNumber}
 use Rattle.rules.specs.definitions.Demand3.{InOneBlock, HoldsModel}
-use Rattle.rules.specs.definitions.Demands.{AcceptedBy, KeepsRulesOn, outcomeBy, Demands}
+use Rattle.rules.specs.definitions.Demands.{KeepsRulesOn, outcomeBy, Demands}
 use Rattle.joined.specs.definitions.Joined.{joined, joinedFile}
 use Rattle.joined.specs.definitions.AlikeAnswer.{Named, alikeSays}
 use Rattle.bisimulation.specs.definitions.Beside.{Linked}
@@ -34,11 +35,11 @@ module _ (by : JudgedBy) where
   -- N may be used for M, whose states belong to these blocks
   pub record Replaces (M N : Model) (blocks : List ℕ) : Type 0 where
     -- 'That relation is symmetric, keeps labels and meets the step rule', on N 'beside its original as in K1, without size limits'
-    pub linked : Bisimulation (by .met) (automatonOf (joined M N)) (LinkedBy M N blocks)
+    pub linked : Bisimulation (by .met (joinedFile M N)) (automatonOf (joined M N)) (LinkedBy M N blocks)
     -- each state of N stands for a block
     pub stands : (b : ℕ) → b < length (N .labels) → (s : ℕ) × (s < length (M .labels)) × (getD blocks s 0 ≡ b)
     -- each state of M and the one that stands for its block are linked by some such relation
-    pub bisimilar : (s : ℕ) → s < length (M .labels) → BisimilarByPairs (by .met) (automatonOf (joined M N)) s (standIn M blocks s)
+    pub bisimilar : (s : ℕ) → s < length (M .labels) → BisimilarByPairs (by .met (joinedFile M N)) (automatonOf (joined M N)) s (standIn M blocks s)
     -- for every certificate accepted for the joined file, where it is within the limits, they lie in one block, and K1's alike says yes of them
     pub oneBlock : SoundModel (by .limits) (joined M N) → (certificate shared : List ℕ) → Bytes certificate → AcceptedBy by (joinedFile M N) certificate shared → (s : ℕ) → s < length (M .labels) → InOneBlock shared s (standIn M blocks s)
     pub alike : SoundModel (by .limits) (joined M N) → (certificate shared : List ℕ) → Bytes certificate → AcceptedBy by (joinedFile M N) certificate shared → (s : ℕ) → s < length (M .labels) → alikeSays by (withStandIn M blocks s) (joinedFile M N) certificate ≡ 1
@@ -55,7 +56,7 @@ module _ (by : JudgedBy) where
     pub replaces : Replaces M N blocks
 
 -- what the call that reduces keeps: the demands of a call that judges, and where it answers 0, the bytes that it wrote hold a model that may be
--- used for the original. `written` is the answer's own, since the answer is the outcome's, and `judging` says that there are M and blocks
-pub record ReduceDemands (model certificate before after : List ℕ) (number : ℕ) : Type 0 where
+-- used for the original. The length written is the outcome's, and `judging` says that there are M and blocks
+pub record ReduceDemands (model certificate : List ℕ) (before after : List (List ℕ)) (number : ℕ) : Type 0 where
   pub judging : Demands plainPairs writesMerged ReduceNumber model certificate before after number
-  pub replaces : number ≡ 0 → (M : Model) (blocks : List ℕ) → KeepsRulesOn plainPairs model certificate M blocks → HoldsReplacement plainPairs (take (outcomeBy plainPairs writesMerged model certificate before .answer .written) after) M blocks
+  pub replaces : number ≡ 0 → (M : Model) (blocks : List ℕ) → KeepsRulesOn plainPairs model certificate M blocks → HoldsReplacement plainPairs (take (getD (lengthsOf (outcomeBy plainPairs writesMerged model certificate before)) 0 0) (firstLent after)) M blocks

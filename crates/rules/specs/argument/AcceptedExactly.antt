@@ -16,7 +16,7 @@ use Rattle.rules.specs.argument.SoundModelLaws.{sound-automaton}
 use Rattle.rules.specs.argument.Standing.{IsBytes}
 use Rattle.rules.specs.definitions.Judging.{accepted, judgeReading, judge}
 use Rattle.rules.specs.definitions.Accepted.{Accepted}
-use Rattle.rules.specs.definitions.Demands.{AcceptedBy}
+use Rattle.rules.specs.definitions.JudgedBy.{AcceptedBy}
 use Rattle.rules.specs.argument.CertificateKept.{accepted-kept, kept-accepted}
 
 -- bytes, at every place
@@ -41,25 +41,25 @@ narrow-model L M widths sound =
 module _ (by : PairRules) where
   -- the rules are kept, with these blocks
   abbrev pub AcceptedAs : (bytes C blocks : List ℕ) → Type 0
-  AcceptedAs bytes C blocks = Accepted (by .limits) (by .models .isFile) (by .rule .says) (by .rule .file .mark) bytes C blocks
+  AcceptedAs bytes C blocks = Accepted (by .limits) (by .models .isFile) (by .rule bytes .says) (by .rule bytes .file .mark) bytes C blocks
 
   module _ (bytes C blocks : List ℕ) (isBytes : Bytes bytes) (isC : Bytes C) where
-    judged-accepted : (r : Reading) → by .models .read bytes ≡ r → accepted blocks ≡ judgeReading (by .limits) (by .rule .file) r C → AcceptedAs bytes C blocks
+    judged-accepted : (r : Reading) → by .models .read bytes ≡ r → accepted blocks ≡ judgeReading (by .limits) (by .rule bytes .file) r C → AcceptedAs bytes C blocks
     unfolding judgeReading
     judged-accepted (model M end) q e =
         let whole : by .models .read bytes ≡ model M (length bytes) = q ∙ ap (model M) (by .models .whole bytes M end isBytes q) in
         let file = by .models .exactly bytes M isBytes .0 whole in
         let narrow = narrow-model (by .limits) M (by .widths) (by .models .sound bytes M file) in
-        record { M = M; file = file; kept = accepted-kept (by .limits) (by .rule .file) (by .rule .says) (by .rule .decides) (automatonOf M) narrow C (is-bytes C isC) blocks e }
+        record { M = M; file = file; kept = accepted-kept (by .limits) (by .rule bytes .file) (by .rule bytes .says) (by .rule bytes .decides) (automatonOf M) narrow C (is-bytes C isC) blocks e }
     judged-accepted (noModel f place) q e = let z : _≡_ {A = ℕ} 0 1 = cc in absurd (omega arith)
 
-    accepted-judged : AcceptedAs bytes C blocks → judge (by .limits) (by .models .read) (by .rule .file) bytes C ≡ accepted blocks
+    accepted-judged : AcceptedAs bytes C blocks → judge (by .limits) (by .models .read) (by .rule bytes .file) bytes C ≡ accepted blocks
     unfolding judge judgeReading
     accepted-judged a =
         let read = by .models .exactly bytes (a .M) isBytes .1 (a .file) in
         let narrow = narrow-model (by .limits) (a .M) (by .widths) (by .models .sound bytes (a .M) (a .file)) in
-        ap (λ (r : Reading). judgeReading (by .limits) (by .rule .file) r C) read
-        ∙ sym (kept-accepted (by .limits) (by .rule .file) (by .rule .says) (by .rule .decides) (automatonOf (a .M)) narrow C (by .rule .mark) (by .refutations) (a .kept .certificate) (a .kept .encoded) (a .kept .keeps))
+        ap (λ (r : Reading). judgeReading (by .limits) (by .rule bytes .file) r C) read
+        ∙ sym (kept-accepted (by .limits) (by .rule bytes .file) (by .rule bytes .says) (by .rule bytes .decides) (automatonOf (a .M)) narrow C (by .rule bytes .mark) (by .refutations) (a .kept .certificate) (a .kept .encoded) (a .kept .keeps))
         ∙ ap accepted (a .kept .named)
 
     -- accepted exactly when the rules are kept

@@ -2,19 +2,19 @@
 use Prim.Native.Nat.{ℕ, zero, suc, _+_, _-_, _≤_, _<_}
 use mathlib.Core.Path.{_≡_, refl, sym, _∙_, ap, subst}
 use mathlib.Core.Logic.{inl, inr, ⊎-elim}
-use mathlib.Core.List.{List}
+use mathlib.Core.List.{List, [], _∷_}
 use lib.ListN.{length, length-take, length-drop}
 use lib.IntN.{pos}
 use native.Mathlib.Decide.{decLt}
 use native.Mathlib.Omega.{arith}
-use Rattle.bisimulation.specs.argument.ChoiceLaws.{via, less, notLess, eitherLess}
+use Rattle.bisimulation.specs.argument.ChoiceLaws.{via, less, notLess, eitherLess, eitherTrue, isTrue, isFalse}
 use Rattle.rules.specs.definitions.Limits.{Limits}
 use Rattle.rules.specs.definitions.Model.{Model}
 use Rattle.rules.specs.definitions.Faults.{Fault, faultBy}
 use Rattle.rules.specs.argument.FaultLaws.{Otherwise, Told, told-fault}
 use Rattle.rules.specs.definitions.Reading.{model, Scan, sound, refused, scanWhole, statesOf, countOf, modelAt, readingOf, readWhole, placeOf, sourceAt, firstNotBelow, runFirst, runPast, runStart, runEnd}
 use Rattle.rules.specs.argument.ReadingLaws.{Sound, Tells, whole-tells}
-use Rattle.rules.specs.definitions.Answers.{Answer, refusalIn, answerWithoutPlace, runAnswer, fetchReading, fetchAnswer, Outcome, unwritten, filled, fileOutcome, FetchNumber}
+use Rattle.rules.specs.definitions.Answers.{Answer, refusalIn, answerWithoutPlace, runAnswer, fetchReading, fetchAnswer, Outcome, leftIn, unwritten, filled, roomFor, filesOutcome, FetchNumber}
 
 -- the labels of a sound model are n
 pub labels-length : (s : List ℕ) → 8 + statesOf s ≤ length s → length (modelAt s .labels) ≡ statesOf s
@@ -33,7 +33,7 @@ module _ (L : Limits) (s : List ℕ) (state n m count end : ℕ) (q : sound n m 
   states-told : length (modelAt s .labels) ≡ n
   states-told = labels-length s (omega (arith, told .states, told .labels)) ∙ sym (told .states)
 
-  pub fetch-no-state : n ≤ state → answerWithoutPlace 24 0 ≡ fetchAnswer L s state
+  pub fetch-no-state : n ≤ state → answerWithoutPlace 24 ≡ fetchAnswer L s state
   unfolding fetchAnswer fetchReading readWhole readingOf
   fetch-no-state h =
       via (sym (ap (λ (scan : Scan). fetchReading s state (readingOf s scan)) q))
@@ -149,35 +149,49 @@ read-states L s {N} {end} e = go (scanWhole L s) (whole-tells L s) e
 abbrev pub faultIn : Answer → Fault
 faultIn a = faultBy (a .number) (a .state) (a .remainder)
 
--- a file is written, or there is no room for it
-module _ (short : ℕ) (file buffer : List ℕ) where
-  pub file-short : length buffer < length file → unwritten (answerWithoutPlace short 0) buffer ≡ fileOutcome short file buffer
-  unfolding fileOutcome
-  file-short h = less _ h refl
+-- nothing is written: the buffers are as they were
+pub left-unwritten : (a : Answer) (before : List (List ℕ)) → leftIn (unwritten a before) ≡ before
+unfolding unwritten
+left-unwritten a [] = refl
+left-unwritten a (buffer ∷ before) = ap (λ (l : List (List ℕ)). buffer ∷ l) (left-unwritten a before)
 
-  pub file-whole : length file ≤ length buffer → filled file buffer ≡ fileOutcome short file buffer
-  unfolding fileOutcome
-  file-whole h = notLess _ h refl
-
+-- files are written, or there is no room for one
+module _ (short : ℕ) (files before : List (List ℕ)) where
   -- it answers 0 or that number, and writes on 0 alone
-  pub file-number {κ} : (P : ℕ → Type κ) → P 0 → P short → P (fileOutcome short file buffer .answer .number)
-  unfolding fileOutcome unwritten filled answerWithoutPlace
-  file-number P z s = eitherLess (λ (o : Outcome). P (o .answer .number)) (length buffer) (length file) s z
+  pub files-number {κ} : (P : ℕ → Type κ) → P 0 → P short → P (filesOutcome short files before .answer .number)
+  unfolding filesOutcome unwritten filled answerWithoutPlace
+  files-number P z s = eitherTrue (λ (o : Outcome). P (o .answer .number)) (roomFor files before) z s
 
-  pub file-zero : NoState (fileOutcome short file buffer .answer)
-  unfolding fileOutcome unwritten filled answerWithoutPlace
-  file-zero = eitherLess (λ (o : Outcome). NoState (o .answer)) (length buffer) (length file) (refl, refl) (refl, refl)
+  pub files-zero : NoState (filesOutcome short files before .answer)
+  unfolding filesOutcome unwritten filled answerWithoutPlace
+  files-zero = eitherTrue (λ (o : Outcome). NoState (o .answer)) (roomFor files before) (refl, refl) (refl, refl)
 
-  pub file-told : Otherwise short → Told (faultIn (fileOutcome short file buffer .answer))
-  unfolding fileOutcome unwritten filled answerWithoutPlace
-  file-told o =
-      eitherLess (λ (o : Outcome). Told (faultIn (o .answer))) (length buffer) (length file) (told-fault short o) (told-fault 0 (omega arith))
+  pub files-told : Otherwise short → Told (faultIn (filesOutcome short files before .answer))
+  unfolding filesOutcome unwritten filled answerWithoutPlace
+  files-told o =
+      eitherTrue (λ (o : Outcome). Told (faultIn (o .answer))) (roomFor files before) (told-fault 0 (omega arith)) (told-fault short o)
 
-  pub file-unwritten : (fileOutcome short file buffer .answer .number ≡ 0 → ⊥) → fileOutcome short file buffer .buffer ≡ buffer
-  unfolding fileOutcome unwritten filled answerWithoutPlace
-  file-unwritten = eitherLess (λ (o : Outcome). (o .answer .number ≡ 0 → ⊥) → o .buffer ≡ buffer) (length buffer) (length file) (λ n. refl) (λ n. absurd (n refl))
+  pub files-unwritten : (filesOutcome short files before .answer .number ≡ 0 → ⊥) → leftIn (filesOutcome short files before) ≡ before
+  unfolding filesOutcome filled answerWithoutPlace
+  files-unwritten =
+      eitherTrue (λ (o : Outcome). (o .answer .number ≡ 0 → ⊥) → leftIn o ≡ before) (roomFor files before) (λ n. absurd (n refl)) (λ n. left-unwritten _ before)
 
-  pub file-fits : (short ≡ 0 → ⊥) → fileOutcome short file buffer .answer .number ≡ 0 → length file ≤ length buffer
+  -- it names no file
+  pub files-without {κ} : (P : Answer → Type κ) → ((number : ℕ) → P (answerWithoutPlace number)) → P (filesOutcome short files before .answer)
+  unfolding filesOutcome unwritten filled
+  files-without P h = eitherTrue (λ (o : Outcome). P (o .answer)) (roomFor files before) (h 0) (h short)
+
+-- one file
+module _ (short : ℕ) (file buffer : List ℕ) where
+  pub file-short : length buffer < length file → unwritten (answerWithoutPlace short) (buffer ∷ []) ≡ filesOutcome short (file ∷ []) (buffer ∷ [])
+  unfolding filesOutcome roomFor
+  file-short h = isFalse _ (sym (less _ h refl)) refl
+
+  pub file-whole : length file ≤ length buffer → filled (file ∷ []) (buffer ∷ []) ≡ filesOutcome short (file ∷ []) (buffer ∷ [])
+  unfolding filesOutcome roomFor
+  file-whole h = isTrue _ (sym (notLess _ h refl)) refl
+
+  pub file-fits : (short ≡ 0 → ⊥) → filesOutcome short (file ∷ []) (buffer ∷ []) .answer .number ≡ 0 → length file ≤ length buffer
   unfolding unwritten answerWithoutPlace
   file-fits some z = go (decLt (length buffer) (length file))
     where

@@ -11,7 +11,7 @@ use Rattle.bisimulation.specs.definitions.StepRule.{Flow}
 use Rattle.bisimulation.specs.definitions.Pairs.{Pairs}
 use Rattle.bisimulation.specs.definitions.Rule.{Rule}
 use Rattle.rules.specs.definitions.Limits.{Limits}
-use Rattle.rules.specs.definitions.Model.{Model}
+use Rattle.rules.specs.definitions.Model.{Model, HoldOneAutomaton}
 use Rattle.rules.specs.definitions.SoundModel.{Bytes, SoundModel, FitsWidths}
 use Rattle.rules.specs.definitions.Faults.{Fault, Passes}
 use Rattle.rules.specs.argument.FaultLaws.{Told}
@@ -51,15 +51,14 @@ pub record AnswersOnly (numbers : ℕ → Type 0) (file : FileRule) : Type 0 whe
   pub prices : (A : Automaton) (R : Pairs) (q t : ℕ) (p : ℕ → ℤ) → NoneOr numbers (file .pricesFault A R q t p)
   pub equations : (A : Automaton) (q t : ℕ) (f : Flow) → NoneOr numbers (file .equationsFault A q t f)
 
--- a step rule: what it decides of a certificate file, what it says of a certificate, its theory, and that these agree; which numbers it answers
-pub record CertificateRule : Type 1 where
+-- a step rule that answers these numbers: what it decides of a certificate file, what it says of a certificate, its theory, and that these agree
+pub record CertificateRule (numbers : ℕ → Type 0) : Type 1 where
   pub file : FileRule
   pub mark : file .mark < 65536
   pub says : RuleSays
   pub theory : Rule
   pub decides : Decides file says
   pub covers : Covers theory says
-  pub numbers : ℕ → Type 0
   pub answers : AnswersOnly numbers file
 
 -- model files: how their bytes are read, and which bytes are the file of a model; that these agree; which numbers reading answers
@@ -72,14 +71,18 @@ pub record ModelFiles (L : Limits) : Type 1 where
   pub numbers : ℕ → Type 0
   pub answers : (bytes : List ℕ) (f : Fault) (place : ℕ) → read bytes ≡ noModel f place → (f .number ≡ 0 → ⊥) × numbers (f .number) × (place ≤ length bytes) × Told f
 
--- what a pair of files is judged by
+-- what pairs of files are judged by: the rule of each model file, and when two hold one automaton; these have one rule
 pub record PairRules : Type 1 where
   pub limits : Limits
   pub widths : FitsWidths limits
   -- the count of refutations has 2 bytes
   pub refutations : limits .refutations < 65536
   pub models : ModelFiles limits
-  pub rule : CertificateRule
+  pub numbers : ℕ → Type 0
+  pub rule : (model : List ℕ) → CertificateRule numbers
+  pub oneAutomaton : (model other : List ℕ) → (M N : Model) → Type 0
+  pub holdOne : (model other : List ℕ) (M N : Model) → oneAutomaton model other M N → HoldOneAutomaton M N
+  pub oneRule : (model other : List ℕ) (M N : Model) → oneAutomaton model other M N → rule model ≡ rule other
 
 -- what judging goes by of them
 abbrev pub pairsOf : PairRules → JudgedBy
@@ -88,9 +91,10 @@ pairsOf by =
       limits = by .limits;
       read = by .models .read;
       isFile = by .models .isFile;
-      file = by .rule .file;
-      says = by .rule .says;
-      met = by .rule .theory .met;
+      file = λ model. by .rule model .file;
+      says = λ model. by .rule model .says;
+      met = λ model. by .rule model .theory .met;
+      oneAutomaton = by .oneAutomaton;
     }
 
 -- the refusals of a certificate that every rule has: 11 to 14, 17 to 19 and 22
@@ -99,4 +103,4 @@ AnyCertificateNumber k = ((11 ≤ k) × (k ≤ 14)) ⊎ (((17 ≤ k) × (k ≤ 1
 
 -- a refusal of judging: one of reading the model, of any certificate, or of the rule
 unfoldable pub RefusalOf : PairRules → ℕ → Type 0
-RefusalOf by k = by .models .numbers k ⊎ (AnyCertificateNumber k ⊎ by .rule .numbers k)
+RefusalOf by k = by .models .numbers k ⊎ (AnyCertificateNumber k ⊎ by .numbers k)

@@ -15,7 +15,7 @@ use Rattle.bisimulation.specs.argument.ChoiceLaws.{same, notSame, false-not}
 use Rattle.bisimulation.specs.definitions.StepRule.{Sides, Holds}
 use Rattle.rules.specs.definitions.Faults.{Fault, faultBy, noFault, Passes}
 use Rattle.rules.specs.definitions.PlainRule.{breakFrom}
-use Rattle.rules.specs.definitions.Judging.{rejected, judge}
+use Rattle.rules.specs.definitions.Judging.{refusedIn, judge}
 use Rattle.rules.specs.argument.FaultLaws.{Otherwise, Told, pass-unlessSame}
 use Rattle.rules.specs.argument.AnyRule.{PairRules}
 use Rattle.rules.specs.argument.Numbers.{JudgementNumber, judge-number}
@@ -132,7 +132,7 @@ module _ (number : ℕ) (e : ℕ → Sides) where
       break-cases (λ (f : Fault). (Passes f → ⊥) → FirstBreak number e left v f) left v (λ n. absurd (n refl)) (λ f b n. b)
 
 -- of all refusals of judging, whatever a pair is judged by
-module _ (by : PairRules) (M C : List ℕ) (f : Fault) (file place : ℕ) (e : judge (by .limits) (by .models .read) (by .rule .file) M C ≡ rejected f file place) where
+module _ (by : PairRules) (M C : List ℕ) (f : Fault) (file place : ℕ) (e : judge (by .limits) (by .models .read) (by .rule M .file) M C ≡ refusedIn f file place) where
   told : Told f
   told = subst (JudgementNumber by) e (judge-number by M C) .told
 

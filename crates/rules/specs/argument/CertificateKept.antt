@@ -13,7 +13,7 @@ use Rattle.rules.specs.definitions.Bytes.{twoAt, twoBytes}
 use Rattle.rules.specs.argument.Standing.{Stands, IsBytes, stands-nothing, stands-all, stands-is, stands-both, stands-first, stands-second, stands-at, mark-stands, after-two, rest-of-two, two-is, length-two}
 use Rattle.rules.specs.definitions.Certificate.{FileRule, refutationCount, certificateHeadFault, afterRefutation, pairsAfter, blocksAt, afterFlow}
 use Rattle.rules.specs.definitions.Faults.{Fault, fault, Passes, certificateRecord}
-use Rattle.rules.specs.definitions.Judging.{Judgement, accepted, rejected, rejectAt, Question, questions, judgeFlows, judgeBlocks, judgeRefutations, judgeCertificate}
+use Rattle.rules.specs.definitions.Judging.{Judgement, accepted, refusedIn, refuseRecordAt, Question, questions, judgeFlows, judgeBlocks, judgeRefutations, judgeCertificate}
 use Rattle.rules.specs.definitions.Encoding.{Refutation, FlowRecord, Certificate, listBytes, refutationBytes, blocksBytes, flowBytes, certificateBytes}
 use Rattle.rules.specs.definitions.Accepted.{RuleSays, Kept, GoodRefutations, done, refute, GoodBlocks, GoodFlows, KeepsRules}
 use Rattle.rules.specs.argument.QuestionsLaws.{questions-asked, questions-only}
@@ -22,19 +22,19 @@ use Rattle.rules.specs.argument.FaultLaws.{none-first, first-none, certi
 use Rattle.rules.specs.argument.BlocksRecord.{blocks-good, blocks-stand, blocks-read, blocks-pass}
 use Rattle.rules.specs.argument.FlowRecords.{flowRecordAt, flow-good, flow-stands, flow-after, flow-end, flow-passes}
 
--- acceptance is no rejection, so a record before it has no fault
-pub not-rejected : (blocks : List ℕ) (f : Fault) (file place : ℕ) → accepted blocks ≡ rejected f file place → ⊥
-not-rejected blocks f file place e = let z : _≡_ {A = ℕ} 0 1 = cc in omega arith
+-- acceptance is no refusal, so a record before it has no fault
+pub not-refused : (blocks : List ℕ) (f : Fault) (file place : ℕ) → accepted blocks ≡ refusedIn f file place → ⊥
+not-refused blocks f file place e = let z : _≡_ {A = ℕ} 0 1 = cc in omega arith
 
-pub no-reject : (blocks : List ℕ) (f : Fault) (place : ℕ) (next : Judgement) → accepted blocks ≡ rejectAt f place next → Passes f × (accepted blocks ≡ next)
-unfolding rejectAt
-no-reject blocks f place next e =
-    let k = keptSame next (rejected f 2 place) (f .number) 0 (not-rejected blocks f 2 place) e in
+pub none-refused : (blocks : List ℕ) (f : Fault) (place : ℕ) (next : Judgement) → accepted blocks ≡ refuseRecordAt f place next → Passes f × (accepted blocks ≡ next)
+unfolding refuseRecordAt
+none-refused blocks f place next e =
+    let k = keptSame next (refusedIn f 2 place) (f .number) 0 (not-refused blocks f 2 place) e in
     (k .0, k .1)
 
-go-on : (blocks : List ℕ) (f : Fault) (place : ℕ) (next : Judgement) → Passes f → accepted blocks ≡ next → accepted blocks ≡ rejectAt f place next
-unfolding rejectAt
-go-on blocks f place next e h = same (rejected f 2 place) e h
+go-on : (blocks : List ℕ) (f : Fault) (place : ℕ) (next : Judgement) → Passes f → accepted blocks ≡ next → accepted blocks ≡ refuseRecordAt f place next
+unfolding refuseRecordAt
+go-on blocks f place next e h = same (refusedIn f 2 place) e h
 
 module _ (L : Limits) (file : FileRule) (says : RuleSays) (decides : Decides file says) (A : Automaton) (narrow : Narrow A) (C : List ℕ) where
   -- the flows that stand from a place to the file's end
@@ -48,10 +48,10 @@ module _ (L : Limits) (file : FileRule) (says : RuleSays) (decides : Decides fil
   flows-found : IsBytes C → (R : Pairs) (named blocks : List ℕ) (xs : List Question) (at : ℕ) → at ≤ length C → accepted named ≡ judgeFlows L file A C R blocks xs at → FlowsFound R xs at named blocks
   unfolding judgeFlows listBytes
   flows-found b R named blocks [] at inside e =
-      let p = pastLess (rejected (fault 22) 2 at) (accepted blocks) at (length C) (not-rejected named (fault 22) 2 at) e in
+      let p = pastLess (refusedIn (fault 22) 2 at) (accepted blocks) at (length C) (not-refused named (fault 22) 2 at) e in
       record { fs = []; good = GoodFlows.done; stand = stands-nothing C at inside; last = omega (arith, p .0); named-is = let q = p .1 in cc }
   flows-found b R named blocks (x ∷ xs) at inside e =
-      let p = no-reject named _ at _ e in
+      let p = none-refused named _ at _ e in
       let stands = flow-stands file says decides A narrow C R x at (p .0) b in
       let after = flow-after file says decides A narrow C R x at in
       let r = flows-found b R named blocks xs (afterFlow C at) (omega (arith, stands .inside)) (p .1) in
@@ -96,7 +96,7 @@ module _ (L : Limits) (file : FileRule) (says : RuleSays) (decides : Decides fil
         rest = e ∙ ap (judgeBlocks L file A C R) z;
       }
   refutations-found b named (suc left) R at inside e =
-      let p = no-reject named _ at _ e in
+      let p = none-refused named _ at _ e in
       let stands = refutation-stands file says decides A narrow C R at (p .0) b in
       let after = refutation-after file says decides A narrow C R at (p .0) in
       let x = refutationAt file A C at in
@@ -145,7 +145,7 @@ module _ (L : Limits) (file : FileRule) (says : RuleSays) (decides : Decides fil
   blocks-found : IsBytes C → (R : Pairs) (at : ℕ) (named : List ℕ) → accepted named ≡ judgeBlocks L file A C R at → BlocksFound R at named
   unfolding judgeBlocks
   blocks-found b R at named e =
-      let p = no-reject named _ at _ e in
+      let p = none-refused named _ at _ e in
       let blocks = blocksAt A C at in
       let good = blocks-good A C R at (p .0) in
       let stands = blocks-stand A C R at (p .0) b in
@@ -191,7 +191,7 @@ module _ (L : Limits) (file : FileRule) (says : RuleSays) (decides : Decides fil
   pub accepted-kept : IsBytes C → (blocks : List ℕ) → accepted blocks ≡ judgeCertificate L file A C → Kept L says (file .mark) A C blocks
   unfolding judgeCertificate certificateBytes refutationCount
   accepted-kept b blocks e =
-      let p = no-reject blocks _ 0 _ e in
+      let p = none-refused blocks _ 0 _ e in
       let head = head-passed (p .0) in
       let r = refutations-found b blocks (twoAt C 2) (equalLabels A) 4 (head .whole) (p .1) in
       let f = blocks-found b (r .pairs) (4 + length (listBytes refutationBytes (r .xs))) blocks (r .rest) in

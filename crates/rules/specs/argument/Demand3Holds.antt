@@ -9,16 +9,17 @@ use Rattle.bisimulation.specs.definitions.Pairs.{Pairs}
 use Rattle.bisimulation.specs.definitions.Largest.{LargestBisimulation, Links}
 use Rattle.bisimulation.specs.argument.LargestPairs.{shared, shared-links, largest-pairs}
 use Rattle.bisimulation.specs.argument.Spelling.{oneAnswer}
-use Rattle.rules.specs.argument.AnyRule.{PairRules, pairsOf}
+use Rattle.rules.specs.argument.AnyRule.{CertificateRule, PairRules, pairsOf}
 use Rattle.rules.specs.definitions.Model.{Model, automatonOf, HoldOneAutomaton}
 use Rattle.rules.specs.definitions.SoundModel.{Bytes, SoundModel}
 use Rattle.rules.specs.argument.SoundModelLaws.{sound-automaton}
 use Rattle.rules.specs.definitions.Reading.{model}
 use Rattle.rules.specs.definitions.Judging.{NameSameBlocks}
+use Rattle.rules.specs.definitions.JudgedBy.{AcceptedBy}
 use Rattle.rules.specs.argument.AcceptedExactly.{AcceptedAs, accepted-exactly}
 use Rattle.rules.specs.argument.LargestBlocks.{kept-largest, Numbered, one-numbering}
 use Rattle.rules.specs.definitions.Demand3.{InOneBlock, HoldsModel, Demand3, LargestBlockPairs}
-use Rattle.rules.specs.definitions.Demands.{AcceptedBy, LargestOf}
+use Rattle.rules.specs.definitions.Demands.{LargestOf}
 
 -- a model holds the automaton that it holds
 pub itself : (M : Model) → HoldOneAutomaton M M
@@ -45,23 +46,23 @@ in-one-block blocks s t =
 
 module _ (by : PairRules) where
   -- an accepted certificate's blocks are numbered and whole, and the largest relation
-  pub record AcceptedFacts (M : Model) (blocks : List ℕ) : Type 1 where
+  pub record AcceptedFacts (bytes : List ℕ) (M : Model) (blocks : List ℕ) : Type 1 where
     pub sound : SoundModel (by .limits) M
     pub whole : length blocks ≡ length (M .labels)
     pub numbered : Numbered (length (M .labels)) blocks
-    pub largest : LargestBisimulation (by .rule .theory .met) (automatonOf M) (InOneBlock blocks)
+    pub largest : LargestBisimulation (by .rule bytes .theory .met) (automatonOf M) (InOneBlock blocks)
 
-  facts : (bytes C blocks : List ℕ) (a : AcceptedAs by bytes C blocks) → AcceptedFacts (a .M) blocks
+  facts : (bytes C blocks : List ℕ) (a : AcceptedAs by bytes C blocks) → AcceptedFacts bytes (a .M) blocks
   unfolding automatonOf
   facts bytes C blocks a =
       let k = a .kept .keeps in
       let ok = by .models .sound bytes (a .M) (a .file) in
-      subst (AcceptedFacts (a .M)) (a .kept .named)
+      subst (AcceptedFacts bytes (a .M)) (a .kept .named)
       (record {
         sound = ok;
         whole = k .blocks .whole;
         numbered = record { appears = k .blocks .firstAppearance };
-        largest = kept-largest (by .rule .theory) (by .rule .says) (by .rule .covers) (automatonOf (a .M)) (sound-automaton (by .limits) (a .M) ok) (by .limits) (a .kept .certificate) k;
+        largest = kept-largest (by .rule bytes .theory) (by .rule bytes .says) (by .rule bytes .covers) (automatonOf (a .M)) (sound-automaton (by .limits) (a .M) ok) (by .limits) (a .kept .certificate) k;
       })
 
   -- the model file holds the model
@@ -75,25 +76,27 @@ module _ (by : PairRules) where
   pub holds-read : (bytes : List ℕ) {M : Model} {end : ℕ} → Bytes bytes → by .models .read bytes ≡ model M end → HoldsModel (by .models .read) bytes M
   holds-read bytes {M} {end} b e = record { reads = e ∙ ap (model M) (by .models .whole bytes M end b e) }
 
-  pub facts-of : (bytes C blocks : List ℕ) → Bytes bytes → Bytes C → AcceptedBy (pairsOf by) bytes C blocks → (M : Model) → HoldsModel (by .models .read) bytes M → AcceptedFacts M blocks
+  pub facts-of : (bytes C blocks : List ℕ) → Bytes bytes → Bytes C → AcceptedBy (pairsOf by) bytes C blocks → (M : Model) → HoldsModel (by .models .read) bytes M → AcceptedFacts bytes M blocks
   facts-of bytes C blocks b c a M h =
       let acc = accepted-exactly by bytes C blocks b c .0 a in
-      subst (λ (N : Model). AcceptedFacts N blocks) (one-model bytes (acc .M) M (holds bytes C blocks b acc) h) (facts bytes C blocks acc)
+      subst (λ (N : Model). AcceptedFacts bytes N blocks) (one-model bytes (acc .M) M (holds bytes C blocks b acc) h) (facts bytes C blocks acc)
 
   -- two lists of blocks that are the largest relation of one automaton are one
-  same-blocks : (M N : Model) (b c : List ℕ) → AcceptedFacts M b → AcceptedFacts N c → HoldOneAutomaton M N → b ≡ c
+  same-blocks : (bytes other : List ℕ) (M N : Model) (b c : List ℕ) → AcceptedFacts bytes M b → AcceptedFacts other N c → by .oneAutomaton bytes other M N → b ≡ c
   unfolding HoldOneAutomaton automatonOf
-  same-blocks M N b c x y one =
+  same-blocks bytes other M N b c x y together =
+      let one : HoldOneAutomaton M N = by .holdOne bytes other M N together in
       let n : length (M .labels) ≡ length (N .labels) = one .states in
+      let largest = subst (λ (rule : CertificateRule (by .numbers)). LargestBisimulation (rule .theory .met) (automatonOf N) (InOneBlock c)) (sym (by .oneRule bytes other M N together)) (y .largest) in
       one-numbering (length (M .labels)) b c (x .whole) (omega (arith, y .whole)) (x .numbered) (subst (λ (k : ℕ). Numbered k c) (sym n) (y .numbered))
       (λ v u h l.
-      let e = oneAnswer (by .rule .theory) (sound-automaton (by .limits) M (x .sound)) (sound-automaton (by .limits) N (y .sound)) one (x .largest) (y .largest) v u in (
+      let e = oneAnswer (by .rule bytes .theory) (sound-automaton (by .limits) M (x .sound)) (sound-automaton (by .limits) N (y .sound)) one (x .largest) largest v u in (
         λ p. e .0 (record { first = omega (arith, x .whole); second = omega (arith, x .whole); same = p }) .same,
         λ p. e .1 (record { first = omega (arith, y .whole); second = omega (arith, y .whole); same = p }) .same,
       ))
 
   -- demand 3
-  pub demand3 : Demand3 (by .limits) (by .models .read) (by .rule .file) (by .rule .theory .met)
+  pub demand3 : Demand3 (pairsOf by)
   unfolding NameSameBlocks
   demand3 =
       record {
@@ -101,14 +104,14 @@ module _ (by : PairRules) where
             let acc = accepted-exactly by bytes C blocks b c .0 a in
             record { M = acc .M; holds = holds bytes C blocks b acc; largest = facts bytes C blocks acc .largest };
         oneAnswer = λ bytes₁ C₁ blocks₁ bytes₂ C₂ blocks₂ b₁ c₁ b₂ c₂ a₁ a₂ M₁ M₂ h₁ h₂ one.
-            same-blocks M₁ M₂ blocks₁ blocks₂ (facts-of bytes₁ C₁ blocks₁ b₁ c₁ a₁ M₁ h₁) (facts-of bytes₂ C₂ blocks₂ b₂ c₂ a₂ M₂ h₂) one;
+            same-blocks bytes₁ bytes₂ M₁ M₂ blocks₁ blocks₂ (facts-of bytes₁ C₁ blocks₁ b₁ c₁ a₁ M₁ h₁) (facts-of bytes₂ C₂ blocks₂ b₂ c₂ a₂ M₂ h₂) one;
       }
 
   -- its first clause for sets of pairs, as the contracts say it
-  pub largest-block-pairs : (bytes C blocks : List ℕ) → Bytes bytes → Bytes C → AcceptedBy (pairsOf by) bytes C blocks → LargestBlockPairs (by .models .read) (by .rule .theory .met) bytes blocks
+  pub largest-block-pairs : (bytes C blocks : List ℕ) → Bytes bytes → Bytes C → AcceptedBy (pairsOf by) bytes C blocks → LargestBlockPairs (by .models .read) (by .rule bytes .theory .met) bytes blocks
   largest-block-pairs bytes C blocks b c a =
       let l = demand3 .largest bytes C blocks b c a in
-      record { M = l .M; holds = l .holds; largest = largest-pairs (by .rule .theory) (inOneBlock blocks) (in-one-block blocks) (l .largest) }
+      record { M = l .M; holds = l .holds; largest = largest-pairs (by .rule bytes .theory) (inOneBlock blocks) (in-one-block blocks) (l .largest) }
 
   pub largest-of : (bytes C blocks : List ℕ) → Bytes bytes → Bytes C → AcceptedBy (pairsOf by) bytes C blocks → LargestOf (pairsOf by) bytes blocks
   largest-of bytes C blocks b c a =

@@ -2,21 +2,21 @@
 use Prim.Native.Nat.{ℕ, _≤_, _<_}
 use mathlib.Core.Path.{_≡_, refl, sym, _∙_, ap, subst}
 use mathlib.Core.Logic.{_⊎_, inl, inr, ⊎-elim}
-use mathlib.Core.List.{List, _++_}
+use mathlib.Core.List.{List, [], _∷_, _++_}
 use lib.ListN.{length, take, drop}
 use lib.Seq.{take-append-seam}
 use native.Mathlib.Omega.{arith}
 use Rattle.rules.specs.definitions.Model.{Model, automatonOf}
-use Rattle.rules.specs.definitions.JudgedBy.{plainPairs}
+use Rattle.rules.specs.definitions.JudgedBy.{plainPairs, AcceptedBy}
 use Rattle.rules.specs.definitions.SoundModel.{Bytes}
 use Rattle.rules.specs.definitions.Judging.{accepted, NameSameBlocks}
 use Rattle.rules.specs.argument.AnyRule.{PairRules, RefusalOf, pairsOf}
-use Rattle.rules.specs.definitions.Answers.{Outcome, answerWithoutPlace, filled, Follows, writesBlocks, writesFile, JudgeNumber, LateNumber}
+use Rattle.rules.specs.definitions.Answers.{Outcome, leftIn, answerWithoutPlace, filled, filledEach, filledWith, Follows, firstLent, writesBlocks, writesFile, JudgeNumber, LateNumber}
 use Rattle.rules.specs.definitions.Demand3.{HoldsModel, LargestBlocks}
-use Rattle.rules.specs.definitions.Demands.{AcceptedBy, KeepsRulesOn, LargestOf, outcomeBy, Accepting, Demands}
+use Rattle.rules.specs.definitions.Demands.{KeepsRulesOn, LargestOf, outcomeBy, Accepting, Demands}
 use Rattle.rules.specs.argument.AnyRule.{AnyCertificateNumber}
 use Rattle.rules.specs.argument.FaultLaws.{told-fault}
-use Rattle.rules.specs.argument.AnswerLaws.{file-number, file-told, file-unwritten}
+use Rattle.rules.specs.argument.AnswerLaws.{files-number, files-told, files-unwritten}
 use Rattle.rules.specs.argument.AcceptedExactly.{AcceptedAs, accepted-exactly}
 use Rattle.rules.specs.argument.Demand3Holds.{itself, holds, one-model, holds-read, demand3, largest-of}
 use Rattle.rules.specs.argument.PairOutcome.{FollowsLaws, Followed, outcome-number, outcome-unwritten, outcome-found, outcome-followed}
@@ -35,7 +35,7 @@ module _ (by : PairRules) (model certificate blocks : List ℕ) (b : Bytes model
   pub holds-of : (M : Model) → KeepsRulesOn (pairsOf by) model certificate M blocks → HoldsModel (by .models .read) model M
   holds-of M k = record { reads = by .models .exactly model M b .1 (k .file) }
 
-module _ (by : PairRules) (follows : Follows) (laws : FollowsLaws by follows) (model certificate before after : List ℕ) (number : ℕ) (b : Bytes model) (c : Bytes certificate) (e : number ≡ outcomeBy (pairsOf by) follows model certificate before .answer .number) (left : after ≡ outcomeBy (pairsOf by) follows model certificate before .buffer) where
+module _ (by : PairRules) (follows : Follows) (laws : FollowsLaws by follows) (model certificate : List ℕ) (before after : List (List ℕ)) (number : ℕ) (b : Bytes model) (c : Bytes certificate) (e : number ≡ outcomeBy (pairsOf by) follows model certificate before .answer .number) (left : after ≡ leftIn (outcomeBy (pairsOf by) follows model certificate before)) where
   told : Accepting follows number → Followed by follows laws model certificate before
   told z = outcome-found by follows laws model certificate before (subst (Accepting follows) e z)
 
@@ -45,15 +45,15 @@ module _ (by : PairRules) (follows : Follows) (laws : FollowsLaws by follows) (m
       kept-of by model certificate (f .blocks) b (f .N) (holds-read by model b (f .reads)) (accepted-exactly by model certificate (f .blocks) b c .0 (record { answers = f .judged }))
 
   -- where the rules are kept and there is room, the outcome is what follows
-  kept-outcome : (M : Model) (blocks : List ℕ) → KeepsRulesOn (pairsOf by) model certificate M blocks → follows .blockRoom M ≤ length before → follows .outcome M blocks before ≡ outcomeBy (pairsOf by) follows model certificate before
+  kept-outcome : (M : Model) (blocks : List ℕ) → KeepsRulesOn (pairsOf by) model certificate M blocks → follows .blockRoom M ≤ length (firstLent before) → follows .outcome M blocks before ≡ outcomeBy (pairsOf by) follows model certificate before
   kept-outcome M blocks k room =
       outcome-followed by follows laws model certificate before blocks (holds-of by model certificate blocks b M k .reads) (accepted-exactly by model certificate blocks b c .1 (accepted-of by model certificate blocks b M k) .answers) room
 
-  told-room : Accepting follows number → (M : Model) (blocks : List ℕ) → KeepsRulesOn (pairsOf by) model certificate M blocks → follows .blockRoom M ≤ length before
+  told-room : Accepting follows number → (M : Model) (blocks : List ℕ) → KeepsRulesOn (pairsOf by) model certificate M blocks → follows .blockRoom M ≤ length (firstLent before)
   told-room z M blocks k =
       let t = told z in
       let one : t .found .N ≡ M = one-model by model (t .found .N) M (holds-read by model b (t .found .reads)) (holds-of by model certificate blocks b M k) in
-      subst (λ (N : Model). follows .blockRoom N ≤ length before) one (t .room)
+      subst (λ (N : Model). follows .blockRoom N ≤ length (firstLent before)) one (t .room)
 
   pub demands-hold : (numbers : ℕ → Type 0) → numbers number → Demands (pairsOf by) follows numbers model certificate before after number
   demands-hold numbers known =
@@ -66,22 +66,22 @@ module _ (by : PairRules) (follows : Follows) (laws : FollowsLaws by follows) (m
               subst (Accepting follows) (ap (λ (y : Outcome). y .answer .number) o ∙ sym e) (laws .numbered (x .0) (x .1) before),
         );
         numbered = λ z M blocks k. e ∙ ap (λ (o : Outcome). o .answer .number) (sym (kept-outcome M blocks k (told-room z M blocks k)));
-        written = λ z M blocks k. left ∙ ap (λ (o : Outcome). o .buffer) (sym (kept-outcome M blocks k (told-room z M blocks k)));
+        written = λ z M blocks k. left ∙ ap leftIn (sym (kept-outcome M blocks k (told-room z M blocks k)));
         unwritten = λ n. left ∙ outcome-unwritten by follows laws model certificate before (λ z. n (e ∙ z));
         largest = λ M blocks k. largest-of by model certificate blocks b c (accepted-exactly by model certificate blocks b c .1 (accepted-of by model certificate blocks b M k));
       }
 
 -- demand 3 for relations of any kind, where the rules are kept: that a contract speaks of sets of pairs loses nothing
-pub any-largest : (by : PairRules) (model certificate blocks : List ℕ) → Bytes model → Bytes certificate → (M : Model) → KeepsRulesOn (pairsOf by) model certificate M blocks → LargestBlocks (by .models .read) (by .rule .theory .met) model blocks
+pub any-largest : (by : PairRules) (model certificate blocks : List ℕ) → Bytes model → Bytes certificate → (M : Model) → KeepsRulesOn (pairsOf by) model certificate M blocks → LargestBlocks (by .models .read) (by .rule model .theory .met) model blocks
 any-largest by model certificate blocks b c M k = demand3 by .largest model certificate blocks b c (accepted-exactly by model certificate blocks b c .1 (accepted-of by model certificate blocks b M k))
 
 -- demand 3 of the bytes in the block buffer, where the call that judges answers 0: from its contract alone
-pub judged-largest : (by : PairRules) (numbers : ℕ → Type 0) (model certificate before after : List ℕ) → Bytes model → Demands (pairsOf by) writesBlocks numbers model certificate before after 0 → (M : Model) (blocks : List ℕ) → KeepsRulesOn (pairsOf by) model certificate M blocks → LargestOf (pairsOf by) model (take (length (M .labels)) after)
-unfolding Accepting filled automatonOf
+pub judged-largest : (by : PairRules) (numbers : ℕ → Type 0) (model certificate before after : List ℕ) → Bytes model → Demands (pairsOf by) writesBlocks numbers model certificate (before ∷ []) (after ∷ []) 0 → (M : Model) (blocks : List ℕ) → KeepsRulesOn (pairsOf by) model certificate M blocks → LargestOf (pairsOf by) model (take (length (M .labels)) after)
+unfolding Accepting filled filledEach filledWith automatonOf
 judged-largest by numbers model certificate before after b d M blocks k =
     let whole : length blocks ≡ length (M .labels) = ap length (sym (k .kept .named)) ∙ k .kept .keeps .blocks .whole in
     subst (LargestOf (pairsOf by) model)
-    (sym (ap (take (length (M .labels))) (d .written (inl refl) M blocks k) ∙ ap (λ (n : ℕ). take n (blocks ++ drop (length blocks) before)) (sym whole) ∙ take-append-seam blocks _))
+    (sym (ap (λ (l : List (List ℕ)). take (length (M .labels)) (firstLent l)) (d .written (inl refl) M blocks k) ∙ ap (λ (n : ℕ). take n (blocks ++ drop (length blocks) before)) (sym whole) ∙ take-append-seam blocks _))
     (d .largest M blocks k)
 
 -- what follows acceptance in the calls that judge, whatever by
@@ -89,9 +89,9 @@ pub blocks-follow : {by : PairRules} → FollowsLaws by writesBlocks
 unfolding filled answerWithoutPlace Accepting
 blocks-follow =
     record {
-      numbered = λ N blocks buffer. inl refl;
-      told = λ N blocks buffer. told-fault 0 (omega arith);
-      unwritten = λ N blocks buffer n. absurd (n refl);
+      numbered = λ N blocks before. inl refl;
+      told = λ N blocks before. told-fault 0 (omega arith);
+      unwritten = λ N blocks before n. absurd (n refl);
       late = λ k h n z. n z;
       notTen = omega arith;
     }
@@ -113,24 +113,24 @@ pub file-follow : (short : ℕ) (file : Model → List ℕ → List ℕ) → 22 
 unfolding Accepting
 file-follow short file above =
     record {
-      numbered = λ N blocks buffer. file-number short (file N blocks) buffer (λ (k : ℕ). (k ≡ 0) ⊎ (k ≡ short)) (inl refl) (inr refl);
-      told = λ N blocks buffer. file-told short (file N blocks) buffer (omega arith);
-      unwritten = λ N blocks buffer. file-unwritten short (file N blocks) buffer;
+      numbered = λ N blocks before. files-number short (file N blocks ∷ []) before (λ (k : ℕ). (k ≡ 0) ⊎ (k ≡ short)) (inl refl) (inr refl);
+      told = λ N blocks before. files-told short (file N blocks ∷ []) before (omega arith);
+      unwritten = λ N blocks before. files-unwritten short (file N blocks ∷ []) before;
       late = λ k h n z. ⊎-elim (λ x. omega (arith, x, z)) (λ x. omega (arith, x, z)) (plain-refusal k h);
       notTen = λ z. omega (arith, z);
     }
 
-module _ (M C buffer : List ℕ) where
+module _ (M C : List ℕ) (before : List (List ℕ)) where
   -- the call that judges answers one of 0 to 22
-  pub judge-numbered : JudgeNumber (outcomeBy plainPairs writesBlocks M C buffer .answer .number)
+  pub judge-numbered : JudgeNumber (outcomeBy plainPairs writesBlocks M C before .answer .number)
   unfolding JudgeNumber
   judge-numbered =
-      outcome-number plainRules writesBlocks blocks-follow M C buffer (λ k. k ≤ 22) (omega arith) (omega arith)
+      outcome-number plainRules writesBlocks blocks-follow M C before (λ k. k ≤ 22) (omega arith) (omega arith)
       (λ k h. ⊎-elim (λ x. omega (arith, x)) (λ x. x .1) (plain-refusal k h)) (λ N h. omega arith)
 
   -- a call of document 02 that lends no block buffer: one of 0 to 9, 11 to 22, and its own
-  pub late-numbered : (follows : Follows) → FollowsLaws plainRules follows → ((N : Model) → follows .blockRoom N ≡ 0) → LateNumber (follows .late) (outcomeBy plainPairs follows M C buffer .answer .number)
+  pub late-numbered : (follows : Follows) → FollowsLaws plainRules follows → ((N : Model) → follows .blockRoom N ≡ 0) → LateNumber (follows .late) (outcomeBy plainPairs follows M C before .answer .number)
   unfolding LateNumber
   late-numbered follows laws none =
-      outcome-number plainRules follows laws M C buffer (λ k. (k ≤ 9) ⊎ (((11 ≤ k) × (k ≤ 22)) ⊎ (k ≡ follows .late))) (inl (omega arith)) (inr (inr refl))
+      outcome-number plainRules follows laws M C before (λ k. (k ≤ 9) ⊎ (((11 ≤ k) × (k ≤ 22)) ⊎ (k ≡ follows .late))) (inl (omega arith)) (inr (inr refl))
       (λ k h. ⊎-elim (λ x. inl x) (λ x. inr (inl x)) (plain-refusal k h)) (λ N h. absurd (omega (arith, h, none N)))

@@ -193,7 +193,7 @@ unfolding stretchIn runAnswer answerWithoutPlace
 run-part s start end = go (decLt start end)
   where
     go : Dec (start < end) → stretchIn s (runAnswer start end) ≡ take (end - start) (drop start s)
-    go (yes l) = ap (stretchIn s) (sym (less (answerWithoutPlace 0 0) l refl))
+    go (yes l) = ap (stretchIn s) (sym (less (answerWithoutPlace 0) l refl))
     go (no l) =
         let z : 0 ≡ end - start = omega arith in
         ap (stretchIn s) (sym (notLess _ (omega arith) refl))
@@ -212,7 +212,7 @@ fetched-run L s state M end b e l = go (scanWhole L s) refl (whole-tells L s)
         let k = read-whole-sound L s (modelAt s) last b f in
         let inside : 8 + statesOf s ≤ length s = omega (arith, t .states, t .labels) in
         ap (λ (r : Reading). stretchIn s (fetchReading s state r)) e
-        ∙ ap (stretchIn s) (sym (less (answerWithoutPlace 24 0) l refl))
+        ∙ ap (stretchIn s) (sym (less (answerWithoutPlace 24) l refl))
         ∙ run-part s (runStart s state) (runEnd s state)
         ∙ run-bytes s (countOf s) (follows L s (k .0) inside (k .1)) refl state
         ∙ places

@@ -11,7 +11,7 @@ use Rattle.rules.specs.definitions.Model.{Model}
 use Rattle.rules.specs.definitions.SoundModel.{Bytes}
 use Rattle.rules.specs.definitions.BlockCount.{blockCount}
 use Rattle.rules.specs.definitions.Demand3.{HoldsModel}
-use Rattle.rules.specs.definitions.Demands.{AcceptedBy}
+use Rattle.rules.specs.definitions.JudgedBy.{AcceptedBy}
 use Rattle.rules.specs.argument.AnyRule.{PairRules, pairsOf}
 use Rattle.rules.specs.argument.LargestBlocks.{Numbered}
 use Rattle.rules.specs.argument.Demand3Holds.{facts-of}

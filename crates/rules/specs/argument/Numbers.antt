@@ -19,7 +19,7 @@ use Rattle.rules.specs.definitions.Reading.{Reading, model, noModel}
 use Rattle.rules.specs.definitions.Faults.{Fault, fault, noFault, firstOf, certificateRecord, openFault}
 use Rattle.rules.specs.argument.FaultLaws.{Told, told-fault, either-first, either-open}
 use Rattle.rules.specs.definitions.Certificate.{FileRule, certificateHeadFault, pairFault, refutationFault, numberedFault, pairsFault, blocksFault, kFault, wFault, flowFault}
-use Rattle.rules.specs.definitions.Judging.{Judgement, accepted, rejected, rejectAt, Question, judgeFlows, judgeBlocks, judgeRefutations, judgeCertificate, judgeReading, judge}
+use Rattle.rules.specs.definitions.Judging.{Judgement, accepted, refusedIn, refuseRecordAt, Question, judgeFlows, judgeBlocks, judgeRefutations, judgeCertificate, judgeReading, judge}
 use Rattle.rules.specs.argument.AnyRule.{NoneOr, AnswersOnly, PairRules, AnyCertificateNumber, RefusalOf}
 
 module _ (numbers : ℕ → Type 0) where
@@ -146,35 +146,35 @@ pub record RefusedWith (by : PairRules) (f : Fault) : Type 0 where
 -- the number of a judgement: acceptance, or a refusal that judging has
 abbrev pub JudgementNumber : PairRules → Judgement → Type 0
 JudgementNumber by (accepted blocks) = Unit {0}
-JudgementNumber by (rejected f file place) = RefusedWith by f
+JudgementNumber by (refusedIn f file place) = RefusedWith by f
 
 module _ (by : PairRules) where
-  refused-with : (f : Fault) → (f .number ≡ 0 → ⊥) → Listed (by .rule .numbers) f → RefusedWith by f
+  refused-with : (f : Fault) → (f .number ≡ 0 → ⊥) → Listed (by .numbers) f → RefusedWith by f
   unfolding RefusalOf
   refused-with f n l = record { some = n; number = ⊎-elim (λ z. absurd (n z)) (λ z. inr z) (l .number); told = l .told }
 
-  numbered : (f : Fault) (place : ℕ) (next : Judgement) → Listed (by .rule .numbers) f → JudgementNumber by next → JudgementNumber by (rejectAt f place next)
-  unfolding rejectAt ifSame
+  numbered : (f : Fault) (place : ℕ) (next : Judgement) → Listed (by .numbers) f → JudgementNumber by next → JudgementNumber by (refuseRecordAt f place next)
+  unfolding refuseRecordAt ifSame
   numbered f place next l h = go (eqb (f .number) 0) refl
     where
-      go : (t : Bool) → eqb (f .number) 0 ≡ t → JudgementNumber by (cond t next (rejected f 2 place))
+      go : (t : Bool) → eqb (f .number) 0 ≡ t → JudgementNumber by (cond t next (refusedIn f 2 place))
       go true q = h
       go false q = refused-with f (eqb-false (f .number) 0 q) l
 
-  module _ (A : Automaton) (C : List ℕ) where
-    flows-numbered : (R : Pairs) (blocks : List ℕ) (xs : List Question) (at : ℕ) → JudgementNumber by (judgeFlows (by .limits) (by .rule .file) A C R blocks xs at)
+  module _ (M : List ℕ) (A : Automaton) (C : List ℕ) where
+    flows-numbered : (R : Pairs) (blocks : List ℕ) (xs : List Question) (at : ℕ) → JudgementNumber by (judgeFlows (by .limits) (by .rule M .file) A C R blocks xs at)
     unfolding judgeFlows
-    flows-numbered R blocks [] at = eitherLess (JudgementNumber by) at (length C) (refused-with (fault 22) (omega arith) (left (by .rule .numbers))) tt
-    flows-numbered R blocks (x ∷ xs) at = numbered _ at _ (flow-listed (by .rule .numbers) (by .limits) (by .rule .file) (by .rule .answers) A C R _ _ at) (flows-numbered R blocks xs _)
+    flows-numbered R blocks [] at = eitherLess (JudgementNumber by) at (length C) (refused-with (fault 22) (omega arith) (left (by .numbers))) tt
+    flows-numbered R blocks (x ∷ xs) at = numbered _ at _ (flow-listed (by .numbers) (by .limits) (by .rule M .file) (by .rule M .answers) A C R _ _ at) (flows-numbered R blocks xs _)
 
-    refutations-numbered : (left : ℕ) (R : Pairs) (at : ℕ) → JudgementNumber by (judgeRefutations (by .limits) (by .rule .file) A C left R at)
+    refutations-numbered : (left : ℕ) (R : Pairs) (at : ℕ) → JudgementNumber by (judgeRefutations (by .limits) (by .rule M .file) A C left R at)
     unfolding judgeRefutations judgeBlocks
-    refutations-numbered zero R at = numbered _ at _ (blocks-listed (by .rule .numbers) (by .limits) (by .rule .file) (by .rule .answers) A C R at) (flows-numbered R _ _ _)
-    refutations-numbered (suc left) R at = numbered _ at _ (refutation-listed (by .rule .numbers) (by .limits) (by .rule .file) (by .rule .answers) A C R at) (refutations-numbered left _ _)
+    refutations-numbered zero R at = numbered _ at _ (blocks-listed (by .numbers) (by .limits) (by .rule M .file) (by .rule M .answers) A C R at) (flows-numbered R _ _ _)
+    refutations-numbered (suc left) R at = numbered _ at _ (refutation-listed (by .numbers) (by .limits) (by .rule M .file) (by .rule M .answers) A C R at) (refutations-numbered left _ _)
 
-    pub certificate-numbered : JudgementNumber by (judgeCertificate (by .limits) (by .rule .file) A C)
+    pub certificate-numbered : JudgementNumber by (judgeCertificate (by .limits) (by .rule M .file) A C)
     unfolding judgeCertificate
-    certificate-numbered = numbered _ 0 _ (head-listed (by .rule .numbers) (by .limits) (by .rule .file) (by .rule .answers) A C) (refutations-numbered _ _ 4)
+    certificate-numbered = numbered _ 0 _ (head-listed (by .numbers) (by .limits) (by .rule M .file) (by .rule M .answers) A C) (refutations-numbered _ _ 4)
 
   -- a model that is not read
   pub unread-number : (M : List ℕ) (f : Fault) (place : ℕ) → by .models .read M ≡ noModel f place → RefusedWith by f
@@ -182,10 +182,10 @@ module _ (by : PairRules) where
   unread-number M f place e = let h = by .models .answers M f place e in record { some = h .0; number = inl (h .1); told = h .3 }
 
   -- one of the numbers, on every pair of byte strings
-  pub judge-number : (M C : List ℕ) → JudgementNumber by (judge (by .limits) (by .models .read) (by .rule .file) M C)
+  pub judge-number : (M C : List ℕ) → JudgementNumber by (judge (by .limits) (by .models .read) (by .rule M .file) M C)
   unfolding judge judgeReading
   judge-number M C = go (by .models .read M) refl
     where
-      go : (r : Reading) → by .models .read M ≡ r → JudgementNumber by (judgeReading (by .limits) (by .rule .file) r C)
-      go (model N end) e = certificate-numbered (automatonOf N) C
+      go : (r : Reading) → by .models .read M ≡ r → JudgementNumber by (judgeReading (by .limits) (by .rule M .file) r C)
+      go (model N end) e = certificate-numbered M (automatonOf N) C
       go (noModel f place) e = unread-number M f place e

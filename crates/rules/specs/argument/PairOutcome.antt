@@ -15,42 +15,42 @@ use Rattle.rules.specs.definitions.Faults.{Fault}
 use Rattle.rules.specs.argument.FaultLaws.{Told, told-fault}
 use Rattle.rules.specs.definitions.Reading.{Reading, model, noModel}
 use Rattle.rules.specs.definitions.Certificate.{FileRule}
-use Rattle.rules.specs.definitions.Judging.{Judgement, accepted, rejected, Reader, judgeCertificate, judgeReading, judge}
+use Rattle.rules.specs.definitions.Judging.{Judgement, accepted, refusedIn, Reader, judgeCertificate, judgeReading, judge}
 use Rattle.rules.specs.argument.AnyRule.{PairRules, RefusalOf, pairsOf}
-use Rattle.rules.specs.definitions.Answers.{Outcome, refusalIn, answerWithoutPlace, fileOf, judgementAnswer, unwritten, Follows, judgedOutcome, readOutcome, pairOutcome}
+use Rattle.rules.specs.definitions.Answers.{Outcome, leftIn, refusalIn, answerWithoutPlace, fileOf, judgementAnswer, unwritten, Follows, firstLent, judgedOutcome, readOutcome, pairOutcome}
 use Rattle.rules.specs.definitions.Demands.{outcomeBy, Accepting}
-use Rattle.rules.specs.argument.AnswerLaws.{faultIn}
+use Rattle.rules.specs.argument.AnswerLaws.{faultIn, left-unwritten}
 use Rattle.rules.specs.argument.Numbers.{RefusedWith, JudgementNumber, certificate-numbered, unread-number}
 
-module _ (L : Limits) (read : Reader) (file : FileRule) (follows : Follows) (M C buffer : List ℕ) where
-  by-reading : {r : Reading} → read M ≡ r → pairOutcome L read file follows M C buffer ≡ readOutcome follows M C buffer r (judgeReading L file r C)
+module _ (L : Limits) (read : Reader) (file : FileRule) (follows : Follows) (M C : List ℕ) (before : List (List ℕ)) where
+  by-reading : {r : Reading} → read M ≡ r → pairOutcome L read file follows M C before ≡ readOutcome follows M C before r (judgeReading L file r C)
   unfolding pairOutcome judge
-  by-reading e = ap (λ (r : Reading). readOutcome follows M C buffer r (judgeReading L file r C)) e
+  by-reading e = ap (λ (r : Reading). readOutcome follows M C before r (judgeReading L file r C)) e
 
   -- the model is refused
-  pub outcome-refused : (f : Fault) (place : ℕ) → read M ≡ noModel f place → unwritten (refusalIn f 1 place (length M)) buffer ≡ pairOutcome L read file follows M C buffer
+  pub outcome-refused : (f : Fault) (place : ℕ) → read M ≡ noModel f place → unwritten (refusalIn f 1 place (length M)) before ≡ pairOutcome L read file follows M C before
   unfolding readOutcome
   outcome-refused f place e = sym (by-reading e)
 
   module _ {N : Model} {end : ℕ} (e : read M ≡ model N end) where
     -- 10
-    pub outcome-short : length buffer < follows .blockRoom N → unwritten (answerWithoutPlace 10 0) buffer ≡ pairOutcome L read file follows M C buffer
+    pub outcome-short : length (firstLent before) < follows .blockRoom N → unwritten (answerWithoutPlace 10) before ≡ pairOutcome L read file follows M C before
     unfolding readOutcome
     outcome-short h = less _ h refl ∙ sym (by-reading e)
 
-    pub outcome-judged : follows .blockRoom N ≤ length buffer → judgedOutcome follows M C buffer N (judgeCertificate L file (automatonOf N) C) ≡ pairOutcome L read file follows M C buffer
+    pub outcome-judged : follows .blockRoom N ≤ length (firstLent before) → judgedOutcome follows M C before N (judgeCertificate L file (automatonOf N) C) ≡ pairOutcome L read file follows M C before
     unfolding readOutcome judgeReading
     outcome-judged h = notLess _ h refl ∙ sym (by-reading e)
 
     -- the certificate is refused
-    pub outcome-rejected : (f : Fault) (place : ℕ) → follows .blockRoom N ≤ length buffer → rejected f 2 place ≡ judgeCertificate L file (automatonOf N) C → unwritten (refusalIn f 2 place (length C)) buffer ≡ pairOutcome L read file follows M C buffer
+    pub outcome-unaccepted : (f : Fault) (place : ℕ) → follows .blockRoom N ≤ length (firstLent before) → refusedIn f 2 place ≡ judgeCertificate L file (automatonOf N) C → unwritten (refusalIn f 2 place (length C)) before ≡ pairOutcome L read file follows M C before
     unfolding judgedOutcome judgementAnswer fileOf
-    outcome-rejected f place h j = ap (judgedOutcome follows M C buffer N) j ∙ outcome-judged h
+    outcome-unaccepted f place h j = ap (judgedOutcome follows M C before N) j ∙ outcome-judged h
 
     -- it is accepted
-    pub outcome-accepted : (blocks : List ℕ) → follows .blockRoom N ≤ length buffer → accepted blocks ≡ judgeCertificate L file (automatonOf N) C → follows .outcome N blocks buffer ≡ pairOutcome L read file follows M C buffer
+    pub outcome-accepted : (blocks : List ℕ) → follows .blockRoom N ≤ length (firstLent before) → accepted blocks ≡ judgeCertificate L file (automatonOf N) C → follows .outcome N blocks before ≡ pairOutcome L read file follows M C before
     unfolding judgedOutcome
-    outcome-accepted blocks h j = ap (judgedOutcome follows M C buffer N) j ∙ outcome-judged h
+    outcome-accepted blocks h j = ap (judgedOutcome follows M C before N) j ∙ outcome-judged h
 
 -- the model is read and the certificate accepted
 pub record AcceptedModel (L : Limits) (read : Reader) (file : FileRule) (M C : List ℕ) : Type 0 where
@@ -62,74 +62,73 @@ pub record AcceptedModel (L : Limits) (read : Reader) (file : FileRule) (M C : L
 
 -- what follows acceptance answers 0 and the late number alone, tells as K2 says, and writes on 0 alone; the late number is no other refusal of the call
 pub record FollowsLaws (by : PairRules) (follows : Follows) : Type 0 where
-  pub numbered : (N : Model) (blocks buffer : List ℕ) → Accepting follows (follows .outcome N blocks buffer .answer .number)
-  pub told : (N : Model) (blocks buffer : List ℕ) → Told (faultIn (follows .outcome N blocks buffer .answer))
-  pub unwritten : (N : Model) (blocks buffer : List ℕ) → (follows .outcome N blocks buffer .answer .number ≡ 0 → ⊥) → follows .outcome N blocks buffer .buffer ≡ buffer
+  pub numbered : (N : Model) (blocks : List ℕ) (before : List (List ℕ)) → Accepting follows (follows .outcome N blocks before .answer .number)
+  pub told : (N : Model) (blocks : List ℕ) (before : List (List ℕ)) → Told (faultIn (follows .outcome N blocks before .answer))
+  pub unwritten : (N : Model) (blocks : List ℕ) (before : List (List ℕ)) → (follows .outcome N blocks before .answer .number ≡ 0 → ⊥) → leftIn (follows .outcome N blocks before) ≡ before
   pub late : (k : ℕ) → RefusalOf by k → (k ≡ 0 → ⊥) → k ≡ follows .late → ⊥
   pub notTen : follows .late ≡ 10 → ⊥
 
-module _ (by : PairRules) (follows : Follows) (laws : FollowsLaws by follows) (M C buffer : List ℕ) where
+module _ (by : PairRules) (follows : Follows) (laws : FollowsLaws by follows) (M C : List ℕ) (before : List (List ℕ)) where
   abbrev numberOf : Outcome → ℕ
   numberOf o = o .answer .number
 
   -- the cases of an outcome: reading refuses, 10, judging refuses, or acceptance with what follows
   pub outcome-cases {κ} : (P : Outcome → Type κ)
-      → ((f : Fault) (file place : ℕ) → RefusedWith by f → P (unwritten (refusalIn f file place (length (fileOf (M ∷ C ∷ []) file))) buffer))
-      → ((N : Model) → length buffer < follows .blockRoom N → P (unwritten (answerWithoutPlace 10 0) buffer))
-      → ((N : Model) (end : ℕ) (blocks : List ℕ) → by .models .read M ≡ model N end → follows .blockRoom N ≤ length buffer → accepted blocks ≡ judgeCertificate (by .limits) (by .rule .file) (automatonOf N) C → P (follows .outcome N blocks buffer))
-      → P (outcomeBy (pairsOf by) follows M C buffer)
+      → ((f : Fault) (file place : ℕ) → RefusedWith by f → P (unwritten (refusalIn f file place (length (fileOf (M ∷ C ∷ []) file))) before))
+      → ((N : Model) → length (firstLent before) < follows .blockRoom N → P (unwritten (answerWithoutPlace 10) before))
+      → ((N : Model) (end : ℕ) (blocks : List ℕ) → by .models .read M ≡ model N end → follows .blockRoom N ≤ length (firstLent before) → accepted blocks ≡ judgeCertificate (by .limits) (by .rule M .file) (automatonOf N) C → P (follows .outcome N blocks before))
+      → P (outcomeBy (pairsOf by) follows M C before)
   unfolding fileOf
   outcome-cases P refuses short follow = by-model (by .models .read M) refl
     where
-      by-judgement : (N : Model) (end : ℕ) → by .models .read M ≡ model N end → follows .blockRoom N ≤ length buffer → (j : Judgement) → j ≡ judgeCertificate (by .limits) (by .rule .file) (automatonOf N) C → JudgementNumber by j → P (judgedOutcome follows M C buffer N j)
+      by-judgement : (N : Model) (end : ℕ) → by .models .read M ≡ model N end → follows .blockRoom N ≤ length (firstLent before) → (j : Judgement) → j ≡ judgeCertificate (by .limits) (by .rule M .file) (automatonOf N) C → JudgementNumber by j → P (judgedOutcome follows M C before N j)
       by-judgement N end e room (accepted blocks) q h = unfold judgedOutcome in follow N end blocks e room q
-      by-judgement N end e room (rejected f file place) q h = unfold judgedOutcome judgementAnswer in refuses f file place h
+      by-judgement N end e room (refusedIn f file place) q h = unfold judgedOutcome judgementAnswer in refuses f file place h
 
-      by-room : (N : Model) (end : ℕ) → by .models .read M ≡ model N end → Dec (length buffer < follows .blockRoom N) → P (outcomeBy (pairsOf by) follows M C buffer)
-      by-room N end e (yes l) = subst P (outcome-short (by .limits) (by .models .read) (by .rule .file) follows M C buffer e l) (short N l)
+      by-room : (N : Model) (end : ℕ) → by .models .read M ≡ model N end → Dec (length (firstLent before) < follows .blockRoom N) → P (outcomeBy (pairsOf by) follows M C before)
+      by-room N end e (yes l) = subst P (outcome-short (by .limits) (by .models .read) (by .rule M .file) follows M C before e l) (short N l)
       by-room N end e (no l) =
-          subst P (outcome-judged (by .limits) (by .models .read) (by .rule .file) follows M C buffer e (omega arith))
-          (by-judgement N end e (omega arith) _ refl (certificate-numbered by (automatonOf N) C))
+          subst P (outcome-judged (by .limits) (by .models .read) (by .rule M .file) follows M C before e (omega arith))
+          (by-judgement N end e (omega arith) _ refl (certificate-numbered by M (automatonOf N) C))
 
-      by-model : (r : Reading) → by .models .read M ≡ r → P (outcomeBy (pairsOf by) follows M C buffer)
-      by-model (model N end) e = by-room N end e (decLt (length buffer) (follows .blockRoom N))
+      by-model : (r : Reading) → by .models .read M ≡ r → P (outcomeBy (pairsOf by) follows M C before)
+      by-model (model N end) e = by-room N end e (decLt (length (firstLent before)) (follows .blockRoom N))
       by-model (noModel f place) e =
-          subst P (outcome-refused (by .limits) (by .models .read) (by .rule .file) follows M C buffer f place e) (refuses f 1 place (unread-number by M f place e))
+          subst P (outcome-refused (by .limits) (by .models .read) (by .rule M .file) follows M C before f place e) (refuses f 1 place (unread-number by M f place e))
 
   -- its number: 0, the late one, a refusal of judging, or 10 where a block buffer is lent
-  pub outcome-number : (P : ℕ → Type 0) → P 0 → P (follows .late) → ((k : ℕ) → RefusalOf by k → P k) → ((N : Model) → length buffer < follows .blockRoom N → P 10) → P (numberOf (outcomeBy (pairsOf by) follows M C buffer))
+  pub outcome-number : (P : ℕ → Type 0) → P 0 → P (follows .late) → ((k : ℕ) → RefusalOf by k → P k) → ((N : Model) → length (firstLent before) < follows .blockRoom N → P 10) → P (numberOf (outcomeBy (pairsOf by) follows M C before))
   unfolding unwritten refusalIn answerWithoutPlace Accepting
   outcome-number P zero late refusal ten =
       outcome-cases (λ o. P (numberOf o))
       (λ f file place h. refusal (f .number) (h .number))
       (λ N h. ten N h)
-      (λ N end blocks e room q. ⊎-elim (λ z. subst P (sym z) zero) (λ z. subst P (sym z) late) (laws .numbered N blocks buffer))
+      (λ N end blocks e room q. ⊎-elim (λ z. subst P (sym z) zero) (λ z. subst P (sym z) late) (laws .numbered N blocks before))
 
   -- what its state and remainder tell
-  pub outcome-told : Told (faultIn (outcomeBy (pairsOf by) follows M C buffer .answer))
+  pub outcome-told : Told (faultIn (outcomeBy (pairsOf by) follows M C before .answer))
   unfolding unwritten refusalIn answerWithoutPlace
   outcome-told =
       outcome-cases (λ o. Told (faultIn (o .answer)))
       (λ f file place h. h .told)
       (λ N h. told-fault 10 (omega arith))
-      (λ N end blocks e room q. laws .told N blocks buffer)
+      (λ N end blocks e room q. laws .told N blocks before)
 
-  -- a refusal leaves the buffer as it was
-  pub outcome-unwritten : (numberOf (outcomeBy (pairsOf by) follows M C buffer) ≡ 0 → ⊥) → outcomeBy (pairsOf by) follows M C buffer .buffer ≡ buffer
-  unfolding unwritten
+  -- a refusal leaves the buffers as they were
+  pub outcome-unwritten : (numberOf (outcomeBy (pairsOf by) follows M C before) ≡ 0 → ⊥) → leftIn (outcomeBy (pairsOf by) follows M C before) ≡ before
   outcome-unwritten =
-      outcome-cases (λ o. (numberOf o ≡ 0 → ⊥) → o .buffer ≡ buffer)
-      (λ f file place h n. refl)
-      (λ N h n. refl)
-      (λ N end blocks e room q n. laws .unwritten N blocks buffer n)
+      outcome-cases (λ o. (numberOf o ≡ 0 → ⊥) → leftIn o ≡ before)
+      (λ f file place h n. left-unwritten _ before)
+      (λ N h n. left-unwritten _ before)
+      (λ N end blocks e room q n. laws .unwritten N blocks before n)
 
   -- an accepted pair with room: its outcome is what follows
   pub record Followed : Type 0 where
-    pub found : AcceptedModel (by .limits) (by .models .read) (by .rule .file) M C
-    pub room : follows .blockRoom (found .N) ≤ length buffer
+    pub found : AcceptedModel (by .limits) (by .models .read) (by .rule M .file) M C
+    pub room : follows .blockRoom (found .N) ≤ length (firstLent before)
 
   -- where its number tells of acceptance
-  pub outcome-found : Accepting follows (numberOf (outcomeBy (pairsOf by) follows M C buffer)) → Followed
+  pub outcome-found : Accepting follows (numberOf (outcomeBy (pairsOf by) follows M C before)) → Followed
   unfolding unwritten refusalIn answerWithoutPlace Accepting judge judgeReading
   outcome-found =
       outcome-cases (λ o. (numberOf o ≡ 0) ⊎ (numberOf o ≡ follows .late) → Followed)
@@ -137,12 +136,12 @@ module _ (by : PairRules) (follows : Follows) (laws : FollowsLaws by follows) (M
       (λ N h z. absurd (⊎-elim (λ x. omega (arith, x)) (λ x. laws .notTen (sym x)) z))
       (λ N end blocks e room q z.
       record {
-        found = record { N = N; end = end; reads = e; blocks = blocks; judged = ap (λ (r : Reading). judgeReading (by .limits) (by .rule .file) r C) e ∙ sym q };
+        found = record { N = N; end = end; reads = e; blocks = blocks; judged = ap (λ (r : Reading). judgeReading (by .limits) (by .rule M .file) r C) e ∙ sym q };
         room = room;
       })
 
   -- and an accepted pair with room has that outcome
-  pub outcome-followed : {N : Model} {end : ℕ} (blocks : List ℕ) → by .models .read M ≡ model N end → judge (by .limits) (by .models .read) (by .rule .file) M C ≡ accepted blocks → follows .blockRoom N ≤ length buffer → follows .outcome N blocks buffer ≡ outcomeBy (pairsOf by) follows M C buffer
+  pub outcome-followed : {N : Model} {end : ℕ} (blocks : List ℕ) → by .models .read M ≡ model N end → judge (by .limits) (by .models .read) (by .rule M .file) M C ≡ accepted blocks → follows .blockRoom N ≤ length (firstLent before) → follows .outcome N blocks before ≡ outcomeBy (pairsOf by) follows M C before
   unfolding judge judgeReading
   outcome-followed blocks e q room =
-      outcome-accepted (by .limits) (by .models .read) (by .rule .file) follows M C buffer e blocks room (sym q ∙ ap (λ (r : Reading). judgeReading (by .limits) (by .rule .file) r C) e)
+      outcome-accepted (by .limits) (by .models .read) (by .rule M .file) follows M C before e blocks room (sym q ∙ ap (λ (r : Reading). judgeReading (by .limits) (by .rule M .file) r C) e)

@@ -9,7 +9,8 @@ use Rattle.rules.specs.definitions.PlainRule.{plainRule}
 use Rattle.rules.specs.definitions.PlainSays.{plainSays}
 use Rattle.rules.specs.definitions.Judging.{AcceptedFor}
 use Rattle.rules.specs.definitions.Accepted.{FileOf, Accepted}
-use Rattle.rules.specs.definitions.Demand3.{PlainDemand3}
+use Rattle.rules.specs.definitions.Demand3.{Demand3}
+use Rattle.rules.specs.definitions.JudgedBy.{plainPairs}
 use Rattle.rules.specs.argument.AcceptedExactly.{accepted-exactly}
 use Rattle.rules.specs.argument.Demand3Holds.{demand3}
 use Rattle.rules.specs.argument.PlainRules.{plainRules}
@@ -19,5 +20,5 @@ pub plain-accepted : (bytes C blocks : List ℕ) → Bytes bytes → Bytes C →
 plain-accepted = accepted-exactly plainRules
 
 -- demand 3
-pub plain-demand3 : PlainDemand3
+pub plain-demand3 : Demand3 plainPairs
 plain-demand3 = demand3 plainRules

@@ -16,6 +16,7 @@ use Rattle.bisimulation.specs.definitions.Prices.{Side, priceAt, priceOfTargets
 use Rattle.bisimulation.specs.definitions.Pairs.{Pairs}
 use Rattle.bisimulation.specs.argument.Plain.{plain}
 use Rattle.rules.specs.definitions.Limits.{Limits, limits}
+use Rattle.rules.specs.definitions.Model.{HoldOneAutomaton}
 use Rattle.rules.specs.definitions.SoundModel.{FitsWidths}
 use Rattle.rules.specs.argument.SoundModelLaws.{limits-fit}
 use Rattle.rules.specs.definitions.Faults.{Fault, faultBy, fault, noFault}
@@ -109,7 +110,7 @@ pub plain-answers : AnswersOnly PlainNumber plainRule
 plain-answers = record { prices = prices; equations = equations }
 
 -- document 01's step rule
-abbrev pub plainCertificates : CertificateRule
+abbrev pub plainCertificates : CertificateRule PlainNumber
 plainCertificates =
     record {
       file = plainRule;
@@ -118,7 +119,6 @@ plainCertificates =
       theory = plain;
       decides = plain-decides;
       covers = plain-covers;
-      numbers = PlainNumber;
       answers = plain-answers;
     }
 
@@ -153,9 +153,20 @@ wholeFiles L widths =
       answers = refusal-told L;
     }
 
--- such files, judged by a step rule
-abbrev pub wholeRules : (L : Limits) → FitsWidths L → L .refutations < 65536 → CertificateRule → PairRules
-wholeRules L widths few rule = record { limits = L; widths = widths; refutations = few; models = wholeFiles L widths; rule = rule }
+-- such files, judged by one step rule
+abbrev pub wholeRules : (L : Limits) → FitsWidths L → L .refutations < 65536 → {numbers : ℕ → Type 0} → CertificateRule numbers → PairRules
+wholeRules L widths few {numbers} rule =
+    record {
+      limits = L;
+      widths = widths;
+      refutations = few;
+      models = wholeFiles L widths;
+      numbers = numbers;
+      rule = λ model. rule;
+      oneAutomaton = λ model other. HoldOneAutomaton;
+      holdOne = λ model other M N one. one;
+      oneRule = λ model other M N one. refl;
+    }
 
 -- today's limits, document 01's model files and step rule
 abbrev pub plainRules : PairRules

@@ -2,27 +2,26 @@
 use Prim.Native.Nat.{ℕ, _-_, _≤_}
 use mathlib.Core.Path.{_≡_}
 use mathlib.Core.Logic.{_⊎_}
-use mathlib.Core.List.{List, [], _∷_, _++_}
+use mathlib.Core.Bool.{Bool, true, false}
+use mathlib.Core.List.{List, [], _∷_, _++_, map}
 use lib.ListN.{length, take, drop, getD}
 use lib.IntN.{ℤ, pos}
-use Rattle.bisimulation.specs.definitions.Choice.{ifLess, unlessLess}
+use Rattle.bisimulation.specs.definitions.Choice.{ifLess, ifTrue, unlessLess}
 use Rattle.rules.specs.definitions.Limits.{Limits}
 use Rattle.rules.specs.definitions.Model.{Model}
 use Rattle.rules.specs.definitions.Faults.{Fault}
 use Rattle.rules.specs.definitions.Reading.{Scan, sound, refused, Reading, model, noModel, readWhole, runStart, runEnd}
 use Rattle.rules.specs.definitions.Certificate.{FileRule}
-use Rattle.rules.specs.definitions.Judging.{Judgement, accepted, rejected, Reader, judge}
+use Rattle.rules.specs.definitions.Judging.{Judgement, accepted, refusedIn, Reader, judge}
 
 -- 'its number, the file (1 model, 2 certificate) and the byte place', file 3 being a second model; the stretch, or the run of a fetch, by
--- where it starts and how long it is in its file; how many bytes were written into the lent buffer; and document 02, K2: 'The answer gains
--- a state and a signed 64-bit remainder'
+-- where it starts and how long it is in its file; and document 02, K2: 'The answer gains a state and a signed 64-bit remainder'
 pub record Answer : Type 0 where
   pub number : ℕ
   pub file : ℕ
   pub place : ℕ
   pub stretchStart : ℕ
   pub stretchLength : ℕ
-  pub written : ℕ
   pub state : ℕ
   pub remainder : ℤ
 
@@ -35,19 +34,17 @@ refusalIn f file place size =
       place = place;
       stretchStart = place;
       stretchLength = size - place;
-      written = 0;
       state = f .state;
       remainder = f .remainder;
     }
 
 -- 'For 10, 23, 24, acceptance .. file and place are 0 and the stretch is empty': an empty stretch without a file starts at 0
-unfoldable pub answerWithoutPlace : (number written : ℕ) → Answer
-answerWithoutPlace number written =
-    record { number = number; file = 0; place = 0; stretchStart = 0; stretchLength = 0; written = written; state = 0; remainder = pos 0 }
+unfoldable pub answerWithoutPlace : (number : ℕ) → Answer
+answerWithoutPlace number = record { number = number; file = 0; place = 0; stretchStart = 0; stretchLength = 0; state = 0; remainder = pos 0 }
 
 -- what the scan of a model file of so many bytes answers by itself
 unfoldable pub scanAnswer : ℕ → Scan → Answer
-scanAnswer size (sound n m count end) = answerWithoutPlace 0 0
+scanAnswer size (sound n m count end) = answerWithoutPlace 0
 scanAnswer size (refused f place) = refusalIn f 1 place size
 
 -- a file by its number, 'the file (1 model, 2 certificate)', 3 for a second model, of the files that a call was given; the first where an
@@ -57,8 +54,8 @@ fileOf files k = getD files (k - 1) []
 
 -- what the judgement of these files answers by itself
 unfoldable pub judgementAnswer : List (List ℕ) → Judgement → Answer
-judgementAnswer files (accepted blocks) = answerWithoutPlace 0 0
-judgementAnswer files (rejected f file place) = refusalIn f file place (length (fileOf files file))
+judgementAnswer files (accepted blocks) = answerWithoutPlace 0
+judgementAnswer files (refusedIn f file place) = refusalIn f file place (length (fileOf files file))
 
 -- the bytes of a stretch or run in its file
 unfoldable pub stretchIn : List ℕ → Answer → List ℕ
@@ -72,67 +69,108 @@ stretchOf files a = stretchIn (fileOf files (a .file)) a
 unfoldable pub runAnswer : (start end : ℕ) → Answer
 runAnswer start end =
     ifLess start end
-    (record { number = 0; file = 0; place = 0; stretchStart = start; stretchLength = end - start; written = 0; state = 0; remainder = pos 0 })
-    (answerWithoutPlace 0 0)
+    (record { number = 0; file = 0; place = 0; stretchStart = start; stretchLength = end - start; state = 0; remainder = pos 0 })
+    (answerWithoutPlace 0)
 
 -- 'fetch, after the model': 24, 'state not below n', for what reading the model gave
 unfoldable pub fetchReading : List ℕ → ℕ → Reading → Answer
 fetchReading s state (model M end) =
-    unlessLess state (length (M .labels)) (answerWithoutPlace 24 0) (runAnswer (runStart s state) (runEnd s state))
+    unlessLess state (length (M .labels)) (answerWithoutPlace 24) (runAnswer (runStart s state) (runEnd s state))
 fetchReading s state (noModel f place) = refusalIn f 1 place (length s)
 
 -- the call that fetches: 'the transitions that leave a state'
 unfoldable pub fetchAnswer : Limits → List ℕ → ℕ → Answer
 fetchAnswer L s state = fetchReading s state (readWhole L s)
 
--- an answer, and what the lent buffer holds afterwards
+-- what a lent buffer holds after a call, and how many bytes were written into it, from its first on
+pub record Lent : Type 0 where
+  pub bytes : List ℕ
+  pub written : ℕ
+
+-- what a call answers, and what it leaves: each buffer that it lends, none, one or two, in their order
 pub record Outcome : Type 0 where
   pub answer : Answer
-  pub buffer : List ℕ
+  pub lent : List Lent
+
+-- the bytes of the lent buffers afterwards
+abbrev pub leftIn : Outcome → List (List ℕ)
+leftIn o = map (λ (x : Lent). x .bytes) (o .lent)
+
+-- the lengths that were written
+abbrev pub lengthsOf : Outcome → List ℕ
+lengthsOf o = map (λ (x : Lent). x .written) (o .lent)
+
+-- a buffer as it was
+abbrev pub untouched : List ℕ → Lent
+untouched buffer = record { bytes = buffer; written = 0 }
 
 -- nothing is written: 'A refusal writes no byte of any lent buffer', and a call may lend none
-unfoldable pub unwritten : Answer → List ℕ → Outcome
-unwritten a buffer = record { answer = a; buffer = buffer }
+unfoldable pub unwritten : Answer → (before : List (List ℕ)) → Outcome
+unwritten a before = record { answer = a; lent = map untouched before }
 
--- 'Acceptance is 0 and fills the first n bytes of the block buffer, or the merged file's length of the other; later bytes stay'
-unfoldable pub filled : (bytes buffer : List ℕ) → Outcome
-filled bytes buffer = record { answer = answerWithoutPlace 0 (length bytes); buffer = bytes ++ drop (length bytes) buffer }
+-- 'fills the first n bytes of the block buffer, or the merged file's length of the other; later bytes stay'
+unfoldable pub filledWith : (bytes buffer : List ℕ) → Lent
+filledWith bytes buffer = record { bytes = bytes ++ drop (length bytes) buffer; written = length bytes }
+
+-- each file into its buffer
+unfoldable pub filledEach : (files before : List (List ℕ)) → List Lent
+filledEach [] before = map untouched before
+filledEach (file ∷ files) [] = []
+filledEach (file ∷ files) (buffer ∷ before) = filledWith file buffer ∷ filledEach files before
+
+-- 'Acceptance is 0 and fills ..'
+unfoldable pub filled : (files before : List (List ℕ)) → Outcome
+filled files before = record { answer = answerWithoutPlace 0; lent = filledEach files before }
+
+-- no buffer is shorter than its file
+unfoldable pub roomFor : (files before : List (List ℕ)) → Bool
+roomFor [] before = true
+roomFor (file ∷ files) [] = false
+roomFor (file ∷ files) (buffer ∷ before) = ifLess (length buffer) (length file) false (roomFor files before)
+
+-- 'buffer shorter than the file', with the number that the call has for it; else each file is written
+unfoldable pub filesOutcome : (short : ℕ) → (files before : List (List ℕ)) → Outcome
+filesOutcome short files before = ifTrue (roomFor files before) (filled files before) (unwritten (answerWithoutPlace short) before)
 
 -- what a call that judges does with an accepted certificate
 pub record Follows : Type 0 where
   -- how long a lent block buffer must be for a model; 0 where the call lends none
   pub blockRoom : Model → ℕ
-  -- what the model and its accepted blocks come to, with what the lent buffer held
-  pub outcome : Model → (blocks buffer : List ℕ) → Outcome
+  -- what the model and its accepted blocks come to, with what the lent buffers held
+  pub outcome : Model → (blocks : List ℕ) → (before : List (List ℕ)) → Outcome
   -- the number that refuses after acceptance, 0 where none does
   pub late : ℕ
 
+-- the first lent buffer, empty where none is lent; a block buffer is the first
+abbrev pub firstLent : List (List ℕ) → List ℕ
+firstLent before = getD before 0 []
+
 -- a judgement for the model N as an answer: what follows acceptance, or the refusal
-unfoldable pub judgedOutcome : Follows → (M C buffer : List ℕ) → Model → Judgement → Outcome
-judgedOutcome follows M C buffer N (accepted blocks) = follows .outcome N blocks buffer
-judgedOutcome follows M C buffer N (rejected f file place) = unwritten (judgementAnswer (M ∷ C ∷ []) (rejected f file place)) buffer
+unfoldable pub judgedOutcome : Follows → (M C : List ℕ) → (before : List (List ℕ)) → Model → Judgement → Outcome
+judgedOutcome follows M C before N (accepted blocks) = follows .outcome N blocks before
+judgedOutcome follows M C before N (refusedIn f file place) = unwritten (judgementAnswer (M ∷ C ∷ []) (refusedIn f file place)) before
 
 -- 'block buffer, after the model': 10, 'shorter than n', for what reading the model gave; then the judgement
-unfoldable pub readOutcome : Follows → (M C buffer : List ℕ) → Reading → Judgement → Outcome
-readOutcome follows M C buffer (model N end) judged =
-    ifLess (length buffer) (follows .blockRoom N) (unwritten (answerWithoutPlace 10 0) buffer) (judgedOutcome follows M C buffer N judged)
-readOutcome follows M C buffer (noModel f place) judged = unwritten (refusalIn f 1 place (length M)) buffer
+unfoldable pub readOutcome : Follows → (M C : List ℕ) → (before : List (List ℕ)) → Reading → Judgement → Outcome
+readOutcome follows M C before (model N end) judged =
+    ifLess (length (firstLent before)) (follows .blockRoom N) (unwritten (answerWithoutPlace 10) before) (judgedOutcome follows M C before N judged)
+readOutcome follows M C before (noModel f place) judged = unwritten (refusalIn f 1 place (length M)) before
 
 -- a call that judges: the model is read, the certificate judged, and acceptance followed
-unfoldable pub pairOutcome : Limits → Reader → FileRule → Follows → (M C buffer : List ℕ) → Outcome
-pairOutcome L read rule follows M C buffer = readOutcome follows M C buffer (read M) (judge L read rule M C)
+unfoldable pub pairOutcome : Limits → Reader → FileRule → Follows → (M C : List ℕ) → (before : List (List ℕ)) → Outcome
+pairOutcome L read rule follows M C before = readOutcome follows M C before (read M) (judge L read rule M C)
 
 -- the call that judges, with a lent block buffer
 abbrev pub writesBlocks : Follows
-writesBlocks = record { blockRoom = λ N. length (N .labels); outcome = λ N blocks buffer. filled blocks buffer; late = 0 }
+writesBlocks = record { blockRoom = λ N. length (N .labels); outcome = λ N blocks before. filled (blocks ∷ []) before; late = 0 }
 
--- 'buffer shorter than the file', with the number that the call has for it; else the file is written
-unfoldable pub fileOutcome : (short : ℕ) → (file buffer : List ℕ) → Outcome
-fileOutcome short file buffer = ifLess (length buffer) (length file) (unwritten (answerWithoutPlace short 0) buffer) (filled file buffer)
-
--- a call that writes a file lends this buffer and no block buffer
+-- a call that writes a file of the model and its blocks lends this buffer and no block buffer
 abbrev pub writesFile : (short : ℕ) → (Model → (blocks : List ℕ) → List ℕ) → Follows
-writesFile short file = record { blockRoom = λ N. 0; outcome = λ N blocks buffer. fileOutcome short (file N blocks) buffer; late = short }
+writesFile short file = record { blockRoom = λ N. 0; outcome = λ N blocks before. filesOutcome short (file N blocks ∷ []) before; late = short }
+
+-- the call that fetches lends no buffer
+abbrev pub fetchOutcome : Limits → List ℕ → ℕ → Outcome
+fetchOutcome L s state = record { answer = fetchAnswer L s state; lent = [] }
 
 -- the numbers that document 01 gives for a fetch
 unfoldable pub FetchNumber : ℕ → Type 0

@@ -1,23 +1,44 @@
--- What a pair of files is judged by.
+-- What pairs of files are judged by.
+use Prim.Native.Nat.{ℕ}
+use mathlib.Core.List.{List}
 use Rattle.bisimulation.specs.definitions.StepRule.{StepRule, Met}
 use Rattle.rules.specs.definitions.Limits.{Limits, limits}
+use Rattle.rules.specs.definitions.Model.{Model, HoldOneAutomaton}
 use Rattle.rules.specs.definitions.Reading.{readWhole}
 use Rattle.rules.specs.definitions.Certificate.{FileRule}
 use Rattle.rules.specs.definitions.PlainRule.{plainRule}
-use Rattle.rules.specs.definitions.Judging.{Reader}
+use Rattle.rules.specs.definitions.Judging.{Reader, AcceptedFor}
 use Rattle.rules.specs.definitions.Accepted.{RuleSays, IsFile, FileOf}
 use Rattle.rules.specs.definitions.PlainSays.{plainSays}
 
--- limits; how a model file is read, and which bytes are the file of a model; a step rule: what it decides of a certificate file, what it
--- says of a certificate, and when a question is met
+-- limits; how a model file is read, and which bytes are the file of a model; the step rule of a model file, whose bytes may tell of it: what it
+-- decides of a certificate file, what it says of a certificate, and when a question is met; and when two model files hold one automaton
 pub record JudgedBy : Type 1 where
   pub limits : Limits
   pub read : Reader
   pub isFile : IsFile
-  pub file : FileRule
-  pub says : RuleSays
-  pub met : StepRule
+  pub file : (model : List ℕ) → FileRule
+  pub says : (model : List ℕ) → RuleSays
+  pub met : (model : List ℕ) → StepRule
+  pub oneAutomaton : (model other : List ℕ) → (M N : Model) → Type 0
 
--- today's limits, document 01's model files and step rule
+-- document 01's model files and its step rule, one for all of them, within given limits
+abbrev pub plainPairsAt : Limits → JudgedBy
+plainPairsAt L =
+    record {
+      limits = L;
+      read = readWhole L;
+      isFile = FileOf L;
+      file = λ model. plainRule;
+      says = λ model. plainSays;
+      met = λ model. Met;
+      oneAutomaton = λ model other. HoldOneAutomaton;
+    }
+
+-- within today's
 abbrev pub plainPairs : JudgedBy
-plainPairs = record { limits = limits; read = readWhole limits; isFile = FileOf limits; file = plainRule; says = plainSays; met = Met }
+plainPairs = plainPairsAt limits
+
+-- a certificate accepted for a model, with its accepted blocks: judged by that model's rule
+abbrev pub AcceptedBy : JudgedBy → (model certificate blocks : List ℕ) → Type 0
+AcceptedBy by model certificate blocks = AcceptedFor (by .limits) (by .read) (by .file model) model certificate blocks

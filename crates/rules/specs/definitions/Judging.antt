@@ -15,11 +15,11 @@ use Rattle.rules.specs.definitions.Faults.{Fault, fault}
 -- acceptance with its blocks, or a refusal with its fault, file (1 model, 2 certificate) and place
 pub data Judgement : Type 0 where
   accepted : (blocks : List ℕ) → Judgement
-  rejected : Fault → (file place : ℕ) → Judgement
+  refusedIn : Fault → (file place : ℕ) → Judgement
 
--- a record's fault rejects at its place; without one judging goes on
-unfoldable pub rejectAt : Fault → ℕ → Judgement → Judgement
-rejectAt f place next = ifSame (f .number) 0 next (rejected f 2 place)
+-- a record's fault refuses at its place; without one judging goes on
+unfoldable pub refuseRecordAt : Fault → ℕ → Judgement → Judgement
+refuseRecordAt f place next = ifSame (f .number) 0 next (refusedIn f 2 place)
 
 -- a challenger transition and the defender that it asks
 pub record Question : Type 0 where
@@ -50,34 +50,34 @@ questions A blocks = questionsFrom A blocks (A .states) 0
 module _ (L : Limits) (rule : FileRule) (A : Automaton) (C : List ℕ) where
   -- 'Flow records follow', one for each question; 'after the last flow' 22, 'bytes left'
   unfoldable pub judgeFlows : Pairs → (blocks : List ℕ) → List Question → (at : ℕ) → Judgement
-  judgeFlows R blocks [] at = ifLess at (length C) (rejected (fault 22) 2 at) (accepted blocks)
+  judgeFlows R blocks [] at = ifLess at (length C) (refusedIn (fault 22) 2 at) (accepted blocks)
   judgeFlows R blocks (x ∷ xs) at =
-      rejectAt (flowFault rule A C R (x .challenger) (x .defender) at) at
+      refuseRecordAt (flowFault rule A C R (x .challenger) (x .defender) at) at
       (judgeFlows R blocks xs (afterFlow C at))
 
   -- 'blocks', then the flows of its questions
   unfoldable pub judgeBlocks : Pairs → (at : ℕ) → Judgement
   judgeBlocks R at =
-      rejectAt (blocksFault A C R at) at
+      refuseRecordAt (blocksFault A C R at) at
       (judgeFlows R (blocksAt A C at) (questions A (blocksAt A C at)) (at + 2 + A .states))
 
   -- the refutations left from a place on, each against the pairs left when it is read
   unfoldable pub judgeRefutations : (left : ℕ) → Pairs → (at : ℕ) → Judgement
   judgeRefutations zero R at = judgeBlocks R at
   judgeRefutations (suc left) R at =
-      rejectAt (refutationFault rule A C R at) at
+      refuseRecordAt (refutationFault rule A C R at) at
       (judgeRefutations left (pairsAfter A C R at) (afterRefutation rule A C at))
 
   -- 'head', refutations, 'blocks', flows: refusals 11 to 22, and what a further rule adds
   unfoldable pub judgeCertificate : Judgement
   judgeCertificate =
-      rejectAt (certificateHeadFault L rule C) 0
+      refuseRecordAt (certificateHeadFault L rule C) 0
       (judgeRefutations (refutationCount C) (equalLabels A) 4)
 
 -- a certificate judged for what reading the model gave
 unfoldable pub judgeReading : Limits → FileRule → Reading → List ℕ → Judgement
 judgeReading L rule (model M end) C = judgeCertificate L rule (automatonOf M) C
-judgeReading L rule (noModel f place) C = rejected f 1 place
+judgeReading L rule (noModel f place) C = refusedIn f 1 place
 
 -- how the bytes of a model file are read; document 01's reader is `readWhole`
 abbrev pub Reader : Type 0

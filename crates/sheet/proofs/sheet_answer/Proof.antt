@@ -1,43 +1,55 @@
 -- `sheet_answer` meets its contract: the pair is refused, or its sheet follows.
 use native.Mathlib.Omega.{arith}
-use mathlib.Core.Path.{sym}
-use mathlib.Core.List.{[]}
+use denote.Ref.{now}
 use Rattle.rules.specs.definitions.Bytes.{byteAt}
 use Rattle.rules.specs.definitions.SoundModel.{Bytes}
-use Rattle.sheet.specs.AnswerLaws.{pair-refused, blocks-inside, blocks-size, blocks-ready, sheet-answered}
+use Rattle.judgement.specs.VerdictLaws.{found-accepted, found-refused}
+use Rattle.sheet.specs.SheetLaws.{pair-refused, blocks-ready, sheet-written}
 use borrow.Author.Needs.{needs}
 use Rattle.sheet.proofs.sheet_answer.Statement.{statement}
 use Rattle.sheet.proofs.sheet_answer.Tie as tie
 
-slice-aggregate-answer-pair : tie.Need-slice-aggregate-answer-pair
-slice-aggregate-answer-pair c = search needs
-
-answer-pair-requires : tie.Need-answer-pair-requires
-answer-pair-requires c κs = search needs
+head-answer-requires : tie.Need-head-answer-requires
+head-answer-requires c κs = search needs
 
 returns : tie.Need-returns
 unfolding Bytes byteAt
 returns c =
-    let judged = c .before .before .before in
-    pair-refused (λ i h. omega (arith, judged .before .before .before .before .shared-slice-known .given i)) (λ i h. omega (arith, judged .before .before .before .shared-slice-known2 .given i)) _ (omega arith) (judged .answer-pair .ensures) (λ z. omega (arith, z, c .if1 .taken))
+    let files = c .before .before in
+    let a = files .before .before .before .before .args in
+    pair-refused (λ i h. omega (arith, files .before .before .before .shared-slice-known .given i)) (λ i h. omega (arith, files .before .before .shared-slice-known2 .given i))
+    (now (a .out)) (files .head-answer .ensures .refused (c .if1 .taken) _ _ _)
 
-array-share-prefix-blocks : tie.Need-array-share-prefix-blocks
-unfolding Bytes byteAt
-array-share-prefix-blocks c =
-    let judged = c .before .before .before in
-    blocks-inside (λ i h. omega (arith, judged .before .before .before .before .shared-slice-known .given i)) (λ i h. omega (arith, judged .before .before .before .shared-slice-known2 .given i)) [] (omega arith) (judged .answer-pair .ensures) (omega (arith, c .if1 .left))
+judge-files-requires : tie.Need-judge-files-requires
+judge-files-requires c κs = c .before .before .head-answer .ensures .good (c .if1 .left)
 
-slice-aggregate-write-sheet : tie.Need-slice-aggregate-write-sheet
-unfolding Bytes byteAt
-slice-aggregate-write-sheet c =
-    let judged = c .before .before .before .before in
-    sym (blocks-size (λ i h. omega (arith, judged .before .before .before .before .shared-slice-known .given i)) (λ i h. omega (arith, judged .before .before .before .shared-slice-known2 .given i)) [] (omega arith) (judged .answer-pair .ensures) (omega (arith, c .before .if1 .left)))
+enum-known-found : tie.Need-enum-known-found
+enum-known-found c = search needs
+
+add-write-sheet : tie.Need-add-write-sheet
+add-write-sheet c =
+    let files = c .before .before .before in
+    omega (arith, found-accepted (files .judge-files .ensures) (c .before .found .given .1) .inside, files .before .before .before .before .before .before .before .good .1 .0 .0)
+
+sub-write-sheet : tie.Need-sub-write-sheet
+sub-write-sheet c = search needs
+
+part-write-sheet-start : tie.Need-part-write-sheet-start
+part-write-sheet-start c = search needs
+
+part-write-sheet-end : tie.Need-part-write-sheet-end
+part-write-sheet-end c = omega (arith, found-accepted (c .before .before .before .judge-files .ensures) (c .before .found .given .1) .inside)
 
 write-sheet-requires : tie.Need-write-sheet-requires
 unfolding Bytes byteAt
 write-sheet-requires c κs =
-    let judged = c .before .before .before .before .before in
-    blocks-ready (λ i h. omega (arith, judged .before .before .before .before .shared-slice-known .given i)) (λ i h. omega (arith, judged .before .before .before .shared-slice-known2 .given i)) [] (omega arith) (judged .answer-pair .ensures) (omega (arith, c .before .before .if1 .left))
+    let files = c .before .before .before .before .before in
+    let a = files .before .before .before .before .before .before .before .args in
+    blocks-ready (λ i h. omega (arith, files .before .before .before .before .before .before .shared-slice-known .given i)) (λ i h. omega (arith, files .before .before .before .before .before .shared-slice-known2 .given i))
+    (now (a .out)) (found-accepted (files .judge-files .ensures) (c .before .before .before .found .given .1))
+
+enum-known-found-2 : tie.Need-enum-known-found-2
+enum-known-found-2 c = search needs
 
 same-length : tie.Need-same-length
 same-length c = search needs
@@ -45,18 +57,33 @@ same-length c = search needs
 returns-2 : tie.Need-returns-2
 unfolding Bytes byteAt
 returns-2 c =
-    let judged = c .before .before .before .before .before .before .before .before in
-    sheet-answered (λ i h. omega (arith, judged .before .before .before .before .shared-slice-known .given i)) (λ i h. omega (arith, judged .before .before .before .shared-slice-known2 .given i)) _ (omega arith) (judged .answer-pair .ensures) (omega (arith, c .before .before .before .before .before .if1 .left)) (c .before .before .write-sheet .ensures)
+    let files = c .before .before .before .before .before .before .before .before in
+    let a = files .before .before .before .before .before .before .before .args in
+    sheet-written (λ i h. omega (arith, files .before .before .before .before .before .before .shared-slice-known .given i)) (λ i h. omega (arith, files .before .before .before .before .before .shared-slice-known2 .given i))
+    (now (a .out)) (found-accepted (files .judge-files .ensures) (c .before .before .before .before .before .before .found .given .1)) (c .before .before .write-sheet .ensures)
+
+returns-3 : tie.Need-returns-3
+unfolding Bytes byteAt
+returns-3 c =
+    let files = c .before .before .before in
+    let a = files .before .before .before .before .before .before .before .args in
+    pair-refused (λ i h. omega (arith, files .before .before .before .before .before .before .shared-slice-known .given i)) (λ i h. omega (arith, files .before .before .before .before .before .shared-slice-known2 .given i))
+    (now (a .out)) (found-refused (files .judge-files .ensures) (c .before .found2 .given .1))
 
 pub sheet-answer-spec : {M : Type 1} → statement M
 sheet-answer-spec =
     tie.close
     (tie.spec
-    slice-aggregate-answer-pair
-    answer-pair-requires
+    head-answer-requires
     returns
-    array-share-prefix-blocks
-    slice-aggregate-write-sheet
+    judge-files-requires
+    enum-known-found
+    add-write-sheet
+    sub-write-sheet
+    part-write-sheet-start
+    part-write-sheet-end
     write-sheet-requires
+    enum-known-found-2
     same-length
-    returns-2)
+    returns-2
+    returns-3)

@@ -1,5 +1,5 @@
 -- `sheet` meets its contract: the answer of the pair, of which the sheet is written, is handed back.
-use Rattle.slices.specs.HandedLaws.{judge-handed}
+use Rattle.slices.specs.HandedLaws.{pair-handed}
 use borrow.Author.Needs.{needs}
 use Rattle.slices.proofs.sheet.Statement.{statement}
 use Rattle.slices.proofs.sheet.Tie as tie
@@ -14,7 +14,7 @@ same-length : tie.Need-same-length
 same-length c = search needs
 
 returns : tie.Need-returns
-returns c = judge-handed (c .before .before .before .before .before .before .before .before .before .sheet-answer .ensures) (c .hand-back-answer .ensures)
+returns c = pair-handed (c .before .before .before .before .before .before .before .before .before .sheet-answer .ensures) (c .hand-back-answer .ensures)
 
 pub sheet-spec : {M : Type 1} → statement M
 sheet-spec =

@@ -12,11 +12,11 @@ use Rattle.rules.specs.definitions.Faults.{Passes}
 use Rattle.rules.specs.argument.FaultLaws.{none-first, first-none, pass-on, pass-ifLess}
 use Rattle.rules.specs.definitions.Reading.{Reading, model, noModel}
 use Rattle.rules.specs.definitions.Certificate.{FileRule, refutationCount, certificateHeadFault, refutationFault, pairsAfter, afterRefutation, blocksAt, blocksFault, flowFault, afterFlow}
-use Rattle.rules.specs.definitions.Judging.{accepted, rejectAt, Question, questions, judgeFlows, judgeBlocks, judgeRefutations, judgeCertificate, judgeReading, Reader, judge}
-use Rattle.rules.specs.definitions.JudgedBy.{JudgedBy}
-use Rattle.rules.specs.definitions.Demands.{AcceptedBy}
-use Rattle.rules.specs.argument.CertificateKept.{no-reject}
-use Rattle.wider_limits.specs.definitions.Wider.{Within, ReadsOn, Widens, plainPairsAt, costPairsAt}
+use Rattle.rules.specs.definitions.Judging.{accepted, refuseRecordAt, Question, questions, judgeFlows, judgeBlocks, judgeRefutations, judgeCertificate, judgeReading, Reader, judge}
+use Rattle.rules.specs.definitions.JudgedBy.{JudgedBy, plainPairsAt, AcceptedBy}
+use Rattle.rules.specs.argument.CertificateKept.{none-refused}
+use Rattle.wider_limits.specs.definitions.Wider.{Within, ReadsOn, Widens}
+use Rattle.cost_files.specs.definitions.CostPairs.{costPairsAt}
 use Rattle.wider_limits.specs.argument.ReadingWider.{whole-reads-on, costs-read-on}
 
 -- behind the head no limit counts
@@ -25,14 +25,14 @@ module _ (L W : Limits) (rule : FileRule) (A : Automaton) (C : List ℕ) where
   unfolding judgeFlows
   flows-same R blocks [] at = refl
   flows-same R blocks (x ∷ xs) at =
-      ap (rejectAt (flowFault rule A C R (x .challenger) (x .defender) at) at) (flows-same R blocks xs (afterFlow C at))
+      ap (refuseRecordAt (flowFault rule A C R (x .challenger) (x .defender) at) at) (flows-same R blocks xs (afterFlow C at))
 
   refutations-same : (left : ℕ) (R : Pairs) (at : ℕ) → judgeRefutations L rule A C left R at ≡ judgeRefutations W rule A C left R at
   unfolding judgeRefutations judgeBlocks
   refutations-same zero R at =
-      ap (rejectAt (blocksFault A C R at) at) (flows-same R (blocksAt A C at) (questions A (blocksAt A C at)) (at + 2 + A .states))
+      ap (refuseRecordAt (blocksFault A C R at) at) (flows-same R (blocksAt A C at) (questions A (blocksAt A C at)) (at + 2 + A .states))
   refutations-same (suc left) R at =
-      ap (rejectAt (refutationFault rule A C R at) at) (refutations-same left (pairsAfter A C R at) (afterRefutation rule A C at))
+      ap (refuseRecordAt (refutationFault rule A C R at) at) (refutations-same left (pairsAfter A C R at) (afterRefutation rule A C at))
 
 module _ (L W : Limits) (within : Within L W) (rule : FileRule) where
   head-wider : (C : List ℕ) → Passes (certificateHeadFault L rule C) → Passes (certificateHeadFault W rule C)
@@ -43,9 +43,9 @@ module _ (L W : Limits) (within : Within L W) (rule : FileRule) where
       pass-on (first-none _ _ (a .0) (notLess _ (omega (arith, within .refutations)) refl)) refl
 
   certificate-wider : (A : Automaton) (C blocks : List ℕ) → accepted blocks ≡ judgeCertificate L rule A C → accepted blocks ≡ judgeCertificate W rule A C
-  unfolding judgeCertificate rejectAt
+  unfolding judgeCertificate refuseRecordAt
   certificate-wider A C blocks e =
-      let a = no-reject blocks _ 0 _ e in
+      let a = none-refused blocks _ 0 _ e in
       same _ (head-wider C (a .0)) (a .1 ∙ refutations-same L W rule A C (refutationCount C) (equalLabels A) 4)
 
   module _ (older newer : Reader) (on : ReadsOn older newer) (M C blocks : List ℕ) where
@@ -66,14 +66,14 @@ module _ (L W : Limits) (within : Within L W) (rule : FileRule) where
 
 -- what is read and judged of an accepted pair is the same, where pairs are judged alike within wider limits
 module _ (older newer : JudgedBy) (wider : Widens older newer) (M C blocks : List ℕ) (a : AcceptedBy older M C blocks) where
-  alike : (newer .read M ≡ older .read M) × (judge (newer .limits) (newer .read) (older .file) M C ≡ judge (older .limits) (older .read) (older .file) M C)
-  alike = both-same (older .limits) (newer .limits) (wider .limits) (older .file) (older .read) (newer .read) (wider .read) M C blocks (a .answers)
+  alike : (newer .read M ≡ older .read M) × (judge (newer .limits) (newer .read) (older .file M) M C ≡ judge (older .limits) (older .read) (older .file M) M C)
+  alike = both-same (older .limits) (newer .limits) (wider .limits) (older .file M) (older .read) (newer .read) (wider .read) M C blocks (a .answers)
 
   pub read-same : newer .read M ≡ older .read M
   read-same = alike .0
 
-  pub judged-same : judge (newer .limits) (newer .read) (newer .file) M C ≡ judge (older .limits) (older .read) (older .file) M C
-  judged-same = ap (λ (rule : FileRule). judge (newer .limits) (newer .read) rule M C) (wider .file) ∙ alike .1
+  pub judged-same : judge (newer .limits) (newer .read) (newer .file M) M C ≡ judge (older .limits) (older .read) (older .file M) M C
+  judged-same = ap (λ (rule : FileRule). judge (newer .limits) (newer .read) rule M C) (wider .file M) ∙ alike .1
 
   -- a pair accepted before is accepted with the same blocks
   pub accepted-wider : AcceptedBy newer M C blocks
@@ -81,7 +81,7 @@ module _ (older newer : JudgedBy) (wider : Widens older newer) (M C blocks : Lis
 
 -- the pairs without costs and with them
 pub plain-widens : (L W : Limits) → Within L W → Widens (plainPairsAt L) (plainPairsAt W)
-plain-widens L W within = record { limits = within; read = whole-reads-on L W within; file = refl }
+plain-widens L W within = record { limits = within; read = whole-reads-on L W within; file = λ model. refl }
 
-pub cost-widens : (L W : Limits) → Within L W → (costs : List ℕ) → Widens (costPairsAt L costs) (costPairsAt W costs)
-cost-widens L W within costs = record { limits = within; read = costs-read-on L W within; file = refl }
+pub cost-widens : (L W : Limits) → Within L W → Widens (costPairsAt L) (costPairsAt W)
+cost-widens L W within = record { limits = within; read = costs-read-on L W within; file = λ model. refl }

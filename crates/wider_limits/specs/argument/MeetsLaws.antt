@@ -238,5 +238,5 @@ module _ (L : Limits) (read : Reader) (file : List ℕ) (M : Model) (meets : Mee
       few e (no h) = omega arith
 
 -- every call that judges such a file refuses so
-pub call-refuses : (L : Limits) (read : Reader) (file : List ℕ) (x : ThreeOrEight read file) (rule : FileRule) (follows : Follows) (C buffer : List ℕ) → pairOutcome L read rule follows file C buffer ≡ unwritten (refusalIn (fault (x .number)) 1 (x .place) (length file)) buffer
-call-refuses L read file x rule follows C buffer = sym (outcome-refused L read rule follows file C buffer (fault (x .number)) (x .place) (x .refused))
+pub call-refuses : (L : Limits) (read : Reader) (file : List ℕ) (x : ThreeOrEight read file) (rule : FileRule) (follows : Follows) (C : List ℕ) (before : List (List ℕ)) → pairOutcome L read rule follows file C before ≡ unwritten (refusalIn (fault (x .number)) 1 (x .place) (length file)) before
+call-refuses L read file x rule follows C before = sym (outcome-refused L read rule follows file C before (fault (x .number)) (x .place) (x .refused))

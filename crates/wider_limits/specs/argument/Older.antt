@@ -14,10 +14,10 @@ use Rattle.rules.specs.definitions.Faults.{fault}
 use Rattle.rules.specs.definitions.Reading.{model, readWhole}
 use Rattle.rules.specs.definitions.PlainRule.{plainRule}
 use Rattle.rules.specs.definitions.Accepted.{FileOf}
-use Rattle.rules.specs.definitions.JudgedBy.{JudgedBy, plainPairs}
+use Rattle.rules.specs.definitions.JudgedBy.{JudgedBy, plainPairsAt, plainPairs, AcceptedBy}
 use Rattle.rules.specs.definitions.Answers.{refusalIn, fetchAnswer, unwritten, Follows, writesBlocks}
 use Rattle.quotient.specs.definitions.ReduceAnswer.{writesMerged}
-use Rattle.rules.specs.definitions.Demands.{AcceptedBy, outcomeBy, Accepting}
+use Rattle.rules.specs.definitions.Demands.{outcomeBy, Accepting}
 use Rattle.rules.specs.argument.PlainRules.{plainRules}
 use Rattle.rules.specs.argument.PairOutcome.{FollowsLaws}
 use Rattle.rules.specs.argument.DemandsHold.{blocks-follow}
@@ -30,25 +30,25 @@ use Rattle.joined.specs.argument.AlikeAnswerLaws.{parts-follow}
 use Rattle.cost_files.specs.definitions.CostModel.{CostFileOf, costsIn}
 use Rattle.cost_files.specs.definitions.CostReading.{readCosts}
 use Rattle.cost_files.specs.definitions.CostFile.{costFile}
-use Rattle.cost_files.specs.definitions.CostPairs.{costPairs, AcceptedWithCosts}
-use Rattle.cost_files.specs.definitions.CostAnswer.{costOutcome}
-use Rattle.wider_limits.specs.definitions.Wider.{within-older, others-stay, Widens, plainPairsAt, costPairsAt, Meets, Larger, ThreeOrEight}
+use Rattle.cost_files.specs.definitions.CostPairs.{costPairsAt, costPairs}
+use Rattle.cost_files.specs.argument.CostRules.{costRulesAt}
+use Rattle.wider_limits.specs.definitions.Wider.{within-older, others-stay, Widens, Meets, Larger, ThreeOrEight}
 use Rattle.wider_limits.specs.argument.ReadingWider.{read-wider, cost-read-wider}
 use Rattle.wider_limits.specs.argument.JudgingWider.{accepted-wider, plain-widens, cost-widens}
-use Rattle.wider_limits.specs.argument.CallsWider.{outcome-wider, alike-wider, told-accepted, outcome-stays, plainRulesAt, costRulesAt, follow-at, fetch-wider, join-wider}
+use Rattle.wider_limits.specs.argument.CallsWider.{outcome-wider, alike-wider, told-accepted, outcome-stays, plainRulesAt, follow-at, fetch-wider, join-wider}
 use Rattle.wider_limits.specs.argument.MeetsLaws.{whole-meets, cost-meets, three-or-eight, reads-exactly, call-refuses}
 
 -- what an older part judges pairs and cost pairs by
 abbrev pub olderPairs : JudgedBy
 olderPairs = plainPairsAt olderLimits
 
-abbrev pub olderCostPairs : (costs : List ℕ) → JudgedBy
-olderCostPairs costs = costPairsAt olderLimits costs
+abbrev pub olderCostPairs : JudgedBy
+olderCostPairs = costPairsAt olderLimits
 
 older-widens : Widens olderPairs plainPairs
 older-widens = plain-widens olderLimits limits within-older
 
-older-cost-widens : (costs : List ℕ) → Widens (olderCostPairs costs) (costPairs costs)
+older-cost-widens : Widens olderCostPairs costPairs
 older-cost-widens = cost-widens olderLimits limits within-older
 
 older-fit : FitsWidths olderLimits
@@ -68,42 +68,42 @@ older-cost-read-stays = cost-read-wider olderLimits limits within-older
 pub older-accepted-stays : (M C blocks : List ℕ) → AcceptedBy olderPairs M C blocks → AcceptedBy plainPairs M C blocks
 older-accepted-stays = accepted-wider olderPairs plainPairs older-widens
 
-pub older-cost-accepted-stays : (M C blocks : List ℕ) → AcceptedBy (olderCostPairs (costsIn M)) M C blocks → AcceptedWithCosts M C blocks
-older-cost-accepted-stays M = accepted-wider (olderCostPairs (costsIn M)) (costPairs (costsIn M)) (older-cost-widens (costsIn M)) M
+pub older-cost-accepted-stays : (M C blocks : List ℕ) → AcceptedBy olderCostPairs M C blocks → AcceptedBy costPairs M C blocks
+older-cost-accepted-stays = accepted-wider olderCostPairs costPairs older-cost-widens
 
--- every call that judges an accepted pair answers the same, and leaves the same in the lent buffer
-pub older-outcome-stays : (M C blocks : List ℕ) → AcceptedBy olderPairs M C blocks → (follows : Follows) (buffer : List ℕ) → outcomeBy plainPairs follows M C buffer ≡ outcomeBy olderPairs follows M C buffer
+-- every call that judges an accepted pair answers the same, and leaves the same in the lent buffers
+pub older-outcome-stays : (M C blocks : List ℕ) → AcceptedBy olderPairs M C blocks → (follows : Follows) (before : List (List ℕ)) → outcomeBy plainPairs follows M C before ≡ outcomeBy olderPairs follows M C before
 older-outcome-stays = outcome-wider olderPairs plainPairs older-widens
 
 -- so too where all that is known is a number that tells of acceptance
-pub older-stays : (follows : Follows) → FollowsLaws plainRules follows → (M C buffer : List ℕ) → Accepting follows (outcomeBy olderPairs follows M C buffer .answer .number) → outcomeBy plainPairs follows M C buffer ≡ outcomeBy olderPairs follows M C buffer
+pub older-stays : (follows : Follows) → FollowsLaws plainRules follows → (M C : List ℕ) (before : List (List ℕ)) → Accepting follows (outcomeBy olderPairs follows M C before .answer .number) → outcomeBy plainPairs follows M C before ≡ outcomeBy olderPairs follows M C before
 older-stays follows laws = outcome-stays (plainRulesAt olderLimits older-fit older-count) plainPairs older-widens follows (follow-at olderLimits older-fit older-count laws)
 
 module _ (M C : List ℕ) where
   -- the blocks in the lent buffer
-  pub older-blocks-stay : (buffer : List ℕ) → outcomeBy olderPairs writesBlocks M C buffer .answer .number ≡ 0 → outcomeBy plainPairs writesBlocks M C buffer ≡ outcomeBy olderPairs writesBlocks M C buffer
+  pub older-blocks-stay : (before : List (List ℕ)) → outcomeBy olderPairs writesBlocks M C before .answer .number ≡ 0 → outcomeBy plainPairs writesBlocks M C before ≡ outcomeBy olderPairs writesBlocks M C before
   unfolding Accepting
-  older-blocks-stay buffer z = older-stays writesBlocks blocks-follow M C buffer (inl z)
+  older-blocks-stay before z = older-stays writesBlocks blocks-follow M C before (inl z)
 
   -- with costs
-  pub older-cost-blocks-stay : (buffer : List ℕ) → outcomeBy (olderCostPairs (costsIn M)) writesBlocks M C buffer .answer .number ≡ 0 → costOutcome M C buffer ≡ outcomeBy (olderCostPairs (costsIn M)) writesBlocks M C buffer
+  pub older-cost-blocks-stay : (before : List (List ℕ)) → outcomeBy olderCostPairs writesBlocks M C before .answer .number ≡ 0 → outcomeBy costPairs writesBlocks M C before ≡ outcomeBy olderCostPairs writesBlocks M C before
   unfolding Accepting
-  older-cost-blocks-stay buffer z =
-      outcome-stays (costRulesAt olderLimits older-fit older-count (costsIn M)) (costPairs (costsIn M)) (older-cost-widens (costsIn M)) writesBlocks blocks-follow M C buffer (inl z)
+  older-cost-blocks-stay before z =
+      outcome-stays (costRulesAt olderLimits older-fit older-count) costPairs older-cost-widens writesBlocks blocks-follow M C before (inl z)
 
   -- the merged file: 0 or 23
-  pub older-merged-stays : (buffer : List ℕ) → Accepting writesMerged (outcomeBy olderPairs writesMerged M C buffer .answer .number) → outcomeBy plainPairs writesMerged M C buffer ≡ outcomeBy olderPairs writesMerged M C buffer
+  pub older-merged-stays : (before : List (List ℕ)) → Accepting writesMerged (outcomeBy olderPairs writesMerged M C before .answer .number) → outcomeBy plainPairs writesMerged M C before ≡ outcomeBy olderPairs writesMerged M C before
   older-merged-stays = older-stays writesMerged merged-follow M C
 
   -- the sheet: 0 or 28
-  pub older-sheet-stays : (buffer : List ℕ) → Accepting (writesSheet plainRule C) (outcomeBy olderPairs (writesSheet plainRule C) M C buffer .answer .number) → outcomeBy plainPairs (writesSheet plainRule C) M C buffer ≡ outcomeBy olderPairs (writesSheet plainRule C) M C buffer
+  pub older-sheet-stays : (before : List (List ℕ)) → Accepting (writesSheet plainRule C) (outcomeBy olderPairs (writesSheet plainRule C) M C before .answer .number) → outcomeBy plainPairs (writesSheet plainRule C) M C before ≡ outcomeBy olderPairs (writesSheet plainRule C) M C before
   older-sheet-stays = older-stays (writesSheet plainRule C) (sheet-follow C) M C
 
   -- two states compared: 0 or 27, and yes or no
-  pub older-alike-stays : (x : Named) (buffer : List ℕ) → Accepting (testsParts x) (outcomeBy olderPairs (testsParts x) M C buffer .answer .number) → (outcomeBy plainPairs (testsParts x) M C buffer ≡ outcomeBy olderPairs (testsParts x) M C buffer) × (alikeSays plainPairs x M C ≡ alikeSays olderPairs x M C)
-  older-alike-stays x buffer z =
-      let a = told-accepted (plainRulesAt olderLimits older-fit older-count) (testsParts x) (follow-at olderLimits older-fit older-count (parts-follow x)) M C buffer z in
-      (older-outcome-stays M C (a .0) (a .1) (testsParts x) buffer, alike-wider olderPairs plainPairs older-widens M C (a .0) (a .1) x)
+  pub older-alike-stays : (x : Named) (before : List (List ℕ)) → Accepting (testsParts x) (outcomeBy olderPairs (testsParts x) M C before .answer .number) → (outcomeBy plainPairs (testsParts x) M C before ≡ outcomeBy olderPairs (testsParts x) M C before) × (alikeSays plainPairs x M C ≡ alikeSays olderPairs x M C)
+  older-alike-stays x before z =
+      let a = told-accepted (plainRulesAt olderLimits older-fit older-count) (testsParts x) (follow-at olderLimits older-fit older-count (parts-follow x)) M C before z in
+      (older-outcome-stays M C (a .0) (a .1) (testsParts x) before, alike-wider olderPairs plainPairs older-widens M C (a .0) (a .1) x)
 
 -- the call that fetches: 0 or 24
 pub older-fetch-stays : (s : List ℕ) (state : ℕ) → (fetchAnswer olderLimits s state .number ≡ 0) ⊎ (fetchAnswer olderLimits s state .number ≡ 24) → fetchAnswer limits s state ≡ fetchAnswer olderLimits s state
@@ -123,20 +123,20 @@ older-cost-meets = cost-meets olderLimits limits within-older others-stay limits
 pub older-refuses-larger : (file : List ℕ) (M : Model) → FileOf limits file M → Larger olderLimits M → ThreeOrEight (readWhole olderLimits) file
 older-refuses-larger file M f = three-or-eight olderLimits (readWhole olderLimits) file M (older-meets file M f)
 
--- so every call that judges without costs answers 3 or 8 there, and leaves the lent buffer as it was
-pub older-calls-refuse-larger : (file : List ℕ) (M : Model) → FileOf limits file M → Larger olderLimits M → (follows : Follows) (C buffer : List ℕ) → (number place : ℕ) × ((number ≡ 3) ⊎ (number ≡ 8)) × (outcomeBy olderPairs follows file C buffer ≡ unwritten (refusalIn (fault number) 1 place (length file)) buffer)
-older-calls-refuse-larger file M f large follows C buffer =
+-- so every call that judges without costs answers 3 or 8 there, and leaves the lent buffers as they were
+pub older-calls-refuse-larger : (file : List ℕ) (M : Model) → FileOf limits file M → Larger olderLimits M → (follows : Follows) (C : List ℕ) (before : List (List ℕ)) → (number place : ℕ) × ((number ≡ 3) ⊎ (number ≡ 8)) × (outcomeBy olderPairs follows file C before ≡ unwritten (refusalIn (fault number) 1 place (length file)) before)
+older-calls-refuse-larger file M f large follows C before =
     let x = older-refuses-larger file M f large in
-    (x .number, x .place, x .either, call-refuses olderLimits (readWhole olderLimits) file x plainRule follows C buffer)
+    (x .number, x .place, x .either, call-refuses olderLimits (readWhole olderLimits) file x plainRule follows C before)
 
 -- and so of cost models, in the call that judges them
 pub older-cost-refuses-larger : (file : List ℕ) (M : Model) → CostFileOf limits file M → Larger olderLimits M → ThreeOrEight (readCosts olderLimits) file
 older-cost-refuses-larger file M f = three-or-eight olderLimits (readCosts olderLimits) file M (older-cost-meets file M f)
 
-pub older-cost-calls-refuse-larger : (file : List ℕ) (M : Model) → CostFileOf limits file M → Larger olderLimits M → (costs : List ℕ) (follows : Follows) (C buffer : List ℕ) → (number place : ℕ) × ((number ≡ 3) ⊎ (number ≡ 8)) × (outcomeBy (costPairsAt olderLimits costs) follows file C buffer ≡ unwritten (refusalIn (fault number) 1 place (length file)) buffer)
-older-cost-calls-refuse-larger file M f large costs follows C buffer =
+pub older-cost-calls-refuse-larger : (file : List ℕ) (M : Model) → CostFileOf limits file M → Larger olderLimits M → (follows : Follows) (C : List ℕ) (before : List (List ℕ)) → (number place : ℕ) × ((number ≡ 3) ⊎ (number ≡ 8)) × (outcomeBy olderCostPairs follows file C before ≡ unwritten (refusalIn (fault number) 1 place (length file)) before)
+older-cost-calls-refuse-larger file M f large follows C before =
     let x = older-cost-refuses-larger file M f large in
-    (x .number, x .place, x .either, call-refuses olderLimits (readCosts olderLimits) file x (costFile costs) follows C buffer)
+    (x .number, x .place, x .either, call-refuses olderLimits (readCosts olderLimits) file x (costFile (costsIn file)) follows C before)
 
 -- and it reads the others
 pub older-reads-exactly : (file : List ℕ) (M : Model) → FileOf limits file M → (readWhole olderLimits file ≡ model M (length file)) ↔ ((length (M .labels) ≤ 64) × (entryCount M ≤ 1024))

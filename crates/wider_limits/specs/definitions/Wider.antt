@@ -1,28 +1,18 @@
 -- Document 02, K7: 'Stored files are read as they are, and a pair accepted before is accepted with the same blocks. An older part meets a
 -- larger sound model with 3 or 8.' What is said of two sets of limits.
 use Prim.Native.Nat.{ℕ, suc, _≤_, _<_}
-use mathlib.Core.Path.{_≡_, refl}
+use mathlib.Core.Path.{_≡_}
 use mathlib.Core.Logic.{_⊎_}
 use mathlib.Core.List.{List}
 use lib.ListN.{length, take}
 use native.Mathlib.Omega.{arith}
-use Rattle.bisimulation.specs.definitions.StepRule.{Met}
 use Rattle.rules.specs.definitions.Limits.{Limits, limits, olderLimits}
 use Rattle.rules.specs.definitions.Model.{Transition, Model}
 use Rattle.rules.specs.definitions.SoundModel.{sumOver, entryCount}
 use Rattle.rules.specs.definitions.Faults.{fault}
-use Rattle.rules.specs.definitions.Reading.{model, noModel, readWhole, placeOf}
-use Rattle.rules.specs.definitions.PlainRule.{plainRule}
-use Rattle.rules.specs.definitions.PlainSays.{plainSays}
+use Rattle.rules.specs.definitions.Reading.{model, noModel, placeOf}
 use Rattle.rules.specs.definitions.Judging.{Reader}
-use Rattle.rules.specs.definitions.Accepted.{FileOf}
-use Rattle.rules.specs.definitions.JudgedBy.{JudgedBy, plainPairs}
-use Rattle.costs.specs.definitions.CostStepRule.{CostMet}
-use Rattle.cost_files.specs.definitions.CostModel.{costOf, CostFileOf}
-use Rattle.cost_files.specs.definitions.CostReading.{readCosts}
-use Rattle.cost_files.specs.definitions.CostFile.{costFile}
-use Rattle.cost_files.specs.definitions.CostSays.{costSays}
-use Rattle.cost_files.specs.definitions.CostPairs.{costPairs}
+use Rattle.rules.specs.definitions.JudgedBy.{JudgedBy}
 
 -- each limit of L is at most that of W
 pub record Within (L W : Limits) : Type 0 where
@@ -53,29 +43,7 @@ pub record ReadsOn (older newer : Reader) : Type 0 where
 pub record Widens (older newer : JudgedBy) : Type 0 where
   pub limits : Within (older .limits) (newer .limits)
   pub read : ReadsOn (older .read) (newer .read)
-  pub file : newer .file ≡ older .file
-
--- document 01's model files and step rule, within given limits
-abbrev pub plainPairsAt : Limits → JudgedBy
-plainPairsAt L = record { limits = L; read = readWhole L; isFile = FileOf L; file = plainRule; says = plainSays; met = Met }
-
-pub plain-pairs-at : plainPairsAt limits ≡ plainPairs
-plain-pairs-at = refl
-
--- document 02's cost models and the step rule with these costs, within given limits
-abbrev pub costPairsAt : Limits → (costs : List ℕ) → JudgedBy
-costPairsAt L costs =
-    record {
-      limits = L;
-      read = readCosts L;
-      isFile = CostFileOf L;
-      file = costFile costs;
-      says = costSays costs;
-      met = CostMet (costOf costs);
-    }
-
-pub cost-pairs-at : (costs : List ℕ) → costPairsAt limits costs ≡ costPairs costs
-cost-pairs-at costs = refl
+  pub file : (model : List ℕ) → newer .file model ≡ older .file model
 
 -- how many entries the transitions before r have
 unfoldable pub entriesBefore : Model → (r : ℕ) → ℕ

@@ -1,0 +1,22 @@
+-- What the calls that judge promise, in the definitions of documents 01 and 02.
+use Prim.Native.Nat.{ℕ}
+use mathlib.Core.List.{List, [], _∷_}
+use Rattle.rules.specs.definitions.JudgedBy.{plainPairs}
+use Rattle.rules.specs.definitions.Answers.{writesBlocks, JudgeNumber}
+use Rattle.rules.specs.definitions.Demands.{PairDemands, Demands}
+use Rattle.cost_files.specs.definitions.CostAnswer.{CostDemands}
+use Rattle.rule_kind.specs.Kinds.{pairsBy}
+use Rattle.rule_kind.specs.declared.Kind.{Kind}
+use Rattle.rule_kind.specs.declared.Kind.the-variants.{Plain, Costs}
+use Rattle.answer.specs.declared.Answer.{Answer}
+use Rattle.judgement.specs.Verdicts.{PairAnswered}
+
+-- their demands, by the step rule
+abbrev pub judgeDemands : Kind → PairDemands
+judgeDemands Plain = Demands plainPairs writesBlocks JudgeNumber
+judgeDemands Costs = CostDemands
+
+-- a pair judged by the step rule, the blocks written into the lent block buffer
+abbrev pub JudgeAnswered : Kind → (model certificate before after : List ℕ) → Answer → Type 0
+JudgeAnswered kind model certificate before after r =
+    PairAnswered (pairsBy kind) writesBlocks (judgeDemands kind) model certificate (before ∷ []) (after ∷ []) r

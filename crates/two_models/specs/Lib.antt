@@ -1,0 +1,2 @@
+pub mod TwoModels
+pub mod TwoModelsLaws

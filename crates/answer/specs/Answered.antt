@@ -2,9 +2,9 @@
 use Prim.Native.Nat.{ℕ, _+_, _≤_, _<_}
 use mathlib.Core.Path.{_≡_}
 use mathlib.Core.List.{List, _++_}
-use lib.ListN.{length, drop, getD}
+use lib.ListN.{length, drop}
 use Rattle.rules.specs.definitions.Answers as rules
-use Rattle.rules.specs.definitions.Answers.{answerWithoutPlace, Outcome, leftIn, lengthsOf, fileOf}
+use Rattle.rules.specs.definitions.Answers.{answerWithoutPlace, Outcome, leftIn, firstWritten, fileOf}
 use Rattle.answer.specs.declared.Answer.{Answer}
 
 -- the struct of numbers as the papers' answer; beside it stands how many bytes were written
@@ -41,10 +41,6 @@ pub record StretchInside (files : List (List ℕ)) (r : Answer) : Type 0 where
   pub named : r .file ≤ length files
   pub fits : r .«stretch_start» + r .«stretch_length» ≤ length (fileOf files (r .file))
 
--- the length written into the first lent buffer, 0 where none is lent
-abbrev pub firstWritten : Outcome → ℕ
-firstWritten o = getD (lengthsOf o) 0 0
-
 -- an answer and the lent buffers afterwards are those of an outcome
 pub record Gives (o : Outcome) (after : List (List ℕ)) (r : Answer) : Type 0 where
   pub answer : answered r ≡ o .answer
@@ -57,7 +53,8 @@ pub record OutcomeIs (o : Outcome) (files after : List (List ℕ)) (r : Answer) 
   pub inside : StretchInside files r
 
 -- what an exported call promises, given these files, with these bytes in the lent buffers after it: it answers this outcome, number, file, place,
--- stretch, state, remainder and written length, leaves in the buffers what it says, and keeps these demands of its number
+-- stretch, state, remainder and the length written into the first buffer, leaves in the buffers what it says, and keeps these demands of its
+-- number. An answer with a second length says it beside this
 pub record CallAnswered (o : Outcome) (files after : List (List ℕ)) (kept : ℕ → Type 0) (r : Answer) : Type 0 where
   pub outcome : OutcomeIs o files after r
   pub demands : kept (r .number)

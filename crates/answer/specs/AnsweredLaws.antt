@@ -7,10 +7,10 @@ use native.Mathlib.Decide.{decLt}
 use native.Mathlib.Omega.{arith}
 use Rattle.rules.specs.definitions.Faults as rules-faults
 use Rattle.rules.specs.definitions.Answers as rules
-use Rattle.rules.specs.definitions.Answers.{Outcome, leftIn, refusalIn, answerWithoutPlace, fileOf, unwritten, filledWith, filledEach, filled, filesOutcome}
+use Rattle.rules.specs.definitions.Answers.{Outcome, leftIn, firstWritten, refusalIn, answerWithoutPlace, fileOf, unwritten, filledWith, filledEach, filled, filesOutcome}
 use Rattle.rules.specs.argument.AnswerLaws.{left-unwritten, file-short, file-whole, files-without}
 use Rattle.answer.specs.declared.Answer.{Answer}
-use Rattle.answer.specs.Answered.{answered, Says, FileAnswered, FileWritten, StretchInside, firstWritten, Gives, OutcomeIs}
+use Rattle.answer.specs.Answered.{answered, Says, FileAnswered, FileWritten, StretchInside, Gives, OutcomeIs}
 
 -- an answer whose number and length are known by other names
 pub without-as : (number written : ℕ) {k w : ℕ} {r : Answer} → Says (answerWithoutPlace k) w r → k ≡ number → w ≡ written → Says (answerWithoutPlace number) written r

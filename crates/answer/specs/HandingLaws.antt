@@ -8,9 +8,9 @@ use native.Mathlib.Nat.{add-sub-cancel-left}
 use native.Mathlib.Decide.{decLe}
 use native.Mathlib.Omega.{arith}
 use Rattle.rules.specs.definitions.Answers as rules
-use Rattle.rules.specs.definitions.Answers.{Lent, Outcome, leftIn, lengthsOf, fileOf, stretchIn, stretchOf}
+use Rattle.rules.specs.definitions.Answers.{Lent, Outcome, leftIn, lengthsOf, firstWritten, fileOf, stretchIn, stretchOf}
 use Rattle.answer.specs.declared.Answer.{Answer}
-use Rattle.answer.specs.Answered.{answered, StretchInside, firstWritten, OutcomeIs, CallAnswered}
+use Rattle.answer.specs.Answered.{answered, StretchInside, OutcomeIs, CallAnswered}
 use Rattle.answer.specs.Handing.{partFrom, sliceOf, HandsBack, Handed, CallHandedBack}
 
 -- the file of an answer, of three, and of their slices

@@ -124,7 +124,7 @@ or-another layer c x = go (ℕ-discrete layer c)
     go (no p) = omega (arith, notSame {z = 0} x p refl, notSame {z = x} 0 p refl)
 
 -- L and R are the sides of an equation, at each state
-record AreSides (L R : ℕ → ℕ) (equation : ℕ → Sides) : Type 0 where
+pub record AreSides (L R : ℕ → ℕ) (equation : ℕ → Sides) : Type 0 where
   pub left : (v : ℕ) → equation v .left ≡ L v
   pub right : (v : ℕ) → equation v .right ≡ R v
 
@@ -136,7 +136,7 @@ same-break number {L} {R} {equation} s (suc left) v =
     ap₂ (λ (l r : ℕ). ifSame l r (breakFrom number (sidesOf L R) left (v + 1)) (faultBy number v (subℕ l r))) (sym (s .left v)) (sym (s .right v))
     ∙ ap (λ (f : Fault). ifSame (equation v .left) (equation v .right) f (faultBy number v (subℕ (equation v .left) (equation v .right)))) (same-break number s left (v + 1))
 
-same-first : (A : Automaton) (number : ℕ) {L R : ℕ → ℕ} {equation : ℕ → Sides} → AreSides L R equation → firstBreak A number (sidesOf L R) ≡ firstBreak A number equation
+pub same-first : (A : Automaton) (number : ℕ) {L R : ℕ → ℕ} {equation : ℕ → Sides} → AreSides L R equation → firstBreak A number (sidesOf L R) ≡ firstBreak A number equation
 unfolding firstBreak
 same-first A number s = same-break number s (A .states) 0
 

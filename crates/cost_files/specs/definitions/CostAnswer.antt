@@ -20,7 +20,8 @@ CostJudgeNumber k = (k ≤ 22) ⊎ ((k ≡ 29) ⊎ (k ≡ 30))
 
 -- what it keeps when it answers this number, with these bytes in the lent buffers before and after it
 pub record CostDemands (model certificate : List ℕ) (before after : List (List ℕ)) (number : ℕ) : Type 0 where
-  -- the demands of every call that judges, by the rule with the costs that stand in the model file
+  -- the demands of every call that judges, by the rule with the costs that stand in the model file: 'What is promised of largest relations is wanted
+  -- here too'
   pub judged : Demands costPairs writesBlocks CostJudgeNumber model certificate before after number
   -- these are the costs of the model whose file it is
   pub own : (M : Model) (f : CostFileOf limits model M) → costsIn model ≡ f .costs

@@ -28,7 +28,7 @@ module _ (cost : ℕ → ℕ) (A : Automaton) where
   abbrev pub lastCostFault : (L : ℤ) → (ℕ → ℤ) → (ℕ → ℤ) → (q t : ℕ) → Fault
   lastCostFault L = lastFault A (priceWithCost cost A L)
 
-  -- the prices of a record, by the challenger's kind
+  -- the prices of a record, by the challenger's kind: the conditions of document 01 with L's term on the side of the targets, and of G in the last
   unfoldable pub costPricesFault : Pairs → (q t : ℕ) → (ℕ → ℤ) → Fault
   costPricesFault R q t p =
       byKind A q

@@ -14,7 +14,8 @@ use Rattle.cost_files.specs.definitions.CostReading.{readCosts}
 use Rattle.cost_files.specs.definitions.CostFile.{costFile}
 use Rattle.cost_files.specs.definitions.CostSays.{costSays}
 
--- two cost model files hold one automaton with the same costs
+-- two cost model files hold one automaton with the same costs: what is promised of two files that hold one automaton is of these, each judged with
+-- its own costs
 pub record HoldOneWithCosts (model other : List ℕ) (M N : Model) : Type 0 where
   pub automaton : HoldOneAutomaton M N
   pub costs : costsIn model ≡ costsIn other

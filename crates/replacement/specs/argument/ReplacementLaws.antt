@@ -18,7 +18,7 @@ use Rattle.quotient.specs.definitions.Quotient.{quotient, mergedFile}
 use Rattle.quotient.specs.definitions.Merged.{MergedModel}
 use Rattle.rules.specs.definitions.Accepted.{FileOf}
 use Rattle.rules.specs.definitions.JudgedBy.{plainPairs, AcceptedBy}
-use Rattle.rules.specs.definitions.Answers.{Outcome, leftIn, lengthsOf, filledWith, filledEach, filled, filesOutcome, firstLent}
+use Rattle.rules.specs.definitions.Answers.{Outcome, leftIn, firstWritten, filledWith, filledEach, filled, filesOutcome, firstLent}
 use Rattle.quotient.specs.definitions.ReduceAnswer.{writesMerged, ReduceNumber}
 use Rattle.rules.specs.definitions.Demand3.{InOneBlock, HoldsModel}
 use Rattle.rules.specs.definitions.Demands.{KeepsRulesOn, outcomeBy, Accepting, Demands}
@@ -154,12 +154,12 @@ module _ (model certificate lent : List ℕ) (after : List (List ℕ)) (number :
 
     -- the bytes written are the merged file
     abbrev written : List ℕ
-    written = take (getD (lengthsOf o) 0 0) (firstLent after)
+    written = take (firstWritten o) (firstLent after)
 
     wrote : written ≡ file
     unfolding filled filledEach filledWith Accepting
     wrote =
-        ap (λ (x : Outcome). take (getD (lengthsOf x) 0 0) (firstLent after)) (sym whole)
+        ap (λ (x : Outcome). take (firstWritten x) (firstLent after)) (sym whole)
         ∙ ap (λ (l : List (List ℕ)). take (length file) (firstLent l)) (d .written (inl z) M blocks k ∙ ap leftIn (followed ∙ sym whole))
         ∙ take-append-seam file _
 

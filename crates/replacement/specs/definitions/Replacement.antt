@@ -5,12 +5,13 @@ use Prim.Native.Nat.{ℕ, _+_, _<_}
 use mathlib.Core.Path.{_≡_}
 use mathlib.Core.List.{List}
 use lib.ListN.{length, take, getD}
+use Rattle.bisimulation.specs.definitions.StepRule.{Met}
 use Rattle.bisimulation.specs.definitions.Largest.{Bisimulation, BisimilarByPairs}
 use Rattle.rules.specs.definitions.Model.{Model, automatonOf}
 use Rattle.rules.specs.definitions.SoundModel.{Bytes, SoundModel}
 use Rattle.quotient.specs.definitions.Quotient.{quotient}
 use Rattle.rules.specs.definitions.JudgedBy.{JudgedBy, plainPairs, AcceptedBy}
-use Rattle.rules.specs.definitions.Answers.{lengthsOf, firstLent}
+use Rattle.rules.specs.definitions.Answers.{firstWritten, firstLent}
 use Rattle.quotient.specs.definitions.ReduceAnswer.{writesMerged, ReduceNumber}
 use Rattle.rules.specs.definitions.Demand3.{InOneBlock, HoldsModel}
 use Rattle.rules.specs.definitions.Demands.{KeepsRulesOn, outcomeBy, Demands}
@@ -35,11 +36,11 @@ module _ (by : JudgedBy) where
   -- N may be used for M, whose states belong to these blocks
   pub record Replaces (M N : Model) (blocks : List ℕ) : Type 0 where
     -- 'That relation is symmetric, keeps labels and meets the step rule', on N 'beside its original as in K1, without size limits'
-    pub linked : Bisimulation (by .met (joinedFile M N)) (automatonOf (joined M N)) (LinkedBy M N blocks)
+    pub linked : Bisimulation (Met) (automatonOf (joined M N)) (LinkedBy M N blocks)
     -- each state of N stands for a block
     pub stands : (b : ℕ) → b < length (N .labels) → (s : ℕ) × (s < length (M .labels)) × (getD blocks s 0 ≡ b)
     -- each state of M and the one that stands for its block are linked by some such relation
-    pub bisimilar : (s : ℕ) → s < length (M .labels) → BisimilarByPairs (by .met (joinedFile M N)) (automatonOf (joined M N)) s (standIn M blocks s)
+    pub bisimilar : (s : ℕ) → s < length (M .labels) → BisimilarByPairs (Met) (automatonOf (joined M N)) s (standIn M blocks s)
     -- for every certificate accepted for the joined file, where it is within the limits, they lie in one block, and K1's alike says yes of them
     pub oneBlock : SoundModel (by .limits) (joined M N) → (certificate shared : List ℕ) → Bytes certificate → AcceptedBy by (joinedFile M N) certificate shared → (s : ℕ) → s < length (M .labels) → InOneBlock shared s (standIn M blocks s)
     pub alike : SoundModel (by .limits) (joined M N) → (certificate shared : List ℕ) → Bytes certificate → AcceptedBy by (joinedFile M N) certificate shared → (s : ℕ) → s < length (M .labels) → alikeSays by (withStandIn M blocks s) (joinedFile M N) certificate ≡ 1
@@ -59,4 +60,4 @@ module _ (by : JudgedBy) where
 -- used for the original. The length written is the outcome's, and `judging` says that there are M and blocks
 pub record ReduceDemands (model certificate : List ℕ) (before after : List (List ℕ)) (number : ℕ) : Type 0 where
   pub judging : Demands plainPairs writesMerged ReduceNumber model certificate before after number
-  pub replaces : number ≡ 0 → (M : Model) (blocks : List ℕ) → KeepsRulesOn plainPairs model certificate M blocks → HoldsReplacement plainPairs (take (getD (lengthsOf (outcomeBy plainPairs writesMerged model certificate before)) 0 0) (firstLent after)) M blocks
+  pub replaces : number ≡ 0 → (M : Model) (blocks : List ℕ) → KeepsRulesOn plainPairs model certificate M blocks → HoldsReplacement plainPairs (take (firstWritten (outcomeBy plainPairs writesMerged model certificate before)) (firstLent after)) M blocks

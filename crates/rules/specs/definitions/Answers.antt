@@ -100,6 +100,10 @@ leftIn o = map (λ (x : Lent). x .bytes) (o .lent)
 abbrev pub lengthsOf : Outcome → List ℕ
 lengthsOf o = map (λ (x : Lent). x .written) (o .lent)
 
+-- that of the first lent buffer, 0 where none is lent
+abbrev pub firstWritten : Outcome → ℕ
+firstWritten o = getD (lengthsOf o) 0 0
+
 -- a buffer as it was
 abbrev pub untouched : List ℕ → Lent
 untouched buffer = record { bytes = buffer; written = 0 }
@@ -150,7 +154,8 @@ unfoldable pub judgedOutcome : Follows → (M C : List ℕ) → (before : List (
 judgedOutcome follows M C before N (accepted blocks) = follows .outcome N blocks before
 judgedOutcome follows M C before N (refusedIn f file place) = unwritten (judgementAnswer (M ∷ C ∷ []) (refusedIn f file place)) before
 
--- 'block buffer, after the model': 10, 'shorter than n', for what reading the model gave; then the judgement
+-- 'block buffer, after the model': 10, 'shorter than n', for what reading the model gave; then the judgement. Where no block buffer is lent its room
+-- is 0, and no buffer is shorter
 unfoldable pub readOutcome : Follows → (M C : List ℕ) → (before : List (List ℕ)) → Reading → Judgement → Outcome
 readOutcome follows M C before (model N end) judged =
     ifLess (length (firstLent before)) (follows .blockRoom N) (unwritten (answerWithoutPlace 10) before) (judgedOutcome follows M C before N judged)

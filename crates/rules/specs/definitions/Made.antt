@@ -22,7 +22,8 @@ passesLimit L M =
     (ifLess (L .entries) (entryCount M) true
     false))
 
--- a model that was made: a number where it 'passes a limit', the next where the 'buffer' is 'shorter than it'; else its file is written
+-- a model that was made: the number `over` where it 'passes a limit', which its request may tell of what it is made of; `short` where the 'buffer' is
+-- 'shorter than it'; else its file is written
 unfoldable pub madeOutcome : (over short : ℕ) → (passes : Bool) → Model → (before : List (List ℕ)) → Outcome
 madeOutcome over short passes M before =
     ifTrue passes (unwritten (answerWithoutPlace over) before) (filesOutcome short (modelBytes M ∷ []) before)

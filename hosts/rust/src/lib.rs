@@ -103,17 +103,7 @@ impl fmt::Display for Difference {
 
 /// Why a call did not accept. A refusal writes no byte of any lent buffer.
 ///
-/// It borrows the file at fault. An error that outlives the files keeps the words:
-///
-/// ```
-/// fn blocks(model: &[u8], certificate: &[u8]) -> Result<Vec<u8>, Box<dyn std::error::Error>> {
-///     let mut buffer = [0; zolkirta::STATES];
-///     let blocks = zolkirta::judge(model, certificate, &mut buffer).map_err(|refusal| refusal.to_string())?;
-///     Ok(blocks.to_vec())
-/// }
-/// let error = blocks(b"PA\x02\x01\0\0LB\0\0", b"CT").unwrap_err();
-/// assert_eq!(error.to_string(), "refusal 11: the file ends inside a record (certificate, byte 0)");
-/// ```
+/// It borrows the file at fault. [`into_owned`](Refusal::into_owned) makes an error of it that outlives the files.
 #[derive(Clone, Copy, PartialEq, Eq)]
 #[non_exhaustive]
 pub struct Refusal<'a> {
@@ -164,6 +154,10 @@ const MEANINGS: [&str; 31] = [
     "a flow's cost equation breaks",
 ];
 
+fn meaning_of(number: u32) -> &'static str {
+    MEANINGS.get(number as usize).copied().unwrap_or("unknown number")
+}
+
 impl Refusal<'_> {
     /// What the number means, in the words of the C header; `unknown number` for one that this crate does not know.
     ///
@@ -172,7 +166,28 @@ impl Refusal<'_> {
     /// assert_eq!(refusal.meaning(), "the file ends inside a record");
     /// ```
     pub fn meaning(&self) -> &'static str {
-        MEANINGS.get(self.number as usize).copied().unwrap_or("unknown number")
+        meaning_of(self.number)
+    }
+
+    /// The same without the stretch, so that it may outlive the files: an error to hand upwards with `?`.
+    ///
+    /// ```
+    /// use zolkirta::Refusal;
+    ///
+    /// fn blocks(model: &str, certificate: &str) -> Result<Vec<u8>, Box<dyn std::error::Error>> {
+    ///     let (model, certificate) = (std::fs::read(model)?, std::fs::read(certificate)?);
+    ///     let mut buffer = [0; zolkirta::STATES];
+    ///     let blocks = zolkirta::judge(&model, &certificate, &mut buffer).map_err(Refusal::into_owned)?;
+    ///     Ok(blocks.to_vec())
+    /// }
+    /// # let (model, certificate) = ("../../examples/small.model", "../../examples/small.certificate");
+    /// assert_eq!(blocks(model, certificate).unwrap(), [0, 0, 1]);
+    /// let error = blocks(model, model).unwrap_err();
+    /// assert_eq!(error.to_string(), "refusal 12: a record has a wrong mark (certificate, byte 0)");
+    /// assert_eq!(error.downcast::<zolkirta::OwnedRefusal>().unwrap().number, 12);
+    /// ```
+    pub fn into_owned(self) -> OwnedRefusal {
+        OwnedRefusal { number: self.number, file: self.file, place: self.place, difference: self.difference }
     }
 }
 
@@ -182,14 +197,7 @@ impl Refusal<'_> {
 /// ```
 impl fmt::Display for Refusal<'_> {
     fn fmt(&self, out: &mut fmt::Formatter) -> fmt::Result {
-        write!(out, "refusal {}: {}", self.number, self.meaning())?;
-        if let Some(file) = self.file {
-            write!(out, " ({file}, byte {})", self.place)?;
-        }
-        match self.difference {
-            Some(difference) => write!(out, ": {difference}"),
-            None => Ok(()),
-        }
+        self.into_owned().fmt(out)
     }
 }
 
@@ -207,6 +215,42 @@ impl fmt::Debug for Refusal<'_> {
 }
 
 impl std::error::Error for Refusal<'_> {}
+
+/// A [`Refusal`] that borrows no file: an error that may be kept, sent to another thread and handed upwards.
+#[derive(Clone, Copy, Debug, PartialEq, Eq, Hash)]
+#[non_exhaustive]
+pub struct OwnedRefusal {
+    /// As in [`Refusal`].
+    pub number: u32,
+    /// As in [`Refusal`].
+    pub file: Option<File>,
+    /// As in [`Refusal`].
+    pub place: usize,
+    /// As in [`Refusal`].
+    pub difference: Option<Difference>,
+}
+
+impl OwnedRefusal {
+    /// What the number means: as [`Refusal::meaning`].
+    pub fn meaning(&self) -> &'static str {
+        meaning_of(self.number)
+    }
+}
+
+impl fmt::Display for OwnedRefusal {
+    fn fmt(&self, out: &mut fmt::Formatter) -> fmt::Result {
+        write!(out, "refusal {}: {}", self.number, self.meaning())?;
+        if let Some(file) = self.file {
+            write!(out, " ({file}, byte {})", self.place)?;
+        }
+        match self.difference {
+            Some(difference) => write!(out, ": {difference}"),
+            None => Ok(()),
+        }
+    }
+}
+
+impl std::error::Error for OwnedRefusal {}
 
 /// A file that is handed to a call, and its bytes.
 type Handed<'a> = (File, &'a [u8]);

@@ -1,0 +1,130 @@
+//! The words of the command line: options in any place, a call, its files and its states.
+
+use crate::calls::{Call, Writes, CALLS};
+use crate::failure::{shown, Usage};
+use crate::input;
+use crate::output::Output;
+use std::ffi::{OsStr, OsString};
+use std::os::unix::ffi::OsStrExt;
+
+pub enum Asked {
+    Call(Command),
+    Help(Option<&'static Call>),
+    Version,
+}
+
+pub struct Command {
+    pub call: &'static Call,
+    /// The names of its files, in its order.
+    pub files: Vec<OsString>,
+    pub states: Vec<u32>,
+    pub output: Option<Output>,
+    pub json: bool,
+    pub quiet: bool,
+}
+
+pub fn parse(words: impl Iterator<Item = OsString>) -> Result<Asked, Usage> {
+    let given = Given::sorted(words);
+    let call = given.words.first().map(|name| (name, CALLS.iter().find(|call| name == call.name)));
+    let known = call.and_then(|(_, call)| call);
+    let usage = |fault| Usage { call: known, fault };
+    if let Some(fault) = given.fault {
+        return Err(usage(fault));
+    }
+    match call {
+        Some((name, None)) => Err(usage(format!("there is no call {}", shown(name)))),
+        _ if given.version => Ok(Asked::Version),
+        _ if given.help => Ok(Asked::Help(known)),
+        None => Err(usage("no call is named".to_owned())),
+        Some((_, Some(call))) => Command::new(call, given).map(Asked::Call).map_err(usage),
+    }
+}
+
+/// The command line with its options sorted out.
+#[derive(Default)]
+struct Given {
+    /// The call and what it takes.
+    words: Vec<OsString>,
+    output: Option<OsString>,
+    json: bool,
+    quiet: bool,
+    help: bool,
+    version: bool,
+    /// The first thing that is wrong with the options.
+    fault: Option<String>,
+}
+
+impl Given {
+    fn sorted(mut rest: impl Iterator<Item = OsString>) -> Given {
+        let mut given = Given::default();
+        while let Some(word) = rest.next() {
+            match word.as_bytes() {
+                b"--" => given.words.extend(rest.by_ref()),
+                b"--json" => given.json = true,
+                b"--quiet" | b"-q" => given.quiet = true,
+                b"--help" | b"-h" => given.help = true,
+                b"--version" | b"-V" => given.version = true,
+                // An option after -o is more likely a name forgotten than a name.
+                b"-o" | b"--output" => given.set_output(rest.next().filter(|name| !is_option(name))),
+                [b'-', b'o', name @ ..] => given.set_output(Some(OsStr::from_bytes(name).to_owned())),
+                bytes => match bytes.strip_prefix(b"--output=") {
+                    Some(name) => given.set_output(Some(OsStr::from_bytes(name).to_owned())),
+                    None if is_option(&word) => given.fail(format!("there is no option {}", shown(&word))),
+                    None => given.words.push(word),
+                },
+            }
+        }
+        given
+    }
+
+    fn set_output(&mut self, name: Option<OsString>) {
+        match name.filter(|name| !name.is_empty()) {
+            None => self.fail("-o needs the name of a file".to_owned()),
+            Some(_) if self.output.is_some() => self.fail("-o stands twice".to_owned()),
+            name => self.output = name,
+        }
+    }
+
+    fn fail(&mut self, fault: String) {
+        self.fault.get_or_insert(fault);
+    }
+}
+
+fn is_option(word: &OsStr) -> bool {
+    word.len() > 1 && word.as_bytes()[0] == b'-'
+}
+
+impl Command {
+    fn new(call: &'static Call, given: Given) -> Result<Command, String> {
+        let mut words = given.words.into_iter().skip(1);
+        let names = call.files.iter().map(|role| role.word).chain(call.states.iter().copied());
+        let taken: Vec<OsString> = names.map(|name| words.next().ok_or(format!("{name} is missing"))).collect::<Result<_, _>>()?;
+        if let Some(word) = words.next() {
+            return Err(format!("{} is one word too many", shown(&word)));
+        }
+        match (&call.writes, &given.output) {
+            (Writes::Never, Some(_)) => return Err("it writes no file, and takes no -o".to_owned()),
+            (Writes::Always, None) => return Err("-o OUT is missing".to_owned()),
+            _ => {}
+        }
+        let (files, states) = taken.split_at(call.files.len());
+        if files.iter().filter(|name| input::is_standard(name)).count() > 1 {
+            return Err("- is standard input, and there is only one".to_owned());
+        }
+        let states = states.iter().map(|word| state(word).ok_or(format!("{} is no state's number", shown(word))));
+        Ok(Command {
+            call,
+            files: files.to_vec(),
+            states: states.collect::<Result<_, _>>()?,
+            output: given.output.map(Output::new),
+            json: given.json,
+            quiet: given.quiet,
+        })
+    }
+}
+
+/// A decimal number. One above 32 bits is the largest of them: no model has such a state, so the library refuses both.
+fn state(word: &OsStr) -> Option<u32> {
+    let digits = word.to_str().filter(|digits| !digits.is_empty() && digits.bytes().all(|byte| byte.is_ascii_digit()))?;
+    Some(digits.parse().unwrap_or(u32::MAX))
+}

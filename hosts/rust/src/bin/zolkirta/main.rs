@@ -1,0 +1,89 @@
+//! `zolkirta`, the tool: judges, reduces, joins and compares models by file name. Its help says how.
+
+mod automaton;
+mod calls;
+mod command;
+mod failure;
+mod help;
+mod input;
+mod json;
+mod object;
+mod output;
+mod text;
+mod verdict;
+
+use command::{Asked, Command};
+use failure::Failure;
+use std::process::ExitCode;
+use verdict::Verdict;
+
+const YES: u8 = 0;
+const NO: u8 = 1;
+const NOT_JUDGED: u8 = 2;
+
+fn main() -> ExitCode {
+    ExitCode::from(match command::parse(std::env::args_os().skip(1)) {
+        Ok(Asked::Help(call)) => status(output::to_standard_output(help::text(call).as_bytes()), YES),
+        Ok(Asked::Version) => status(output::to_standard_output(help::VERSION.as_bytes()), YES),
+        Ok(Asked::Call(command)) => run(&command),
+        Err(usage) => status(Err(Failure::Usage(usage)), YES),
+    })
+}
+
+/// The status of what was done, or where that failed, which is then said, the one for not judged.
+fn status(done: Result<(), Failure>, done_status: u8) -> u8 {
+    match done {
+        Ok(()) => done_status,
+        Err(failure) => {
+            failure.say();
+            NOT_JUDGED
+        }
+    }
+}
+
+fn run(command: &Command) -> u8 {
+    match answer(command) {
+        Ok(verdict) => {
+            if verdict.answer.is_err() {
+                say_what_stays(command);
+            }
+            status(report(&verdict), if verdict.is_yes() { YES } else { NO })
+        }
+        Err(failure) => {
+            failure.say();
+            say_what_stays(command);
+            NOT_JUDGED
+        }
+    }
+}
+
+/// Reads the files, has the library judge them, and writes the file that an accepted call is for.
+fn answer(command: &Command) -> Result<Verdict<'_>, Failure> {
+    let files = input::read(command)?;
+    let slices: Vec<&[u8]> = files.iter().map(Vec::as_slice).collect();
+    let answer = command.call.answer(&slices, &command.states);
+    let verdict = Verdict { command, files, answer };
+    if let (Some(output), Some(bytes)) = (&command.output, verdict.product()) {
+        output.write(bytes)?;
+    }
+    Ok(verdict)
+}
+
+fn say_what_stays(command: &Command) {
+    if let Some(output) = &command.output {
+        output.say_what_stays();
+    }
+}
+
+/// Says the verdict, on standard error where standard output is for the file.
+fn report(verdict: &Verdict) -> Result<(), Failure> {
+    let command = verdict.command;
+    if command.quiet {
+        return Ok(());
+    }
+    let said = if command.json { object::line(verdict) } else { text::lines(verdict) };
+    match &command.output {
+        Some(output) if output.is_standard() => output::to_standard_error(said.as_bytes()),
+        _ => output::to_standard_output(said.as_bytes()),
+    }
+}

@@ -1,0 +1,84 @@
+//! The verdict as one JSON object on one line. Every field is there always, null where it does not apply.
+
+use crate::automaton::{states, transitions, Target, Transition};
+use crate::calls::Found;
+use crate::json::Value;
+use crate::verdict::Verdict;
+
+pub fn line(verdict: &Verdict) -> String {
+    format!("{}\n", object(verdict))
+}
+
+fn object(verdict: &Verdict) -> Value {
+    let (found, refusal) = (verdict.answer.as_ref().ok(), verdict.answer.as_ref().err());
+    let file = refusal.and_then(|refusal| refusal.file);
+    let name = refusal.and_then(|refusal| verdict.place(refusal)).map(|place| place.name.as_os_str());
+    let difference = refusal.and_then(|refusal| refusal.difference);
+    let output = verdict.command.output.as_ref();
+    let product = verdict.product().filter(|_| output.is_some());
+    let model = product.filter(|_| !matches!(found, Some(Found::Sheet { .. })));
+    Value::Object(vec![
+        ("call", verdict.command.call.name.into()),
+        ("number", refusal.map_or(0, |refusal| refusal.number).into()),
+        ("meaning", refusal.map_or("accepted", |refusal| refusal.meaning()).into()),
+        ("file", file.map(|file| file.number()).into()),
+        ("name", name.into()),
+        ("place", refusal.filter(|_| file.is_some()).map(|refusal| refusal.place).into()),
+        ("state", difference.map(|difference| difference.state).into()),
+        ("remainder", difference.map(|difference| difference.remainder).into()),
+        ("blocks", found.and_then(blocks).into()),
+        ("written", product.map(<[u8]>::len).into()),
+        ("output", output.filter(|_| product.is_some()).map(|output| output.name()).into()),
+        ("states", model.map(states).into()),
+        ("transitions", model.map(transitions).into()),
+        ("sheet", found.filter(|_| output.is_none()).and_then(sheet).into()),
+        ("run", found.and_then(run).into()),
+        ("alike", found.and_then(alike).into()),
+    ])
+}
+
+fn blocks(found: &Found) -> Option<Value> {
+    match found {
+        Found::Judged(blocks) | Found::Reduced { blocks, .. } | Found::Sheet { blocks, .. } => Some(Value::list(blocks.iter().copied())),
+        _ => None,
+    }
+}
+
+fn sheet(found: &Found) -> Option<&str> {
+    match found {
+        Found::Sheet { sheet, .. } => Some(sheet),
+        _ => None,
+    }
+}
+
+fn run(found: &Found) -> Option<Value> {
+    match found {
+        Found::Fetched(run) => Some(Value::list(run)),
+        _ => None,
+    }
+}
+
+fn alike(found: &Found) -> Option<bool> {
+    match found {
+        Found::Alike(yes) => Some(*yes),
+        _ => None,
+    }
+}
+
+impl From<&Transition> for Value {
+    fn from(transition: &Transition) -> Value {
+        Value::Object(vec![
+            ("number", transition.number.into()),
+            ("source", transition.source.into()),
+            ("action", transition.action.into()),
+            ("denominator", transition.denominator.into()),
+            ("targets", Value::list(&transition.targets)),
+        ])
+    }
+}
+
+impl From<&Target> for Value {
+    fn from(target: &Target) -> Value {
+        Value::Object(vec![("state", target.state.into()), ("weight", target.weight.into())])
+    }
+}

@@ -1,0 +1,148 @@
+//! The file that a call writes, whole or not at all, and the standard streams.
+
+use crate::failure::{complain, shown, Failure};
+use std::ffi::{OsStr, OsString};
+use std::fs::{self, File, Metadata, OpenOptions};
+use std::io::{self, ErrorKind, Write};
+use std::os::fd::{AsFd, BorrowedFd};
+use std::os::unix::fs::{fchown, MetadataExt};
+use std::path::{Path, PathBuf};
+
+/// What tells a regular file from all others, whatever its names: device and inode.
+#[derive(Clone, Copy, PartialEq)]
+pub struct Identity(u64, u64);
+
+impl Identity {
+    pub fn of(file: &Metadata) -> Option<Identity> {
+        file.is_file().then(|| Identity(file.dev(), file.ino()))
+    }
+}
+
+pub struct Output {
+    name: OsString,
+}
+
+impl Output {
+    pub fn new(name: OsString) -> Output {
+        Output { name }
+    }
+
+    /// Whether it is standard output.
+    pub fn is_standard(&self) -> bool {
+        self.name == "-"
+    }
+
+    pub fn shown(&self) -> String {
+        if self.is_standard() {
+            "standard output".to_owned()
+        } else {
+            shown(&self.name)
+        }
+    }
+
+    /// The name as it was given.
+    pub fn name(&self) -> &OsStr {
+        &self.name
+    }
+
+    /// The regular file that has the name now, if one has.
+    pub fn identity(&self) -> Option<Identity> {
+        if self.is_standard() {
+            return None;
+        }
+        Identity::of(&fs::metadata(&self.name).ok()?)
+    }
+
+    /// Says that an older file of the name is left alone.
+    pub fn say_what_stays(&self) {
+        if self.identity().is_some() {
+            complain(format_args!("{} stays as it was", self.shown()));
+        }
+    }
+
+    pub fn write(&self, bytes: &[u8]) -> Result<(), Failure> {
+        if self.is_standard() {
+            return to_standard_output(bytes);
+        }
+        write_whole(Path::new(&self.name), bytes).map_err(|error| Failure::File(self.shown(), error))
+    }
+}
+
+/// Writes a file beside its name, and gives it the name once it is whole. What is no regular file, as a device, is written directly.
+fn write_whole(path: &Path, bytes: &[u8]) -> io::Result<()> {
+    // Opened for writing, since an older file that may not be written may not be replaced either.
+    match OpenOptions::new().write(true).open(path) {
+        Ok(mut older) => match older.metadata()? {
+            data if data.is_file() => replace(&end_of_links(path), Some(&data), bytes),
+            _ => older.write_all(bytes),
+        },
+        Err(error) if error.kind() == ErrorKind::NotFound => replace(&end_of_links(path), None, bytes),
+        Err(error) => Err(error),
+    }
+}
+
+/// As many symbolic links as Linux follows.
+const MOST_LINKS: usize = 40;
+
+/// The name that the last of the symbolic links from here leads to, whether a file has it or none.
+fn end_of_links(path: &Path) -> PathBuf {
+    let mut path = path.to_owned();
+    for _ in 0..MOST_LINKS {
+        let Ok(next) = fs::read_link(&path) else { break };
+        path = folder_of(&path).join(next);
+    }
+    path
+}
+
+fn folder_of(path: &Path) -> &Path {
+    match path.parent() {
+        Some(folder) if !folder.as_os_str().is_empty() => folder,
+        _ => Path::new("."),
+    }
+}
+
+fn replace(path: &Path, older: Option<&Metadata>, bytes: &[u8]) -> io::Result<()> {
+    let (beside, file) = create_beside(path)?;
+    let done = fill(file, older, bytes).and_then(|()| fs::rename(&beside, path));
+    if done.is_err() {
+        let _ = fs::remove_file(&beside);
+    }
+    done
+}
+
+/// A new file in the folder of this one, with a name that no other run has.
+fn create_beside(path: &Path) -> io::Result<(PathBuf, File)> {
+    let mut attempt = 0;
+    loop {
+        let beside = folder_of(path).join(format!(".zolkirta-{}-{attempt}", std::process::id()));
+        match OpenOptions::new().write(true).create_new(true).open(&beside) {
+            Err(error) if error.kind() == ErrorKind::AlreadyExists => attempt += 1,
+            opened => return opened.map(|file| (beside, file)),
+        }
+    }
+}
+
+fn fill(mut file: File, older: Option<&Metadata>, bytes: &[u8]) -> io::Result<()> {
+    file.write_all(bytes)?;
+    if let Some(older) = older {
+        let _ = fchown(&file, Some(older.uid()), Some(older.gid())); // what only root may do for the files of others
+        file.set_permissions(older.permissions())?;
+    }
+    file.sync_all()
+}
+
+pub fn to_standard_output(bytes: &[u8]) -> Result<(), Failure> {
+    to_stream(io::stdout().as_fd(), bytes).map_err(|error| match error.kind() {
+        ErrorKind::BrokenPipe => Failure::ReaderLeft,
+        _ => Failure::File("standard output".to_owned(), error),
+    })
+}
+
+pub fn to_standard_error(bytes: &[u8]) -> Result<(), Failure> {
+    to_stream(io::stderr().as_fd(), bytes).map_err(|error| Failure::File("standard error".to_owned(), error))
+}
+
+/// Writes without a buffer, so that all has been written, or failed, at the end.
+fn to_stream(stream: BorrowedFd, bytes: &[u8]) -> io::Result<()> {
+    File::from(stream.try_clone_to_owned()?).write_all(bytes)
+}

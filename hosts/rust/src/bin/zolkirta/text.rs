@@ -1,0 +1,126 @@
+//! The verdict in words: a line that says it, and what else there is.
+
+use crate::automaton::{states, transitions, Target, Transition};
+use crate::calls::Found;
+use crate::input::shown_input;
+use crate::verdict::{Place, Verdict};
+use std::fmt::Write;
+use zolkirta::{Difference, OwnedRefusal};
+
+/// How many bytes of a record at fault are shown.
+const SHOWN_BYTES: usize = 16;
+
+pub fn lines(verdict: &Verdict) -> String {
+    match &verdict.answer {
+        Ok(found) => format!("{}\n{}", first_line(verdict, found), further_lines(verdict, found)),
+        Err(refusal) => refused_lines(verdict, refusal),
+    }
+}
+
+fn first_line(verdict: &Verdict, found: &Found) -> String {
+    match found {
+        Found::Judged(blocks) | Found::Reduced { blocks, .. } | Found::Sheet { blocks, .. } => {
+            format!("accepted: {} in {}", counted(blocks.len(), "state"), counted(block_count(blocks), "block"))
+        }
+        Found::Joined { counts: [first, second], joined } => {
+            format!("accepted: {}, {first} of the first model and {second} of the second", counted(states(joined), "state"))
+        }
+        Found::Fetched(run) => {
+            let leave = if run.len() == 1 { "leaves" } else { "leave" };
+            format!("accepted: {} {leave} state {}", counted(run.len(), "transition"), verdict.command.states[0])
+        }
+        Found::Alike(yes) => {
+            let (s, t) = (verdict.command.states[0], verdict.command.states[1]);
+            let (word, behaves) = if *yes { ("yes", "behaves") } else { ("no", "does not behave") };
+            format!("{word}: state {s} of {} {behaves} as state {t} of {}", verdict.shown(0), verdict.shown(1))
+        }
+    }
+}
+
+fn further_lines(verdict: &Verdict, found: &Found) -> String {
+    match found {
+        Found::Judged(blocks) => block_lines(blocks),
+        Found::Fetched(run) => run.iter().map(transition_line).collect(),
+        Found::Alike(_) => String::new(),
+        Found::Reduced { merged: model, .. } | Found::Joined { joined: model, .. } => {
+            let sizes = [counted(states(model), "state"), counted(transitions(model), "transition"), counted(model.len(), "byte")];
+            written_line(verdict, &sizes.join(", "))
+        }
+        Found::Sheet { sheet, .. } if verdict.command.output.is_none() => sheet.clone(),
+        Found::Sheet { sheet, .. } => {
+            written_line(verdict, &format!("{}, {}", counted(sheet.lines().count(), "line"), counted(sheet.len(), "byte")))
+        }
+    }
+}
+
+fn written_line(verdict: &Verdict, sizes: &str) -> String {
+    verdict.command.output.as_ref().map_or(String::new(), |output| format!("written: {}: {sizes}\n", output.shown()))
+}
+
+/// Blocks are numbered from 0 without gaps.
+fn block_count(blocks: &[u8]) -> usize {
+    blocks.iter().max().map_or(0, |last| usize::from(*last) + 1)
+}
+
+fn block_lines(blocks: &[u8]) -> String {
+    let mut lines = String::new();
+    for block in 0..block_count(blocks) {
+        let members = blocks.iter().enumerate().filter(|(_, of)| usize::from(**of) == block);
+        let members: String = members.map(|(state, _)| format!(" {state}")).collect();
+        let _ = writeln!(lines, "block {block}:{members}");
+    }
+    lines
+}
+
+fn transition_line(transition: &Transition) -> String {
+    let action = match transition.action {
+        0 => "internal".to_owned(),
+        action => format!("action {action}"),
+    };
+    let target = |to: &Target| format!(", to {} with {}/{}", to.state, to.weight, transition.denominator);
+    let targets: String = transition.targets.iter().map(target).collect();
+    format!("transition {}: {action}{targets}\n", transition.number)
+}
+
+fn refused_lines(verdict: &Verdict, refusal: &OwnedRefusal) -> String {
+    let place = verdict.place(refusal);
+    let at = match (&place, refusal.file) {
+        (Some(place), _) => format!(", {}, byte {}", place.said, place.byte),
+        (None, Some(file)) => format!(", {file}, byte {}", refusal.place),
+        (None, None) => String::new(),
+    };
+    let off = refusal.difference.map_or(String::new(), |difference| off_by(refusal.number, difference));
+    let stretch = place.map_or(String::new(), stretch_line);
+    format!("refused: {}, {}{at}{off}\n{stretch}", refusal.number, refusal.meaning())
+}
+
+/// The state, and by how much its left side is off: an equation's should equal the right one, the last price condition's be below it.
+fn off_by(number: u32, Difference { state, remainder }: Difference) -> String {
+    let size = remainder.unsigned_abs();
+    let words = match (number, remainder) {
+        (16, 0) => "equal but must be below".to_owned(),
+        (16, _) => format!("{size} above but must be below"),
+        (_, 0..) => format!("{size} too many"),
+        _ => format!("{size} too few"),
+    };
+    format!(", state {state}, {words}")
+}
+
+/// The file by its own name, and its bytes from the place on.
+fn stretch_line(place: Place) -> String {
+    let name = shown_input(place.name);
+    let bytes: String = place.stretch.iter().take(SHOWN_BYTES).map(|byte| format!(" {byte:02x}")).collect();
+    match place.stretch.len() {
+        0 => format!("in {name}, which ends there\n"),
+        length if length > SHOWN_BYTES => format!("in {name}, from there on:{bytes} and {}\n", counted(length - SHOWN_BYTES, "more byte")),
+        _ => format!("in {name}, from there on:{bytes}\n"),
+    }
+}
+
+fn counted(count: usize, thing: &str) -> String {
+    match count {
+        0 => format!("no {thing}s"),
+        1 => format!("1 {thing}"),
+        _ => format!("{count} {thing}s"),
+    }
+}

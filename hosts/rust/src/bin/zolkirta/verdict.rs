@@ -1,0 +1,55 @@
+//! What a call came to, for the two ways of saying it.
+
+use crate::calls::{Answer, Found};
+use crate::command::Command;
+use crate::input::shown_input;
+use std::ffi::OsString;
+use zolkirta::OwnedRefusal;
+
+pub struct Verdict<'a> {
+    pub command: &'a Command,
+    /// The bytes of the call's files, in its order.
+    pub files: Vec<Vec<u8>>,
+    pub answer: Answer,
+}
+
+/// Where a refusal lies.
+pub struct Place<'a> {
+    /// The file's name in sentences: model, certificate, first model.
+    pub said: &'static str,
+    /// Its name on the command line.
+    pub name: &'a OsString,
+    pub byte: usize,
+    /// Its bytes from there on.
+    pub stretch: &'a [u8],
+}
+
+impl Verdict<'_> {
+    /// Accepted, and where the call asks a question, answered with yes.
+    pub fn is_yes(&self) -> bool {
+        !matches!(self.answer, Err(_) | Ok(Found::Alike(false)))
+    }
+
+    /// The bytes that the call is to write where a file for them is named.
+    pub fn product(&self) -> Option<&[u8]> {
+        match &self.answer {
+            Ok(Found::Reduced { merged, .. }) => Some(merged),
+            Ok(Found::Joined { joined, .. }) => Some(joined),
+            Ok(Found::Sheet { sheet, .. }) => Some(sheet.as_bytes()),
+            _ => None,
+        }
+    }
+
+    /// The place of a refusal that has one.
+    pub fn place(&self, refusal: &OwnedRefusal) -> Option<Place<'_>> {
+        let roles = self.command.call.files;
+        let at = roles.iter().position(|role| Some(role.file) == refusal.file)?;
+        let stretch = self.files[at].get(refusal.place..).unwrap_or_default();
+        Some(Place { said: roles[at].said, name: &self.command.files[at], byte: refusal.place, stretch })
+    }
+
+    /// The name of a file of the call, as it is shown.
+    pub fn shown(&self, file: usize) -> String {
+        shown_input(&self.command.files[file])
+    }
+}

@@ -7,6 +7,13 @@ use crate::verdict::{Place, Verdict};
 use std::fmt::Write;
 use zolkirta::{Difference, OwnedRefusal};
 
+/// The refusals of states that a model does not have: of one to fetch, and of one to compare.
+const NO_STATE: u32 = 24;
+const NOT_IN_PARTS: u32 = 27;
+
+/// The refusal whose left side must be below the right one; others with a difference ask for equal sides.
+const LAST_PRICES: u32 = 16;
+
 /// How many bytes of a record at fault are shown.
 const SHOWN_BYTES: usize = 16;
 
@@ -90,16 +97,27 @@ fn refused_lines(verdict: &Verdict, refusal: &OwnedRefusal) -> String {
         (None, None) => String::new(),
     };
     let off = refusal.difference.map_or(String::new(), |difference| off_by(refusal.number, difference));
-    let stretch = place.map_or(String::new(), stretch_line);
-    format!("refused: {}, {}{at}{off}\n{stretch}", refusal.number, refusal.meaning())
+    let more = match refusal.number {
+        NO_STATE | NOT_IN_PARTS => verdict.models().map(|(name, model)| states_line(&name, model)).collect(),
+        _ => place.map_or(String::new(), stretch_line),
+    };
+    format!("refused: {}, {}{at}{off}\n{more}", refusal.number, refusal.meaning())
+}
+
+/// The states that a sound model has.
+fn states_line(name: &str, model: &[u8]) -> String {
+    match states(model) {
+        1 => format!("{name} has state 0 alone\n"),
+        count => format!("{name} has the states 0 to {}\n", count - 1),
+    }
 }
 
 /// The state, and by how much its left side is off: an equation's should equal the right one, the last price condition's be below it.
 fn off_by(number: u32, Difference { state, remainder }: Difference) -> String {
     let size = remainder.unsigned_abs();
     let words = match (number, remainder) {
-        (16, 0) => "equal but must be below".to_owned(),
-        (16, _) => format!("{size} above but must be below"),
+        (LAST_PRICES, 0) => "equal but must be below".to_owned(),
+        (LAST_PRICES, _) => format!("{size} above but must be below"),
         (_, 0..) => format!("{size} too many"),
         _ => format!("{size} too few"),
     };

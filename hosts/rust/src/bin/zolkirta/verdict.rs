@@ -4,7 +4,7 @@ use crate::calls::{Answer, Found};
 use crate::command::Command;
 use crate::input::shown_input;
 use std::ffi::OsString;
-use zolkirta::OwnedRefusal;
+use zolkirta::{File, OwnedRefusal};
 
 pub struct Verdict<'a> {
     pub command: &'a Command,
@@ -46,6 +46,12 @@ impl Verdict<'_> {
         let at = roles.iter().position(|role| Some(role.file) == refusal.file)?;
         let stretch = self.files[at].get(refusal.place..).unwrap_or_default();
         Some(Place { said: roles[at].said, name: &self.command.files[at], byte: refusal.place, stretch })
+    }
+
+    /// The call's models, each with its name as it is shown.
+    pub fn models(&self) -> impl Iterator<Item = (String, &[u8])> {
+        let roles = self.command.call.files.iter().enumerate();
+        roles.filter(|(_, role)| role.file != File::Certificate).map(|(at, _)| (self.shown(at), self.files[at].as_slice()))
     }
 
     /// The name of a file of the call, as it is shown.

@@ -4,7 +4,7 @@
 C1 to C10 of document 01; the cases that it lists under 'Also run', at the limits of K7 and at the older ones, files of the most bytes that the
 program reads, a pair with states that reach a move only by internal steps, refutations and blocks on either side of state 64, transitions
 that are the same in other terms, models joined at the limits, sheets of blocks of 1, 16, 17, 33 and 128 states and of 112 blocks, two
-cost pairs and what other programs say to the first, and every truncation of model S, with their answers by hand; and the lines of base.txt, k1.txt, k3.txt,
+cost pairs and what other calls say to the first, and every truncation of model S, with their answers by hand; and the lines of base.txt, k1.txt, k3.txt,
 k4.txt, k6.txt and k7.txt with the answers that stand there, but for refusals 10, 23, 26 and 28: the program lends buffers that are always
 long enough. Merged models of base.txt, which is older than K3, lose what K3 drops, and lines about the limits that K7 raised are left out.
 
@@ -303,9 +303,9 @@ def sheets():
 
 
 def costs():
-    """The pair that the command judge_costs has for an example; a pair whose certificate pays after the move; and the first given to the other calls."""
-    folder = os.path.join(HERE, '..', 'crates', 'judge_costs_pair', 'data')
-    m, c = (open(os.path.join(folder, name), 'rb').read() for name in ('pa.bin', 'ct.bin'))
+    """The cost pair of examples/; a pair whose certificate pays after the move; and the first given to the other calls."""
+    folder = os.path.join(HERE, '..', 'examples')
+    m, c = (open(os.path.join(folder, name), 'rb').read() for name in ('costs.model', 'costs.certificate'))
     yield judge_costs(m, c, (0, 0, 0), (0, 1, 0))
     yield judge_costs(m[:44] + b'\x40\xff', c, (29, 1, 44))
     yield judge_costs(m[:45], c, (1, 1, 41))
@@ -356,7 +356,7 @@ def about_the_limits(first, second, answer):
 
 
 def lines(name):
-    """The call, arguments, files, answer, run or stretch, yes and bytes written of each line that the programs can answer."""
+    """The call, arguments, files, answer, run or stretch, yes and bytes written of each line that the program can answer."""
     about = 0
     for line in open(os.path.join(HERE, name)):
         call, arguments, *rest = line.split()

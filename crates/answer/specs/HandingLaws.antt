@@ -5,7 +5,6 @@ use mathlib.Core.List.{List, [], _∷_, map}
 use lib.ListN.{length, take, drop, getD}
 use lib.IntN.{ℤ}
 use native.Mathlib.Nat.{add-sub-cancel-left}
-use native.Mathlib.Decide.{decLe}
 use native.Mathlib.Omega.{arith}
 use Rattle.rules.specs.definitions.Answers as rules
 use Rattle.rules.specs.definitions.Answers.{Lent, Outcome, leftIn, lengthsOf, firstWritten, fileOf, stretchIn, stretchOf}
@@ -13,44 +12,29 @@ use Rattle.answer.specs.declared.Answer.{Answer}
 use Rattle.answer.specs.Answered.{answered, StretchInside, OutcomeIs, CallAnswered}
 use Rattle.answer.specs.Handing.{partFrom, sliceOf, HandsBack, Handed, CallHandedBack}
 
--- the file of an answer, of three, and of their slices
-module _ {X : Type 0} (a b c d : X) (k : ℕ) where
-  second-of : k ≡ 2 → getD (a ∷ b ∷ c ∷ []) (k - 1) d ≡ b
-  second-of e = ap (λ (i : ℕ). getD (a ∷ b ∷ c ∷ []) (i - 1) d) e
+-- the file of an answer, of two, and of their slices
+module _ {X : Type 0} (a b d : X) (k : ℕ) where
+  second-of : k ≡ 2 → getD (a ∷ b ∷ []) (k - 1) d ≡ b
+  second-of e = ap (λ (i : ℕ). getD (a ∷ b ∷ []) (i - 1) d) e
 
-  third-of : k ≡ 3 → getD (a ∷ b ∷ c ∷ []) (k - 1) d ≡ c
-  third-of e = ap (λ (i : ℕ). getD (a ∷ b ∷ c ∷ []) (i - 1) d) e
-
-  pub first-of : k ≤ 1 → getD (a ∷ b ∷ c ∷ []) (k - 1) d ≡ a
-  first-of h = let z : k - 1 ≡ 0 = omega arith in ap (λ (i : ℕ). getD (a ∷ b ∷ c ∷ []) i d) z
-
-  -- the first two of three
-  pub two-of : k ≤ 2 → getD (a ∷ b ∷ c ∷ []) (k - 1) d ≡ getD (a ∷ b ∷ []) (k - 1) d
-  two-of h = go (decLe k 1)
-    where
-      go : Dec (k ≤ 1) → getD (a ∷ b ∷ c ∷ []) (k - 1) d ≡ getD (a ∷ b ∷ []) (k - 1) d
-      go (yes l) = let z : k - 1 ≡ 0 = omega arith in ap (λ (i : ℕ). getD (a ∷ b ∷ c ∷ []) i d) z ∙ ap (λ (i : ℕ). getD (a ∷ b ∷ []) i d) (sym z)
-      go (no l) = let z : k - 1 ≡ 1 = omega arith in ap (λ (i : ℕ). getD (a ∷ b ∷ c ∷ []) i d) z ∙ ap (λ (i : ℕ). getD (a ∷ b ∷ []) i d) (sym z)
+  pub first-of : k ≤ 1 → getD (a ∷ b ∷ []) (k - 1) d ≡ a
+  first-of h = let z : k - 1 ≡ 0 = omega arith in ap (λ (i : ℕ). getD (a ∷ b ∷ []) i d) z
 
 abbrev endOf : Answer → ℕ
 endOf r = r .«stretch_start» + r .«stretch_length»
 
 -- the stretch lies in its file
-module _ {a b c : List ℕ} {r : Answer} (i : StretchInside (a ∷ b ∷ c ∷ []) r) where
+module _ {a b : List ℕ} {r : Answer} (i : StretchInside (a ∷ b ∷ []) r) where
   pub in-second : r .file ≡ 2 → endOf r ≤ length b
   unfolding fileOf
-  in-second e = omega (arith, i .fits, ap length (second-of a b c [] (r .file) e))
+  in-second e = omega (arith, i .fits, ap length (second-of a b [] (r .file) e))
 
-  pub in-third : r .file ≡ 3 → endOf r ≤ length c
-  unfolding fileOf
-  in-third e = omega (arith, i .fits, ap length (third-of a b c [] (r .file) e))
-
-  pub names-first : (r .file ≡ 2 → ⊥) → (r .file ≡ 3 → ⊥) → r .file ≤ 1
-  names-first n m = omega (arith, n, m, i .named)
+  pub names-first : (r .file ≡ 2 → ⊥) → r .file ≤ 1
+  names-first n = omega (arith, n, i .named)
 
   pub in-first : r .file ≤ 1 → endOf r ≤ length a
   unfolding fileOf
-  in-first h = omega (arith, i .fits, ap length (first-of a b c [] (r .file) h))
+  in-first h = omega (arith, i .fits, ap length (first-of a b [] (r .file) h))
 
 part-of : (r : Answer) (s : List ℕ) → take (endOf r - r .«stretch_start») (drop (r .«stretch_start») s) ≡ stretchIn s (answered r)
 unfolding stretchIn
@@ -70,21 +54,17 @@ from-file files slices r s slice e f =
       lies = ap (λ (p : ℕ × ℕ). partFrom p (r .«stretch_start»)) (sym f);
     }
 
-module _ (a b c : List ℕ) (x y z : ℕ × ℕ) (r : Answer) where
+module _ (a b : List ℕ) (x y : ℕ × ℕ) (r : Answer) where
   abbrev HandsPart : List ℕ → ℕ × ℕ → Type 0
-  HandsPart s slice = HandsBack (a ∷ b ∷ c ∷ []) (x ∷ y ∷ z ∷ []) r (r .number) (r .file) (r .place) (r .state) (r .remainder) (take (endOf r - r .«stretch_start») (drop (r .«stretch_start») s)) (partFrom slice (r .«stretch_start»))
+  HandsPart s slice = HandsBack (a ∷ b ∷ []) (x ∷ y ∷ []) r (r .number) (r .file) (r .place) (r .state) (r .remainder) (take (endOf r - r .«stretch_start») (drop (r .«stretch_start») s)) (partFrom slice (r .«stretch_start»))
 
   pub from-second : r .file ≡ 2 → HandsPart b y
   unfolding fileOf
-  from-second e = from-file _ _ r b y (second-of a b c [] (r .file) e) (second-of x y z (0, 0) (r .file) e)
-
-  pub from-third : r .file ≡ 3 → HandsPart c z
-  unfolding fileOf
-  from-third e = from-file _ _ r c z (third-of a b c [] (r .file) e) (third-of x y z (0, 0) (r .file) e)
+  from-second e = from-file _ _ r b y (second-of a b [] (r .file) e) (second-of x y (0, 0) (r .file) e)
 
   pub from-first : r .file ≤ 1 → HandsPart a x
   unfolding fileOf
-  from-first h = from-file _ _ r a x (first-of a b c [] (r .file) h) (first-of x y z (0, 0) (r .file) h)
+  from-first h = from-file _ _ r a x (first-of a b [] (r .file) h) (first-of x y (0, 0) (r .file) h)
 
 -- a remainder as the machine's number
 pub off-as : {files : List (List ℕ)} {slices : List (ℕ × ℕ)} {r : Answer} {number file place state : ℕ} {remainder other : ℤ} {part : List ℕ} {lying : ℕ × ℕ} → HandsBack files slices r number file place state remainder part lying → other ≡ remainder → HandsBack files slices r number file place state other part lying

@@ -66,11 +66,10 @@ pub fn file_answer(short: u32, size: usize, room: usize) -> Answer
 }
 
 // Hands an answer back: the tail of the slice that holds the record at fault, empty where none does, and the numbers beside it. The
-// second slice is file 2, the third is file 3.
+// second slice is file 2.
 pub fn hand_back<'a>(
     first: &'a [u8],
     second: &'a [u8],
-    third: &'a [u8],
     answer: Answer,
     number: &mut u32,
     file: &mut u32,
@@ -78,8 +77,8 @@ pub fn hand_back<'a>(
     state: &mut u32,
     remainder: &mut i64,
 ) -> &'a [u8]
-    requires { ⌜ StretchInside (now first ∷ now second ∷ now third ∷ []) answer ⌝ }
-    ensures { λ r. ⌜ HandsBack (now (first .entry) ∷ now (second .entry) ∷ now (third .entry) ∷ []) (ptr (first .entry) ∷ ptr (second .entry) ∷ ptr (third .entry) ∷ []) answer (now (number .exit)) (now (file .exit)) (now (place .exit)) (now (state .exit)) (now (remainder .exit)) (now r) (ptr r) ⌝ }
+    requires { ⌜ StretchInside (now first ∷ now second ∷ []) answer ⌝ }
+    ensures { λ r. ⌜ HandsBack (now (first .entry) ∷ now (second .entry) ∷ []) (ptr (first .entry) ∷ ptr (second .entry) ∷ []) answer (now (number .exit)) (now (file .exit)) (now (place .exit)) (now (state .exit)) (now (remainder .exit)) (now r) (ptr r) ⌝ }
 {
     let start = answer.stretch_start;
     let size = answer.stretch_length;
@@ -91,9 +90,6 @@ pub fn hand_back<'a>(
     *remainder = off;
     if answer.file == 2 {
         return &second[start..start + size];
-    }
-    if answer.file == 3 {
-        return &third[start..start + size];
     }
     &first[start..start + size]
 }

@@ -1,8 +1,9 @@
 -- What a fetch goes by, and document 01's answer for each of its cases.
 use Prim.Native.Nat.{ℕ, _-_, _≤_}
-use mathlib.Core.Path.{_≡_, refl, sym, ap, subst}
+use mathlib.Core.Path.{_≡_, refl, sym, _∙_, ap, subst}
 use mathlib.Core.List.{List, [], _∷_}
 use lib.ListN.{length, getD}
+use lib.IntN.{ℤ}
 use native.Mathlib.Omega.{arith}
 use Rattle.rules.specs.definitions.Limits.{limits}
 use Rattle.rules.specs.definitions.Reading.{runStart, runEnd}
@@ -10,7 +11,9 @@ use Rattle.rules.specs.definitions.Answers.{Answer, refusalIn, answerWithoutPla
 use Rattle.rules.specs.argument.AnswerLaws.{fetch-number, fetch-file, fetch-inside}
 use Rattle.fault.specs.Faults.{faultOf}
 use Rattle.answer.specs.declared.Answer as declared
-use Rattle.answer.specs.Answered.{Says, CallAnswered}
+use Rattle.answer.specs.Answered.{Says, StretchInside, CallAnswered}
+use Rattle.answer.specs.Handing.{HandsBack, CallHandedBack}
+use Rattle.answer.specs.HandingLaws.{first-of, handed-none}
 use Rattle.fetch.specs.declared.Run.{Run}
 use Rattle.fetch.specs.declared.Fetched.{Fetched}
 use Rattle.fetch.specs.declared.Fetched.the-variants.{Found, NoState, Unsound}
@@ -30,6 +33,11 @@ answerOf s (Unsound f) = refusalIn (faultOf f) 1 (f .place) (length s)
 abbrev pub FetchAnswered : (model : List ℕ) (state : ℕ) → declared.Answer → Type 0
 FetchAnswered model state r = CallAnswered (fetchOutcome limits model state) (model ∷ []) [] FetchNumber r
 
+-- the same with the run or stretch as a part of the model. The slice is where the model lies, `lying` where the part does
+abbrev pub FetchHandedBack : (model : List ℕ) (slice : ℕ × ℕ) (fetched : ℕ) (number file place state : ℕ) (remainder : ℤ) (part : List ℕ) (lying : ℕ × ℕ) → Type 0
+FetchHandedBack model slice fetched number file place state remainder part lying =
+    CallHandedBack (fetchOutcome limits model fetched) (model ∷ []) (slice ∷ []) [] FetchNumber number file place state remainder [] part lying
+
 pub fetch-answered : (model : List ℕ) (state : ℕ) {r : declared.Answer} → Says (fetchAnswer limits model state) 0 r → FetchAnswered model state r
 unfolding fileOf
 fetch-answered model state {r} s =
@@ -48,3 +56,25 @@ fetch-answered model state {r} s =
           };
       demands = subst FetchNumber (sym (ap (λ (a : Answer). a .number) e)) (fetch-number limits model state);
     }
+
+-- a run or stretch lies in the model, and is handed back
+module _ (s : List ℕ) (fetched : ℕ) {r : declared.Answer} (j : FetchAnswered s fetched r) where
+  first : r .file - 1 ≡ 0
+  first = omega (arith, j .outcome .inside .named)
+
+  pub fetch-stretch : StretchInside (s ∷ s ∷ []) r
+  unfolding fileOf
+  fetch-stretch =
+      let i = j .outcome .inside in
+      record {
+        named = omega (arith, i .named);
+        fits = omega (arith, i .fits, ap (λ (k : ℕ). length (getD (s ∷ []) k [])) first, ap length (first-of s s [] (r .file) (i .named)));
+      }
+
+  pub fetch-handed : {m : ℕ × ℕ} {number file place state : ℕ} {remainder : ℤ} {part : List ℕ} {lying : ℕ × ℕ} → HandsBack (s ∷ s ∷ []) (m ∷ m ∷ []) r number file place state remainder part lying → FetchHandedBack s m fetched number file place state remainder part lying
+  unfolding fileOf
+  fetch-handed {m} h =
+      let i = j .outcome .inside in
+      handed-none _ _ h
+      (first-of s s [] (r .file) (i .named) ∙ sym (ap (λ (k : ℕ). getD (s ∷ []) k []) first))
+      (first-of m m (0, 0) (r .file) (i .named) ∙ sym (ap (λ (k : ℕ). getD (m ∷ []) k (0, 0)) first)) j

@@ -1,12 +1,13 @@
 // The run of the model's bytes that holds the transitions of a state.
 ghost use Prim.Native.Nat.{_-_, _≤_, _<_};
 ghost use mathlib.Core.Path.{_≡_};
+ghost use denote.Ref.{ptr};
 ghost use Rattle.rules.specs.definitions.Limits.{limits};
 ghost use Rattle.rules.specs.definitions.Reading.{statesOf, firstNotBelow};
 ghost use Rattle.rules.specs.definitions.Answers.{runAnswer, fetchAnswer};
 ghost use Rattle.transition.specs.Known.{Known};
 ghost use Rattle.answer.specs.Answered.{Says};
-ghost use Rattle.fetch.specs.Fetched.{IsRun, answerOf, FetchAnswered};
+ghost use Rattle.fetch.specs.Fetched.{IsRun, answerOf, FetchAnswered, FetchHandedBack};
 use answer::Answer;
 use fault::Fault;
 use model::Places;
@@ -108,4 +109,20 @@ pub fn fetch_answer(model: &[u8], state: u32) -> Answer
         Fetched::NoState => answer::without_place(24, 0),
         Fetched::Unsound(wrong) => answer::refusal_in(wrong, 1, model.len()),
     }
+}
+
+// The same, with the run or stretch as a part of the model, and the numbers beside it. The model stands for file 2 too, which no answer names.
+pub fn fetch<'a>(
+    model: &'a [u8],
+    fetched: u32,
+    number: &mut u32,
+    file: &mut u32,
+    place: &mut usize,
+    state: &mut u32,
+    remainder: &mut i64,
+) -> &'a [u8]
+    ensures { λ r. ⌜ FetchHandedBack (now (model .entry)) (ptr (model .entry)) fetched (now (number .exit)) (now (file .exit)) (now (place .exit)) (now (state .exit)) (now (remainder .exit)) (now r) (ptr r) ⌝ }
+{
+    let answer = fetch_answer(model, fetched);
+    answer::hand_back(model, model, answer, number, file, place, state, remainder)
 }

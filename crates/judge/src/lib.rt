@@ -3,12 +3,13 @@ ghost use Prim.Native.Nat.{_≤_};
 ghost use mathlib.Core.Path.{_≡_};
 ghost use mathlib.Core.List.{[], _∷_};
 ghost use lib.ListN.{length};
+ghost use denote.Ref.{ptr};
 ghost use Rattle.rules.specs.definitions.Limits.{limits};
 ghost use Rattle.rules.specs.definitions.Reading.{headFault};
 ghost use Rattle.rules.specs.definitions.Answers.{filled};
 ghost use Rattle.rule_kind.specs.declared.Kind.the-variants.{Plain, Costs};
 ghost use Rattle.answer.specs.Answered.{Gives};
-ghost use Rattle.judge.specs.Judge.{JudgeAnswered};
+ghost use Rattle.judge.specs.Judge.{JudgeAnswered, JudgeHandedBack};
 use answer::Answer;
 use judgement::Verdict;
 use rule_kind::Kind;
@@ -59,4 +60,33 @@ pub fn judge_costs_answer(model: &[u8], certificate: &[u8], blocks: &mut [u8]) -
         return head;
     }
     judge_headed(Kind::Costs, model, certificate, blocks)
+}
+
+// The same as `judge_answer`, with the stretch as a slice: the tail of the file that holds the record at fault, empty where none does. Its numbers
+// stand beside it, and the written length, 0 on refusal.
+pub fn judge<'a>(
+    model: &'a [u8],
+    certificate: &'a [u8],
+    blocks: &mut [u8],
+    number: &mut u32,
+    file: &mut u32,
+    place: &mut usize,
+    state: &mut u32,
+    remainder: &mut i64,
+    written: &mut usize,
+) -> &'a [u8]
+    ensures { λ r. ⌜ JudgeHandedBack (now (model .entry)) (now (certificate .entry)) (now (blocks .entry)) (now (blocks .exit)) (ptr (model .entry)) (ptr (certificate .entry)) (now (number .exit)) (now (file .exit)) (now (place .exit)) (now (state .exit)) (now (remainder .exit)) (now (written .exit)) (now r) (ptr r) ⌝ }
+{
+    let answer = judge_answer(model, certificate, blocks);
+    *written = answer.written;
+    answer::hand_back(
+        model,
+        certificate,
+        answer,
+        number,
+        file,
+        place,
+        state,
+        remainder,
+    )
 }

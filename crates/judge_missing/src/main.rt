@@ -1,4 +1,4 @@
 // Judges pa.bin and ct.bin.
 fn main() {
-    programs::judge_files();
+    judging_program::judge_files();
 }

@@ -29,6 +29,11 @@ use std::fmt;
 
 pub mod raw;
 
+/// The README's Rust is run as a doc test.
+#[cfg(doctest)]
+#[doc = include_str!("../../../README.md")]
+mod readme {}
+
 /// The most states that a model has. A block buffer of this length is always long enough.
 pub const STATES: usize = 128;
 

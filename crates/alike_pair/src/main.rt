@@ -1,4 +1,0 @@
-// Compares two states of joined.bin by ct.bin.
-fn main() {
-    programs::alike_files();
-}

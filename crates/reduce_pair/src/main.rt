@@ -1,4 +1,0 @@
-// Reduces pa.bin by ct.bin and writes merged.bin.
-fn main() {
-    programs::reduce_files();
-}

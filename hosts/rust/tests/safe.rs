@@ -28,6 +28,9 @@ fn same_refusal(refusal: Refusal, answer: Answer, model: &[u8], other: &[u8]) {
     let place = file.map_or(String::new(), |_| format!(" ({name}, byte {})", answer.place));
     let difference = refusal.difference.map_or(String::new(), |difference| format!(": {difference}"));
     assert_eq!(refusal.to_string(), format!("refusal {}: {}{place}{difference}", answer.number, refusal.meaning()));
+    let owned = refusal.into_owned();
+    assert_eq!((owned.number, owned.file, owned.place, owned.difference), (answer.number, file, answer.place, refusal.difference));
+    assert_eq!((owned.to_string(), owned.meaning()), (refusal.to_string(), refusal.meaning()));
 }
 
 type Call = for<'a, 'b> fn(&'a [u8], &'a [u8], &'b mut [u8]) -> Result<&'b [u8], Refusal<'a>>;
@@ -153,4 +156,15 @@ fn a_refusal_is_an_error_of_few_words() {
     assert_eq!(format!("{refusal:?}"), "Refusal { number: 9, file: Some(Model), place: 9, stretch: 10000 bytes, difference: None }");
     let error: &dyn std::error::Error = &refusal;
     assert_eq!(error.to_string(), "refusal 9: bytes are left after the last record (model, byte 9)");
+}
+
+#[test]
+fn an_owned_refusal_outlives_the_files_and_the_thread() {
+    let judged = std::thread::spawn(|| {
+        let (model, certificate) = (b"PA\x02\x01\0\0LB\0\0".to_vec(), b"CT\0\0BK\0\x01".to_vec());
+        zolkirta::judge(&model, &certificate, &mut [0; STATES]).map(<[u8]>::to_vec).map_err(Refusal::into_owned)
+    });
+    let error: Box<dyn std::error::Error + Send + Sync + 'static> = judged.join().unwrap().unwrap_err().into();
+    assert_eq!(error.to_string(), "refusal 18: the blocks differ from the pairs left (certificate, byte 4)");
+    assert_eq!(format!("{error:?}"), "OwnedRefusal { number: 18, file: Some(Certificate), place: 4, difference: None }");
 }

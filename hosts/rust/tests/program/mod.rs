@@ -1,4 +1,5 @@
 //! The tool run as a program, in a folder of its own.
+#![allow(dead_code)] // each test file uses its own part
 
 use std::ffi::{OsStr, OsString};
 use std::fs::{self, File};
@@ -11,6 +12,10 @@ use std::process::{Child, Command, Output, Stdio};
 const TOOL: &str = env!("CARGO_BIN_EXE_zolkirta");
 const EXAMPLES: &str = concat!(env!("CARGO_MANIFEST_DIR"), "/../../examples");
 const NOBODY: u32 = 65534;
+
+/// The first line for the small pair.
+pub const ACCEPTED: &str = "accepted: 3 states in 2 blocks";
+pub const MISSING: &str = "No such file or directory (os error 2)";
 
 /// What a run came to.
 #[derive(Debug, PartialEq)]
@@ -106,6 +111,12 @@ impl Folder {
     /// Runs it with standard output to this file; what is caught is empty.
     pub fn run_into(&self, words: &str, out: File) -> Ran {
         Ran::of(self.command(words.split(' ')).stdout(out).output().unwrap())
+    }
+
+    /// Runs it below a limit of the shell's `ulimit`.
+    pub fn run_limited(&self, limit: &str, words: &str) -> Ran {
+        let script = format!("ulimit {limit} && exec \"$0\" {words}");
+        Ran::of(Command::new("sh").args(["-c", &script, TOOL]).current_dir(&self.path).output().unwrap())
     }
 
     pub fn read(&self, name: impl AsRef<Path>) -> Vec<u8> {

@@ -43,7 +43,7 @@ A refusal has its number and what it means; the file at fault, and the byte of i
 the state whose equation breaks, with how many the left side is too many or too few (of 20 what arrives at the state, of 21 d0 times
 what is matched with it); for 16 the state t, with how far the left side is above the right one, which it must be below.
 
-Fields of the JSON object; all of them are there always, null where they do not apply:
+Fields of the JSON object; all of them are there always, null where they do not apply. With status 2 there is no object.
   call                  its name
   number, meaning       0, or the refusal's number; and in words
   file, name            the file at fault: 1 model or first model, 2 certificate, 3 second model; and its name

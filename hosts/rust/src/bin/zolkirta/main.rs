@@ -1,5 +1,6 @@
 //! `zolkirta`, the tool: judges, reduces, joins and compares models by file name. Its help says how.
 
+mod answer;
 mod automaton;
 mod calls;
 mod command;
@@ -22,6 +23,7 @@ const NO: u8 = 1;
 const NOT_JUDGED: u8 = 2;
 
 fn main() -> ExitCode {
+    output::outlive_size_limits();
     ExitCode::from(match command::parse(std::env::args_os().skip(1)) {
         Ok(Asked::Help(call)) => status(output::to_standard_output(help::text(call).as_bytes()), YES),
         Ok(Asked::Version) => status(output::to_standard_output(help::VERSION.as_bytes()), YES),

@@ -1,7 +1,7 @@
 //! The verdict as one JSON object on one line. Every field is there always, null where it does not apply.
 
+use crate::answer::Found;
 use crate::automaton::{states, transitions, Target, Transition};
-use crate::calls::Found;
 use crate::json::Value;
 use crate::verdict::Verdict;
 

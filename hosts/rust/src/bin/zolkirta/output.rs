@@ -131,6 +131,17 @@ fn fill(mut file: File, older: Option<&Metadata>, bytes: &[u8]) -> io::Result<()
     file.sync_all()
 }
 
+/// Has a write beyond the limit of a file's size fail, as one to a full device does, in place of ending the program by a signal.
+pub fn outlive_size_limits() {
+    const SIGXFSZ: i32 = 25;
+    const SIG_IGN: usize = 1;
+    extern "C" {
+        fn signal(number: i32, handler: usize) -> usize;
+    }
+    // SAFETY: the C library's call, with numbers of Linux; to ignore a signal runs no code.
+    unsafe { signal(SIGXFSZ, SIG_IGN) };
+}
+
 pub fn to_standard_output(bytes: &[u8]) -> Result<(), Failure> {
     to_stream(io::stdout().as_fd(), bytes).map_err(|error| match error.kind() {
         ErrorKind::BrokenPipe => Failure::ReaderLeft,

@@ -1,7 +1,7 @@
 //! The verdict in words: a line that says it, and what else there is.
 
+use crate::answer::Found;
 use crate::automaton::{states, transitions, Target, Transition};
-use crate::calls::Found;
 use crate::input::shown_input;
 use crate::verdict::{Place, Verdict};
 use std::fmt::Write;

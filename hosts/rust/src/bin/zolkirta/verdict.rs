@@ -1,6 +1,6 @@
 //! What a call came to, for the two ways of saying it.
 
-use crate::calls::{Answer, Found};
+use crate::answer::{Answer, Found};
 use crate::command::Command;
 use crate::input::shown_input;
 use std::ffi::OsString;

@@ -1,0 +1,89 @@
+//! What the library answers to each call.
+
+use crate::automaton::{decoded, states, Transition};
+use zolkirta::{OwnedRefusal, Refusal, MODEL, SHEET, STATES};
+
+/// What an accepted call found.
+pub enum Found {
+    /// The block of each state.
+    Judged(Vec<u8>),
+    Reduced {
+        blocks: Vec<u8>,
+        merged: Vec<u8>,
+    },
+    Sheet {
+        blocks: Vec<u8>,
+        sheet: String,
+    },
+    /// Two models as one, with the state count of each.
+    Joined {
+        counts: [usize; 2],
+        joined: Vec<u8>,
+    },
+    Fetched(Vec<Transition>),
+    Alike(bool),
+}
+
+pub type Answer = Result<Found, OwnedRefusal>;
+
+/// A call of the library that lends a buffer.
+type Lending = for<'a, 'b> fn(&'a [u8], &'a [u8], &'b mut [u8]) -> Result<&'b [u8], Refusal<'a>>;
+
+/// What a call writes into a buffer of so many bytes.
+fn lent(call: Lending, files: &[&[u8]], most: usize) -> Result<Vec<u8>, OwnedRefusal> {
+    let mut buffer = vec![0; most];
+    let written = call(files[0], files[1], &mut buffer).map_err(Refusal::into_owned)?.len();
+    buffer.truncate(written);
+    Ok(buffer)
+}
+
+/// The block of each state.
+fn blocks(files: &[&[u8]]) -> Result<Vec<u8>, OwnedRefusal> {
+    lent(zolkirta::judge, files, STATES)
+}
+
+pub fn judge(files: &[&[u8]], _: &[u32]) -> Answer {
+    blocks(files).map(Found::Judged)
+}
+
+pub fn judge_costs(files: &[&[u8]], _: &[u32]) -> Answer {
+    lent(zolkirta::judge_costs, files, STATES).map(Found::Judged)
+}
+
+/// Judges twice: the library hands back either the blocks or the merged model.
+pub fn reduce(files: &[&[u8]], _: &[u32]) -> Answer {
+    let merged = lent(zolkirta::reduce, files, MODEL)?;
+    Ok(Found::Reduced { blocks: blocks(files)?, merged })
+}
+
+/// Judges twice, as `reduce` does.
+pub fn sheet(files: &[&[u8]], _: &[u32]) -> Answer {
+    let mut buffer = [0; SHEET];
+    let sheet = zolkirta::sheet(files[0], files[1], &mut buffer).map_err(Refusal::into_owned)?.to_owned();
+    Ok(Found::Sheet { blocks: blocks(files)?, sheet })
+}
+
+pub fn join(files: &[&[u8]], _: &[u32]) -> Answer {
+    let joined = lent(zolkirta::join, files, MODEL)?;
+    Ok(Found::Joined { counts: [states(files[0]), states(files[1])], joined })
+}
+
+pub fn fetch(files: &[&[u8]], asked: &[u32]) -> Answer {
+    let (model, state) = (files[0], asked[0]);
+    let run = |state| zolkirta::fetch(model, state).map_err(Refusal::into_owned);
+    let asked_for = run(state)?;
+    let mut before = 0;
+    for lower in 0..state {
+        before += decoded(run(lower)?, 0).len();
+    }
+    Ok(Found::Fetched(decoded(asked_for, before)))
+}
+
+pub fn alike(files: &[&[u8]], asked: &[u32]) -> Answer {
+    let (certificate, s, t) = (files[2], asked[0], asked[1]);
+    let joined = lent(zolkirta::join, files, MODEL)?;
+    let first_count = states(files[0]) as u32;
+    // A number that would pass 32 bits stays the largest of them, which is no state of any model.
+    let alike = zolkirta::alike(&joined, first_count, certificate, s, first_count.saturating_add(t));
+    alike.map(Found::Alike).map_err(Refusal::into_owned)
+}

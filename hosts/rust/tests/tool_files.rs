@@ -39,14 +39,11 @@ fn files_that_cannot_be_read_are_named() {
     let empty = folder.run_words(["judge", "", "small.certificate"]);
     empty.is(2, "", &format!("zolkirta: \"\": {MISSING}\n"));
     folder.write("out", b"older");
-    folder.run("reduce missing small.certificate -o out").is(
-        2,
-        "",
-        &format!("zolkirta: missing: {MISSING}\nzolkirta: out stays as it was\n"),
-    );
+    let stays = format!("zolkirta: missing: {MISSING}\nzolkirta: out stays as it was\n");
+    folder.run("reduce missing small.certificate -o out").is(2, "", &stays);
     assert_eq!(folder.read("out"), b"older");
-    let directory = folder.command(["judge", "-", "small.certificate"]).stdin(File::open(&folder.path).unwrap()).output().unwrap();
-    assert_eq!(String::from_utf8_lossy(&directory.stderr), format!("zolkirta: standard input: {A_FOLDER}\n"));
+    let from_folder = folder.run_from("judge - small.certificate", File::open(&folder.path).unwrap());
+    from_folder.is(2, "", &format!("zolkirta: standard input: {A_FOLDER}\n"));
 }
 
 #[test]
@@ -87,19 +84,16 @@ fn what_only_root_may_do_is_an_error() {
 fn a_file_may_come_from_standard_input() {
     let folder = Folder::new("input");
     let (model, certificate) = (folder.read("small.model"), folder.read("small.certificate"));
-    for (words, bytes) in
-        [("judge - small.certificate", &model), ("judge small.model -", &certificate), ("judge -- - small.certificate", &model)]
-    {
-        folder.run_fed(words, bytes).first_line_is(0, ACCEPTED);
-    }
+    folder.run_fed("judge - small.certificate", &model).first_line_is(0, ACCEPTED);
+    folder.run_fed("judge small.model -", &certificate).first_line_is(0, ACCEPTED);
+    folder.run_fed("judge -- - small.certificate", &model).first_line_is(0, ACCEPTED);
+    let yes = "yes: state 0 of first.model behaves as state 3 of standard input";
+    folder.run_fed("alike first.model - joined.certificate 0 3", &folder.read("second.model")).first_line_is(0, yes);
     let cut = folder.run_fed("judge small.model -", &certificate[..124]);
     cut.first_line_is(1, "refused: 11, the file ends inside a record, certificate, byte 109");
     assert!(cut.out.contains("\nin standard input, from there on: 46 4c "));
-    folder.run("judge - small.certificate").is(
-        1,
-        "refused: 1, the file ends inside a record, model, byte 0\nin standard input, which ends there\n",
-        "",
-    );
+    let empty = "refused: 1, the file ends inside a record, model, byte 0\nin standard input, which ends there\n";
+    folder.run("judge - small.certificate").is(1, empty, "");
     fs::rename(folder.path.join("small.model"), folder.path.join("-")).unwrap();
     folder.run("judge ./- small.certificate").first_line_is(0, ACCEPTED);
 }
@@ -207,9 +201,8 @@ fn an_input_is_never_the_output() {
         assert_eq!((ran.status, ran.out.as_str(), ran.err.lines().next()), (2, "", Some(fault.as_str())));
         assert!(ran.err.ends_with(&format!("zolkirta: {out} stays as it was\n")));
     }
-    let mut fed = folder.command(["reduce", "-", "small.certificate", "-o", "small.model"]);
-    let fed = fed.stdin(File::open(folder.path.join("small.model")).unwrap()).output().unwrap();
-    assert!(fed.status.code() == Some(2) && fed.stderr.starts_with(b"zolkirta: reduce: -o names the same file as standard input, "));
+    let fed = folder.run_from("reduce - small.certificate -o small.model", File::open(folder.path.join("small.model")).unwrap());
+    assert!(fed.status == 2 && fed.err.starts_with("zolkirta: reduce: -o names the same file as standard input, "));
     assert_eq!((folder.read("small.model"), folder.read("small.certificate"), folder.names()), (model, certificate, before));
 }
 

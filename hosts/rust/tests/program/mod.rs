@@ -108,6 +108,11 @@ impl Folder {
         finished(child)
     }
 
+    /// Runs it with standard input from this file.
+    pub fn run_from(&self, words: &str, file: File) -> Ran {
+        Ran::of(self.command(words.split(' ')).stdin(file).output().unwrap())
+    }
+
     /// Runs it with standard output to this file; what is caught is empty.
     pub fn run_into(&self, words: &str, out: File) -> Ran {
         Ran::of(self.command(words.split(' ')).stdout(out).output().unwrap())

@@ -59,7 +59,7 @@ pub const CALLS: [Call; 7] = [
         files: &[MODEL, CERTIFICATE],
         states: &[],
         writes: Writes::Never,
-        purpose: "whether the certificate is accepted for the model, and the blocks of weakly bisimilar states",
+        purpose: "whether a certificate is accepted, and the blocks of bisimilar states",
         more: "After the first line each block has a line with its states.",
         make: judge,
     },
@@ -68,8 +68,9 @@ pub const CALLS: [Call; 7] = [
         files: &[MODEL, CERTIFICATE],
         states: &[],
         writes: Writes::Never,
-        purpose: "the same for a cost model, in which each transition has a cost",
-        more: "After the first line each block has a line with its states. Every other call refuses a cost model with 9.",
+        purpose: "what judge does, for a model whose transitions have costs",
+        more: "After the first line each block has a line with its states. Every other call\n\
+               refuses a cost model with 9.",
         make: judge_costs,
     },
     Call {
@@ -77,8 +78,9 @@ pub const CALLS: [Call; 7] = [
         files: &[MODEL, CERTIFICATE],
         states: &[],
         writes: Writes::Always,
-        purpose: "writes the merged model: one state for each block, which behaves as the states of the block",
-        more: "The merged state of a block has the block's number.",
+        purpose: "writes the merged model: one state for each block",
+        more: "The merged state of a block has the block's number, and behaves as its states.\n\
+               judge says which they are.",
         make: reduce,
     },
     Call {
@@ -87,8 +89,8 @@ pub const CALLS: [Call; 7] = [
         states: &[],
         writes: Writes::WhereNamed,
         purpose: "writes the blocks as a sheet for paper",
-        more: "Without -o the sheet follows the first line. Its columns, of four characters each: the block's number, its size,\n\
-               and its states, 16 to a line.",
+        more: "Without -o the sheet follows the first line. Its columns have four characters\n\
+               each: the block's number, its size, and its states, 16 to a line.",
         make: sheet,
     },
     Call {
@@ -97,8 +99,9 @@ pub const CALLS: [Call; 7] = [
         states: &[],
         writes: Writes::Always,
         purpose: "writes two models as one",
-        more: "The states of SECOND follow those of FIRST, their numbers raised by FIRST's state count. A solver is run on the joined\n\
-               model, and alike takes the certificate that it writes.",
+        more: "The states of SECOND follow those of FIRST, their numbers raised by FIRST's\n\
+               state count. A solver is run on the joined model, and alike takes the\n\
+               certificate that it writes.",
         make: join,
     },
     Call {
@@ -107,8 +110,8 @@ pub const CALLS: [Call; 7] = [
         states: &["STATE"],
         writes: Writes::Never,
         purpose: "the transitions that leave a state",
-        more: "After the first line each transition has a line: its number in the model, its action, and where it leads, with which\n\
-               probability. Action 0 is internal.",
+        more: "After the first line each transition has a line: its number in the model, its\n\
+               action, and each state that it leads to, with the probability.",
         make: fetch,
     },
     Call {
@@ -117,8 +120,9 @@ pub const CALLS: [Call; 7] = [
         states: &["S", "T"],
         writes: Writes::Never,
         purpose: "whether state S of FIRST behaves as state T of SECOND: yes or no",
-        more: "Both states go by their own models' numbers. CERTIFICATE is one for the joined model, which join writes for solvers;\n\
-               alike joins the two itself. Where it is refused, nothing is said of the states: neither yes nor no.",
+        more: "Both states go by the numbers of their own models. CERTIFICATE is one for the\n\
+               joined model, which join writes for solvers; alike joins the two itself. Where\n\
+               it is refused, nothing is said of the states: neither yes nor no.",
         make: alike,
     },
 ];

@@ -25,34 +25,47 @@ fn capitalized(words: &str) -> String {
 }
 
 const GENERAL: &str = "\
-zolkirta CALL --help tells more of a call. Files go by their names; - is standard input, for one file of a call.
+zolkirta CALL --help tells more of a call. Files go by their names; - stands for
+standard input, for one file of a call.
 
 Options, in any place:
-  -o OUT, --output OUT  the file to write, whole or not at all: where a call is refused an older file stays as it was.
-                        - is standard output, and then the verdict goes to standard error
+  -o OUT, --output OUT  the file to write: whole, or not at all. A refusal
+                        leaves an older file as it was. - stands for standard
+                        output; the verdict then goes to standard error.
   --json                the verdict as one JSON object on one line
-  -q, --quiet           no verdict, only the status
+  -q, --quiet           no verdict, only the status and errors
   -h, --help            this text, or that of a call
   -V, --version         the version
   --                    ends the options
 
-Status: 0 accepted (alike: yes), 1 refused (alike: no), 2 not judged: words that make no call, or a file that cannot be read or
-written, which standard error names.
+Status:
+  0                     accepted; alike: yes
+  1                     refused; alike: no
+  2                     not judged: words that make no call, or a file that
+                        cannot be read or written; standard error says which
 
-A refusal has its number and what it means; the file at fault, and the byte of it where the record at fault begins; and for 20 and 21
-the state whose equation breaks, with how many the left side is too many or too few (of 20 what arrives at the state, of 21 d0 times
-what is matched with it); for 16 the state t, with how far the left side is above the right one, which it must be below.
+A refusal has its number and meaning; then the file at fault, and the byte of it
+where the record at fault begins; then for 16, 20 and 21 a state, and by how
+much the left side of its condition or equation is off:
+  16                    how far d0 times A is above what it must be below
+  20                    how many arrive that are too many, or too few
+  21                    how many d0 times the w onto it is too many, or too few
+A second line has the file's name, and its bytes from there on.
 
-Fields of the JSON object; all of them are there always, null where they do not apply. With status 2 there is no object.
+Fields of the JSON object, each there always, null where it does not apply; with
+status 2 there is no object:
   call                  its name
-  number, meaning       0, or the refusal's number; and in words
-  file, name            the file at fault: 1 model or first model, 2 certificate, 3 second model; and its name
+  number, meaning       0, or the refusal's number; what it means
+  file, name            the file at fault, 1 (first) model, 2 certificate,
+                        3 second model; its name
   place                 the byte of it where the record at fault begins
-  state, remainder      for 16, 20 and 21: the state, and the left side less the right one
+  state, remainder      for 16, 20 and 21: the state; left side less right side
   blocks                the block of each state, from state 0 on
-  written, output       the bytes written, and the file's name
+  written, output       how many bytes were written; the name of their file
   states, transitions   how many the model written has
-  sheet                 the sheet, where -o names no file for it
-  run                   the transitions fetched: number, source, action (0 is internal), denominator, and targets of state and weight
+  sheet                 the sheet, where no -o is given
+  run                   the transitions fetched, each with number, source,
+                        action (0 is internal), denominator, and targets, each
+                        with state and weight
   alike                 true for yes, false for no
 ";

@@ -4,7 +4,7 @@
 //! the certificate and names the block of each state, [`reduce`] writes the model with each block merged into one state, [`fetch`]
 //! finds the transitions that leave a state. [`sheet`] writes the blocks as text for paper. [`join`] writes two models as one, and
 //! [`alike`] says whether a state of the one behaves as a state of the other. [`judge_costs`] judges where each transition has a cost.
-//! What is not accepted gets one numbered [`Refusal`].
+//! What is not accepted gets one numbered [`Refusal`]. The tool `zolkirta` makes these calls by file name: `zolkirta --help` tells how.
 //!
 //! The small pair S of document 01: state 0 moves to state 2 by action 1, state 1 moves to state 0 internally.
 //!

@@ -5,11 +5,11 @@ mod plain;
 mod program;
 
 use maker::families::{bytes, copies, internal_chain, most_copies};
-use program::{finished, Folder, ACCEPTED, MISSING};
+use program::{finished, Folder, ACCEPTED, MISSING, NOBODY};
 use std::ffi::OsStr;
 use std::fs::{self, File, OpenOptions};
 use std::os::unix::ffi::OsStrExt;
-use std::os::unix::fs::{symlink, MetadataExt, PermissionsExt};
+use std::os::unix::fs::{chown, symlink, MetadataExt, PermissionsExt};
 use std::path::Path;
 use std::process::{Command, Stdio};
 
@@ -151,15 +151,18 @@ fn a_refusal_leaves_an_older_file() {
 }
 
 #[test]
-fn an_older_file_is_replaced_and_its_permissions_are_kept() {
+fn an_older_file_is_replaced_and_its_owner_and_permissions_are_kept() {
     let folder = Folder::new("replaced");
     let out = folder.path.join("out");
     folder.write("out", &[7; 10_000]);
+    let _ = chown(&out, Some(NOBODY), Some(NOBODY)); // where root runs this
     let before = folder.names();
+    let kept = || fs::metadata(&out).map(|data| (data.mode() & 0o7777, data.uid(), data.gid())).unwrap();
     for mode in [0o600, 0o640, 0o755, 0o666] {
         fs::set_permissions(&out, fs::Permissions::from_mode(mode)).unwrap();
+        let older = kept();
         folder.run("reduce small.model small.certificate -o out").first_line_is(0, ACCEPTED);
-        assert_eq!((folder.read("out"), fs::metadata(&out).unwrap().mode() & 0o7777), (folder.read("small.merged"), mode));
+        assert_eq!((folder.read("out"), kept()), (folder.read("small.merged"), older));
     }
     assert_eq!(folder.names(), before);
 }

@@ -11,7 +11,7 @@ use std::process::{Child, Command, Output, Stdio};
 
 const TOOL: &str = env!("CARGO_BIN_EXE_zolkirta");
 const EXAMPLES: &str = concat!(env!("CARGO_MANIFEST_DIR"), "/../../examples");
-const NOBODY: u32 = 65534;
+pub const NOBODY: u32 = 65534;
 
 /// The first line for the small pair.
 pub const ACCEPTED: &str = "accepted: 3 states in 2 blocks";

@@ -97,30 +97,35 @@ fn is_option(word: &OsStr) -> bool {
 impl Command {
     fn new(call: &'static Call, given: Given) -> Result<Command, String> {
         let mut words = given.words.into_iter().skip(1);
-        let names = call.files.iter().map(|role| role.word).chain(call.states.iter().copied());
-        let taken: Vec<OsString> = names.map(|name| words.next().ok_or(format!("{name} is missing"))).collect::<Result<_, _>>()?;
+        let files = names(call, &mut words)?;
+        let states = states(call, &mut words)?;
         if let Some(word) = words.next() {
             return Err(format!("{} is one word too many", shown(&word)));
         }
         match (&call.writes, &given.output) {
-            (Writes::Never, Some(_)) => return Err("it writes no file, and takes no -o".to_owned()),
-            (Writes::Always, None) => return Err("-o OUT is missing".to_owned()),
-            _ => {}
+            (Writes::Never, Some(_)) => Err("it writes no file, and takes no -o".to_owned()),
+            (Writes::Always, None) => Err("-o OUT is missing".to_owned()),
+            _ => Ok(Command { call, files, states, output: given.output.map(Output::new), json: given.json, quiet: given.quiet }),
         }
-        let (files, states) = taken.split_at(call.files.len());
-        if files.iter().filter(|name| input::is_standard(name)).count() > 1 {
-            return Err("- is standard input, and there is only one".to_owned());
-        }
-        let states = states.iter().map(|word| state(word).ok_or(format!("{} is no state's number", shown(word))));
-        Ok(Command {
-            call,
-            files: files.to_vec(),
-            states: states.collect::<Result<_, _>>()?,
-            output: given.output.map(Output::new),
-            json: given.json,
-            quiet: given.quiet,
-        })
     }
+}
+
+/// The names of the call's files, of which one may be standard input.
+fn names(call: &Call, words: &mut impl Iterator<Item = OsString>) -> Result<Vec<OsString>, String> {
+    let names: Vec<OsString> = call.files.iter().map(|role| next(words, role.word)).collect::<Result<_, _>>()?;
+    match names.iter().filter(|name| input::is_standard(name)).count() {
+        0 | 1 => Ok(names),
+        _ => Err("- is standard input, and there is only one".to_owned()),
+    }
+}
+
+fn states(call: &Call, words: &mut impl Iterator<Item = OsString>) -> Result<Vec<u32>, String> {
+    let read = |word: OsString| state(&word).ok_or_else(|| format!("{} is no state's number", shown(&word)));
+    call.states.iter().map(|name| next(words, name).and_then(read)).collect()
+}
+
+fn next(words: &mut impl Iterator<Item = OsString>, name: &str) -> Result<OsString, String> {
+    words.next().ok_or_else(|| format!("{name} is missing"))
 }
 
 /// A decimal number. One above 32 bits is the largest of them: no model has such a state, so the library refuses both.

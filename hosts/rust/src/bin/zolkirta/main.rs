@@ -25,22 +25,20 @@ const NOT_JUDGED: u8 = 2;
 fn main() -> ExitCode {
     output::outlive_size_limits();
     ExitCode::from(match command::parse(std::env::args_os().skip(1)) {
-        Ok(Asked::Help(call)) => status(output::to_standard_output(help::text(call).as_bytes()), YES),
-        Ok(Asked::Version) => status(output::to_standard_output(help::VERSION.as_bytes()), YES),
+        Ok(Asked::Help(call)) => printed(&help::text(call)),
+        Ok(Asked::Version) => printed(help::VERSION),
         Ok(Asked::Call(command)) => run(&command),
-        Err(usage) => status(Err(Failure::Usage(usage)), YES),
+        Err(usage) => failed(Failure::Usage(usage)),
     })
 }
 
-/// The status of what was done, or where that failed, which is then said, the one for not judged.
-fn status(done: Result<(), Failure>, done_status: u8) -> u8 {
-    match done {
-        Ok(()) => done_status,
-        Err(failure) => {
-            failure.say();
-            NOT_JUDGED
-        }
-    }
+fn printed(text: &str) -> u8 {
+    output::to_standard_output(text.as_bytes()).map_or_else(failed, |()| YES)
+}
+
+fn failed(failure: Failure) -> u8 {
+    failure.say();
+    NOT_JUDGED
 }
 
 fn run(command: &Command) -> u8 {
@@ -49,12 +47,12 @@ fn run(command: &Command) -> u8 {
             if verdict.answer.is_err() {
                 say_what_stays(command);
             }
-            status(report(&verdict), if verdict.is_yes() { YES } else { NO })
+            report(&verdict).map_or_else(failed, |()| if verdict.is_yes() { YES } else { NO })
         }
         Err(failure) => {
-            failure.say();
+            let status = failed(failure);
             say_what_stays(command);
-            NOT_JUDGED
+            status
         }
     }
 }

@@ -125,6 +125,11 @@ fn a_refusal_says_by_how_much_it_is_off() {
         folder.write_changed("small.certificate", at, byte, "changed");
         folder.run("judge small.model changed").first_line_is(1, &format!("refused: {line}"));
     }
+    // State 0 moves to state 1; the flow matches it with state 0.
+    folder.write("step.model", b"PA\x02\x01\0\x01LB\0\0TR\0\0\0\x01\x01\x01\0\x01");
+    folder.write("step.certificate", b"CT\0\0BK\0\0FL\0\0\0\x01\0\0\0\x01\x01\0\0\0\0\x01");
+    let too_many = "refused: 21, an equation at some u breaks, certificate, byte 8, state 0, 1 too many";
+    folder.run("judge step.model step.certificate").first_line_is(1, too_many);
 }
 
 #[test]

@@ -31,7 +31,7 @@ use Rattle.rules.specs.argument.Demand3Holds.{AcceptedFacts, facts-of, one-mode
 use Rattle.rules.specs.argument.DemandsHold.{accepted-of, kept-of, holds-of}
 use Rattle.quotient.specs.argument.ReduceAnswerLaws.{merged-follow}
 use Rattle.rules.specs.argument.PlainRules.{wholeRules, plainCertificates, plainRules}
-use Rattle.quotient.specs.argument.QuotientHolds.{merges}
+use Rattle.quotient.specs.argument.QuotientHolds.{merges, plain-merges}
 use Rattle.joined.specs.definitions.Joined.{joined, joinedFile}
 use Rattle.joined.specs.argument.JoinedLaws.{joined-automaton, joined-states}
 use Rattle.joined.specs.definitions.AlikeAnswer.{alikeSays, SaysAlike, testsParts}
@@ -136,7 +136,7 @@ module _ (model certificate lent : List ℕ) (after : List (List ℕ)) (number :
   abbrev o : Outcome
   o = outcomeBy plainPairs writesMerged model certificate before
 
-  module _ (z : number ≡ 0) (M : Model) (blocks : List ℕ) (k : KeepsRulesOn plainPairs model certificate M blocks) where
+  module _ (M : Model) (blocks : List ℕ) (k : KeepsRulesOn plainPairs model certificate M blocks) where
     abbrev file : List ℕ
     file = mergedFile M blocks
 
@@ -146,30 +146,37 @@ module _ (model certificate lent : List ℕ) (after : List (List ℕ)) (number :
     read : HoldsModel (plainPairs .read) model M
     read = holds-of plainRules model certificate blocks b M k
 
+    merged-model : MergedModel limits model M blocks
+    merged-model = plain-merges .merged model certificate blocks b c accepted M read
+
+    used-for : Replaces plainPairs M (quotient M blocks) blocks
+    used-for = merged-replaces limits limits-fit (omega arith) model certificate blocks b c accepted M read
+
     followed : filesOutcome 23 (file ∷ []) before ≡ o
     followed = outcome-followed plainRules writesMerged merged-follow model certificate before blocks (read .reads) (accepted .answers) (omega arith)
 
-    whole : filled (file ∷ []) before ≡ o
-    whole = file-whole 23 file lent (file-fits 23 file lent (λ w. omega (arith, w)) (ap (λ (x : Outcome). x .answer .number) followed ∙ sym e ∙ z)) ∙ followed
+    module _ (z : number ≡ 0) where
+      whole : filled (file ∷ []) before ≡ o
+      whole = file-whole 23 file lent (file-fits 23 file lent (λ w. omega (arith, w)) (ap (λ (x : Outcome). x .answer .number) followed ∙ sym e ∙ z)) ∙ followed
 
-    -- the bytes written are the merged file
-    abbrev written : List ℕ
-    written = take (firstWritten o) (firstLent after)
+      -- the bytes written are the merged file
+      abbrev written : List ℕ
+      written = take (firstWritten o) (firstLent after)
 
-    wrote : written ≡ file
-    unfolding filled filledEach filledWith Accepting
-    wrote =
-        ap (λ (x : Outcome). take (firstWritten x) (firstLent after)) (sym whole)
-        ∙ ap (λ (l : List (List ℕ)). take (length file) (firstLent l)) (d .written (inl z) M blocks k ∙ ap leftIn (followed ∙ sym whole))
-        ∙ take-append-seam file _
+      wrote : written ≡ file
+      unfolding filled filledEach filledWith Accepting
+      wrote =
+          ap (λ (x : Outcome). take (firstWritten x) (firstLent after)) (sym whole)
+          ∙ ap (λ (l : List (List ℕ)). take (length file) (firstLent l)) (d .written (inl z) M blocks k ∙ ap leftIn (followed ∙ sym whole))
+          ∙ take-append-seam file _
 
-    replacement : HoldsReplacement plainPairs written M blocks
-    replacement =
-        record {
-          N = quotient M blocks;
-          holds = subst (λ (s : List ℕ). HoldsModel (plainPairs .read) s (quotient M blocks)) (sym wrote) (merges limits limits-fit (omega arith) plainCertificates .merged model certificate blocks b c accepted M read .holds);
-          replaces = merged-replaces limits limits-fit (omega arith) model certificate blocks b c accepted M read;
-        }
+      replacement : HoldsReplacement plainPairs written M blocks
+      replacement =
+          record {
+            N = quotient M blocks;
+            holds = subst (λ (s : List ℕ). HoldsModel (plainPairs .read) s (quotient M blocks)) (sym wrote) (merged-model .holds);
+            replaces = used-for;
+          }
 
   pub reduce-demands : ReduceDemands model certificate before after number
-  reduce-demands = record { judging = d; replaces = replacement }
+  reduce-demands = record { judging = d; merged = merged-model; replaces = used-for; holds = λ z M blocks k. replacement M blocks k z }

@@ -7,11 +7,13 @@ use mathlib.Core.List.{List}
 use lib.ListN.{length, take, getD}
 use Rattle.bisimulation.specs.definitions.StepRule.{Met}
 use Rattle.bisimulation.specs.definitions.Largest.{Bisimulation, BisimilarByPairs}
+use Rattle.rules.specs.definitions.Limits.{limits}
 use Rattle.rules.specs.definitions.Model.{Model, automatonOf}
 use Rattle.rules.specs.definitions.SoundModel.{Bytes, SoundModel}
 use Rattle.quotient.specs.definitions.Quotient.{quotient}
 use Rattle.rules.specs.definitions.JudgedBy.{JudgedBy, plainPairs, AcceptedBy}
 use Rattle.rules.specs.definitions.Answers.{firstWritten, firstLent}
+use Rattle.quotient.specs.definitions.Merged.{MergedModel}
 use Rattle.quotient.specs.definitions.ReduceAnswer.{writesMerged, ReduceNumber}
 use Rattle.rules.specs.definitions.Demand3.{InOneBlock, HoldsModel}
 use Rattle.rules.specs.definitions.Demands.{KeepsRulesOn, outcomeBy, Demands}
@@ -56,8 +58,12 @@ module _ (by : JudgedBy) where
     pub holds : HoldsModel (by .read) bytes N
     pub replaces : Replaces M N blocks
 
--- what the call that reduces keeps: the demands of a call that judges, and where it answers 0, the bytes that it wrote hold a model that may be
--- used for the original. The length written is the outcome's, and `judging` says that there are M and blocks
+-- what the call that reduces keeps. `judging` says that there are M and blocks where it answers 0 or 23, and the length written is the outcome's
 pub record ReduceDemands (model certificate : List ℕ) (before after : List (List ℕ)) (number : ℕ) : Type 0 where
+  -- the demands of a call that judges
   pub judging : Demands plainPairs writesMerged ReduceNumber model certificate before after number
-  pub replaces : number ≡ 0 → (M : Model) (blocks : List ℕ) → KeepsRulesOn plainPairs model certificate M blocks → HoldsReplacement plainPairs (take (firstWritten (outcomeBy plainPairs writesMerged model certificate before)) (firstLent after)) M blocks
+  -- the merged model of the accepted blocks is what is promised of one, and may be used for the original: at 0, and at 23, which is an acceptance
+  pub merged : (M : Model) (blocks : List ℕ) → KeepsRulesOn plainPairs model certificate M blocks → MergedModel limits model M blocks
+  pub replaces : (M : Model) (blocks : List ℕ) → KeepsRulesOn plainPairs model certificate M blocks → Replaces plainPairs M (quotient M blocks) blocks
+  -- where it answers 0, the bytes that it wrote hold a model that may be used for the original
+  pub holds : number ≡ 0 → (M : Model) (blocks : List ℕ) → KeepsRulesOn plainPairs model certificate M blocks → HoldsReplacement plainPairs (take (firstWritten (outcomeBy plainPairs writesMerged model certificate before)) (firstLent after)) M blocks

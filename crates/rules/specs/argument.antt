@@ -28,6 +28,7 @@ pub mod MadeLaws
 pub mod ModelAutomaton
 pub mod EntryPrices
 pub mod FetchedRun
+pub mod FetchHolds
 pub mod PairOutcome
 pub mod JudgedFirst
 pub mod DemandsHold

@@ -13,6 +13,7 @@ pub mod Encoding
 pub mod Accepted
 pub mod PlainSays
 pub mod Answers
+pub mod FetchDemands
 pub mod Made
 pub mod JudgedBy
 pub mod Demand3

@@ -5,6 +5,8 @@ use mathlib.Core.List.{List}
 use mathlib.Core.Path.{_≡_, sym, _∙_, ap}
 use lib.ListN.{length}
 use Rattle.rules.specs.definitions.Limits.{limits}
+use Rattle.rules.specs.definitions.Bytes.{byteAt}
+use Rattle.rules.specs.definitions.SoundModel.{Bytes}
 use Rattle.rules.specs.definitions.Answers.{Answer, refusalIn, fetchAnswer}
 use Rattle.rules.specs.definitions.Faults.{Fault}
 use Rattle.rules.specs.argument.AnswerLaws.{fetch-inside}
@@ -17,8 +19,8 @@ use Rattle.fetch.proofs.fetch_answer.Statement.{statement}
 use Rattle.fetch.proofs.fetch_answer.Tie as tie
 
 -- what is answered for a case of the fetch, and the state that is fetched
-told : {a b : Answer} (s : List ℕ) (x y : ℕ) {r : declared.Answer} → Says a 0 r → a ≡ b → b ≡ fetchAnswer limits s x → x ≡ y → FetchAnswered s y r
-told s x y t e f g = fetch-answered s y (record { answer = t .answer ∙ e ∙ f ∙ ap (fetchAnswer limits s) g; wrote = t .wrote })
+told : {a b : Answer} (s : List ℕ) (x y : ℕ) {r : declared.Answer} → Bytes s → Says a 0 r → a ≡ b → b ≡ fetchAnswer limits s x → x ≡ y → FetchAnswered s y r
+told s x y b t e f g = fetch-answered s y b (record { answer = t .answer ∙ e ∙ f ∙ ap (fetchAnswer limits s) g; wrote = t .wrote })
 
 -- a refusal that a fetch answers is at a place of the model
 placed : (s : List ℕ) (state : ℕ) (f : Fault) (place : ℕ) → refusalIn f 1 place (length s) ≡ fetchAnswer limits s state → place ≤ length s
@@ -47,16 +49,19 @@ refusal-in-requires : tie.Need-refusal-in-requires
 refusal-in-requires c κs = placed _ _ _ _ (sym (ap (answerOf _) (c .before .fetched2 .given .1)) ∙ c .before .before .before .fetch-run .ensures)
 
 returns : tie.Need-returns
-returns c = told _ _ _ (c .run-from .ensures) (sym (ap (answerOf _) (c .before .before .fetched .given .1))) (c .before .before .before .before .fetch-run .ensures) (omega arith)
+unfolding Bytes byteAt
+returns c = told _ _ _ (λ i h. omega (arith, c .before .before .before .before .before .shared-slice-known .given i)) (c .run-from .ensures) (sym (ap (answerOf _) (c .before .before .fetched .given .1))) (c .before .before .before .before .fetch-run .ensures) (omega arith)
 
 returns-2 : tie.Need-returns-2
+unfolding Bytes byteAt
 returns-2 c =
-    told _ _ _ (without-as 24 0 (c .without-place .ensures) (omega arith) (omega arith)) (sym (ap (answerOf _) (c .before .enum-told .given .1)))
+    told _ _ _ (λ i h. omega (arith, c .before .before .before .before .shared-slice-known .given i)) (without-as 24 0 (c .without-place .ensures) (omega arith) (omega arith)) (sym (ap (answerOf _) (c .before .enum-told .given .1)))
     (c .before .before .before .fetch-run .ensures) (omega arith)
 
 returns-3 : tie.Need-returns-3
+unfolding Bytes byteAt
 returns-3 c =
-    told _ _ _ (refusal-as _ 1 _ _ (c .refusal-in .ensures) (omega arith) (omega arith)) (sym (ap (answerOf _) (c .before .before .fetched2 .given .1)))
+    told _ _ _ (λ i h. omega (arith, c .before .before .before .before .before .shared-slice-known .given i)) (refusal-as _ 1 _ _ (c .refusal-in .ensures) (omega arith) (omega arith)) (sym (ap (answerOf _) (c .before .before .fetched2 .given .1)))
     (c .before .before .before .before .fetch-run .ensures) (omega arith)
 
 pub fetch-answer-spec : {M : Type 1} → statement M

@@ -21,7 +21,7 @@ use Rattle.rules.specs.definitions.PlainRule.{byKind, plainPriceCount, p
 use Rattle.rules.specs.definitions.Judging.{Judgement, accepted, refusedIn, refuseRecordAt, questionsOfPair, questionsOfState, questionsFrom, questions, judgeFlows, judgeBlocks, judgeRefutations, judgeCertificate, judgeReading, judge}
 use Rattle.rules.specs.cases.Cases.{modelS, certificateS, Case, between, cases, judged}
 use Rattle.rules.specs.definitions.SoundModel.{Each, sumOver, TransitionRules}
-use Rattle.rules.specs.definitions.Answers.{Answer, Outcome, refusalIn, answerWithoutPlace, runAnswer, fetchReading, fetchAnswer, fileOf, judgementAnswer, unwritten, filledWith, filledEach, filled, judgedOutcome, readOutcome, pairOutcome, writesBlocks, roomFor, filesOutcome}
+use Rattle.rules.specs.definitions.Answers.{Answer, Outcome, refusalIn, answerWithoutPlace, stretchIn, runAnswer, fetchReading, fetchAnswer, fileOf, judgementAnswer, unwritten, filledWith, filledEach, filled, judgedOutcome, readOutcome, pairOutcome, writesBlocks, roomFor, filesOutcome}
 
 -- a model file, a certificate file, and the judgement of them
 pub record FilesCase : Type 0 where
@@ -90,24 +90,30 @@ moreCases =
     }
     ∷ []
 
--- a model file, a state, and what a fetch answers
+-- number, file and place, where the stretch starts and how long it is; without a state
+abbrev pub answerAt : (number file place start size : ℕ) → Answer
+answerAt number file place start size =
+    record { number = number; file = file; place = place; stretchStart = start; stretchLength = size; state = 0; remainder = pos 0 }
+
+-- a model file, a state, what a fetch answers, and the bytes of its run or stretch
 pub record FetchCase : Type 0 where
   pub model : List ℕ
   pub state : ℕ
   pub expected : Answer
-
--- number, file and place 0, with a run
-abbrev pub runOf : (start size : ℕ) → Answer
-runOf start size = record { number = 0; file = 0; place = 0; stretchStart = start; stretchLength = size; state = 0; remainder = pos 0 }
+  pub handed : List ℕ
 
 unfoldable pub fetchCases : List FetchCase
 fetchCases =
-    -- the one record of state 1, the last of the file
-    record { model = modelS; state = 1; expected = runOf 21 10 }
+    -- the one record of state 1, the last of the file: number, file and place 0, with a run
+    record { model = modelS; state = 1; expected = answerAt 0 0 0 21 10; handed = 0x54 ∷ 0x52 ∷ 1 ∷ 0 ∷ 0 ∷ 1 ∷ 1 ∷ 0 ∷ 0 ∷ 1 ∷ [] }
     -- both transitions leave state 0: a run of two records
-    ∷ record { model = set modelS 23 0; state = 0; expected = runOf 11 20 }
+    ∷ record { model = set modelS 23 0; state = 0; expected = answerAt 0 0 0 11 20; handed = drop 11 (set modelS 23 0) }
     -- none leave state 2
-    ∷ record { model = modelS; state = 2; expected = runOf 0 0 }
+    ∷ record { model = modelS; state = 2; expected = answerAt 0 0 0 0 0; handed = [] }
+    -- there is no state 3: 24, without a place
+    ∷ record { model = modelS; state = 3; expected = answerAt 24 0 0 0 0; handed = [] }
+    -- the sum of the weights is d-1 in transition 1: the model's refusal, whatever the state
+    ∷ record { model = set modelS 26 2; state = 3; expected = answerAt 7 1 21 21 10; handed = drop 21 (set modelS 26 2) }
     ∷ []
 
 -- a certificate for model S, the lent block buffer before, and what judging answers and leaves in the buffer
@@ -115,11 +121,6 @@ pub record OutcomeCase : Type 0 where
   pub certificate : List ℕ
   pub before : List ℕ
   pub expected : Outcome
-
--- number, file and place, where the stretch starts and how long it is; without a state
-abbrev pub answerAt : (number file place start size : ℕ) → Answer
-answerAt number file place start size =
-    record { number = number; file = file; place = place; stretchStart = start; stretchLength = size; state = 0; remainder = pos 0 }
 
 -- the same with the bytes written, and the buffer
 abbrev pub outcomeOf : (number file place start size written : ℕ) → List ℕ → Outcome
@@ -147,12 +148,12 @@ outcomeCases =
     ∷ []
 
 -- the tables, computed case by case, with C1 to C10 once more: a refusal shows the case that fails
-pub more-cases : Each (λ (c : Case). judged c ≡ c .expected) cases × Each (λ (c : FilesCase). judge limits (readWhole limits) plainRule (c .model) (c .certificate) ≡ c .expected) moreCases × Each (λ (c : FetchCase). fetchAnswer limits (c .model) (c .state) ≡ c .expected) fetchCases × Each (λ (c : OutcomeCase). pairOutcome limits (readWhole limits) plainRule writesBlocks modelS (c .certificate) (c .before ∷ []) ≡ c .expected) outcomeCases
-unfolding ifLess ifSame ifTrue allBelow sum sumℤ arriving leaving overTargets overSources beforeMove afterMove internalMove atTarget priceAt priceOfTargets byteAt twoAt threeAt fourAt signedAt weightOf automatonOf openFault statesOf actionsOf countOf rangeFault headFault labelFault labelsFault sourceAt actionAt denominatorAt entryCountAt afterTransition fixedFault fixedFaultAt entriesFault transitionFault refuseAt scanTransitions scanModel refuseBytesLeft scanWhole entriesAt transitionAt transitionsAt modelAt readingOf readWhole firstOf both equalLabels isPair removed refutationCount certificateHeadFault challengerAt defenderAt pricesAt afterRefutation pairFault refutationFault pairsAfter blocksAt numberedFault sameBlock agree pairsFault blocksFault kCountAt afterK wCountAt afterFlow kOf wOf flowAt kFault wFault flowFault byKind plainPriceCount priceCondition allWithAction allRelated below lastFault internalPricesFault externalPricesFault plainPricesFault internalInQuestion externalInQuestion plainInQuestion breakFrom firstBreak internalEquationsFault externalEquationsFault plainEquationsFault refuseRecordAt questionsOfPair questionsOfState questionsFrom questions judgeFlows judgeBlocks judgeRefutations judgeCertificate judgeReading judge modelS certificateS between cases judged oneStep roundTrip blocksOnly stayFlow placeOf firstNotBelow runFirst runPast runStart runEnd refusalIn answerWithoutPlace runAnswer fetchReading fetchAnswer fileOf judgementAnswer unwritten filledWith filledEach filled judgedOutcome readOutcome pairOutcome Each moreCases fetchCases outcomeCases
+pub more-cases : Each (λ (c : Case). judged c ≡ c .expected) cases × Each (λ (c : FilesCase). judge limits (readWhole limits) plainRule (c .model) (c .certificate) ≡ c .expected) moreCases × Each (λ (c : FetchCase). (fetchAnswer limits (c .model) (c .state) ≡ c .expected) × (stretchIn (c .model) (c .expected) ≡ c .handed)) fetchCases × Each (λ (c : OutcomeCase). pairOutcome limits (readWhole limits) plainRule writesBlocks modelS (c .certificate) (c .before ∷ []) ≡ c .expected) outcomeCases
+unfolding ifLess ifSame ifTrue allBelow sum sumℤ arriving leaving overTargets overSources beforeMove afterMove internalMove atTarget priceAt priceOfTargets byteAt twoAt threeAt fourAt signedAt weightOf automatonOf openFault statesOf actionsOf countOf rangeFault headFault labelFault labelsFault sourceAt actionAt denominatorAt entryCountAt afterTransition fixedFault fixedFaultAt entriesFault transitionFault refuseAt scanTransitions scanModel refuseBytesLeft scanWhole entriesAt transitionAt transitionsAt modelAt readingOf readWhole firstOf both equalLabels isPair removed refutationCount certificateHeadFault challengerAt defenderAt pricesAt afterRefutation pairFault refutationFault pairsAfter blocksAt numberedFault sameBlock agree pairsFault blocksFault kCountAt afterK wCountAt afterFlow kOf wOf flowAt kFault wFault flowFault byKind plainPriceCount priceCondition allWithAction allRelated below lastFault internalPricesFault externalPricesFault plainPricesFault internalInQuestion externalInQuestion plainInQuestion breakFrom firstBreak internalEquationsFault externalEquationsFault plainEquationsFault refuseRecordAt questionsOfPair questionsOfState questionsFrom questions judgeFlows judgeBlocks judgeRefutations judgeCertificate judgeReading judge modelS certificateS between cases judged oneStep roundTrip blocksOnly stayFlow placeOf firstNotBelow runFirst runPast runStart runEnd refusalIn answerWithoutPlace stretchIn runAnswer fetchReading fetchAnswer fileOf judgementAnswer unwritten filledWith filledEach filled judgedOutcome readOutcome pairOutcome Each moreCases fetchCases outcomeCases
 more-cases = (
   (refl, (refl, (refl, (refl, (refl, (refl, (refl, (refl, (refl, (refl, tt)))))))))),
   (refl, (refl, (refl, (refl, (refl, (refl, (refl, (refl, (refl, (refl, (refl, (refl, (refl, (refl, tt)))))))))))))),
-  (refl, (refl, (refl, tt))),
+  ((refl, refl), ((refl, refl), ((refl, refl), ((refl, refl), ((refl, refl), tt))))),
   (refl, (refl, (refl, (refl, tt)))),
 )
 

@@ -1,8 +1,8 @@
 -- The call that judges cost pairs keeps its demands.
 use Prim.Native.Nat.{ℕ}
-use mathlib.Core.Path.{_≡_, sym, subst}
+use mathlib.Core.Path.{_≡_, sym, _∙_, ap, subst}
 use mathlib.Core.Logic.{inl, inr, ⊎-elim}
-use mathlib.Core.List.{List}
+use mathlib.Core.List.{List, _++_}
 use native.Mathlib.Omega.{arith}
 use Rattle.rules.specs.definitions.Limits.{limits}
 use Rattle.rules.specs.definitions.SoundModel.{Bytes}
@@ -14,10 +14,11 @@ use Rattle.rules.specs.argument.AnyRule.{AnyCertificateNumber, RefusalOf}
 use Rattle.rules.specs.argument.PlainRules.{PlainNumber, ModelNumber}
 use Rattle.rules.specs.argument.PairOutcome.{outcome-number}
 use Rattle.rules.specs.argument.DemandsHold.{demands-hold, blocks-follow}
+use Rattle.cost_files.specs.definitions.CostModel.{costsBytes, costModelBytes}
 use Rattle.cost_files.specs.definitions.CostPairs.{costPairs, CostBlocksInside}
 use Rattle.cost_files.specs.definitions.CostAnswer.{CostJudgeNumber, CostDemands}
 use Rattle.cost_files.specs.argument.CostCertificates.{CostNumber}
-use Rattle.cost_files.specs.argument.CostReadingLaws.{CostModelNumber, costs-in}
+use Rattle.cost_files.specs.argument.CostReadingLaws.{CostModelNumber, costs-in, without-costs}
 use Rattle.cost_files.specs.argument.CostRules.{costRules, cost-blocks-inside}
 
 -- a refusal of judging a cost pair: 1 to 9, 11 to 22, 29 or 30
@@ -44,6 +45,8 @@ module _ (model certificate : List ℕ) (before : List (List ℕ)) where
       record {
         judged = demands-hold costRules writesBlocks blocks-follow model certificate before after number b c e left CostJudgeNumber (subst CostJudgeNumber (sym e) cost-judge-numbered);
         own = λ M f. costs-in limits limits-fit model M f;
+        without = λ M f. record { sound = f .sound; encoded = without-costs limits limits-fit model M f };
+        behind = λ M f. unfold costModelBytes in f .encoded ∙ ap (λ (l : List ℕ). l ++ costsBytes (f .costs)) (sym (without-costs limits limits-fit model M f));
         inside = λ M blocks kept plainC plainBlocks pc p.
             cost-blocks-inside model certificate blocks plainC plainBlocks b c pc
             (accepted-exactly costRules model certificate blocks b c .1 (record { M = M; file = kept .file; kept = kept .kept })) p;

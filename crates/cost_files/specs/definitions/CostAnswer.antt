@@ -2,15 +2,16 @@
 use Prim.Native.Nat.{ℕ, _≤_}
 use mathlib.Core.Path.{_≡_}
 use mathlib.Core.Logic.{_⊎_}
-use mathlib.Core.List.{List}
+use mathlib.Core.List.{List, _++_}
 use Rattle.rules.specs.definitions.Limits.{limits}
 use Rattle.rules.specs.definitions.Model.{Model}
 use Rattle.rules.specs.definitions.SoundModel.{Bytes}
+use Rattle.rules.specs.definitions.Accepted.{FileOf}
 use Rattle.rules.specs.definitions.JudgedBy.{plainPairs, AcceptedBy}
 use Rattle.rules.specs.definitions.Demand3.{InOneBlock}
 use Rattle.rules.specs.definitions.Answers.{writesBlocks}
 use Rattle.rules.specs.definitions.Demands.{KeepsRulesOn, Demands}
-use Rattle.cost_files.specs.definitions.CostModel.{CostFileOf, costsIn, withoutCosts}
+use Rattle.cost_files.specs.definitions.CostModel.{costsBytes, CostFileOf, costsIn, withoutCosts}
 use Rattle.cost_files.specs.definitions.CostPairs.{costPairs}
 
 -- 'Cost pairs have a judging call of their own, with a block buffer': what it answers is `outcomeBy costPairs writesBlocks`. Its numbers: those of
@@ -25,5 +26,8 @@ pub record CostDemands (model certificate : List ℕ) (before after : List (List
   pub judged : Demands costPairs writesBlocks CostJudgeNumber model certificate before after number
   -- these are the costs of the model whose file it is
   pub own : (M : Model) (f : CostFileOf limits model M) → costsIn model ≡ f .costs
+  -- 'the same model without costs' is that model's file, and the cost record follows it
+  pub without : (M : Model) → CostFileOf limits model M → FileOf limits (withoutCosts model) M
+  pub behind : (M : Model) (f : CostFileOf limits model M) → model ≡ withoutCosts model ++ costsBytes (f .costs)
   -- 'accepted cost blocks must lie inside the accepted blocks of the same model without costs', of every certificate without costs
   pub inside : (M : Model) (blocks : List ℕ) → KeepsRulesOn costPairs model certificate M blocks → (plainC plainBlocks : List ℕ) → Bytes plainC → AcceptedBy plainPairs (withoutCosts model) plainC plainBlocks → (s t : ℕ) → InOneBlock blocks s t → InOneBlock plainBlocks s t

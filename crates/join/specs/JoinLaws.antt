@@ -15,7 +15,7 @@ use Rattle.rules.specs.definitions.Answers as rules
 use Rattle.rules.specs.definitions.Answers.{Outcome, answerWithoutPlace}
 use Rattle.rules.specs.definitions.Made.{passesLimit, madeOutcome, OfTwo, twoFiles}
 use Rattle.rules.specs.argument.SoundModelLaws.{limits-fit}
-use Rattle.rules.specs.argument.MadeLaws.{within-passes, many-states, many-transitions, many-entries, Within, passes-within, made-over, made-within, both-read}
+use Rattle.rules.specs.argument.MadeLaws.{within-passes, many-states, many-transitions, many-entries, passes-within, made-over, made-within, both-read}
 use Rattle.joined.specs.definitions.Joined.{joined, joinedFile}
 use Rattle.joined.specs.definitions.JoinAnswer.{passesJoined, joinOutcome}
 use Rattle.joined.specs.argument.JoinAnswerLaws.{join-demands}

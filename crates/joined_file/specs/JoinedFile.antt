@@ -6,7 +6,7 @@ use Rattle.rules.specs.definitions.Limits.{limits}
 use Rattle.rules.specs.definitions.Model.{Model}
 use Rattle.rules.specs.definitions.Reading.{statesOf, modelAt}
 use Rattle.joined.specs.definitions.Joined.{joined, joinedFile}
-use Rattle.rules.specs.argument.MadeLaws.{Within}
+use Rattle.rules.specs.argument.LengthLaws.{Within}
 use Rattle.two_models.specs.TwoModels.{BothSound}
 use Rattle.model.specs.declared.Model.{Model as Found}
 use Rattle.transition.specs.Known.{Known}

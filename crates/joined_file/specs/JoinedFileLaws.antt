@@ -14,7 +14,8 @@ use Rattle.rules.specs.argument.FetchedRun.{before-records}
 use Rattle.bisimulation.specs.definitions.Joined.{larger}
 use Rattle.joined.specs.definitions.Joined.{raisedTransition, joined, joinedFile}
 use Rattle.rules.specs.definitions.SoundModel.{entryCount}
-use Rattle.joined.specs.argument.JoinedLaws.{joined-states, joined-transitions, file-length, joined-length, joined-sound}
+use Rattle.rules.specs.argument.LengthLaws.{file-length}
+use Rattle.joined.specs.argument.JoinedLaws.{joined-states, joined-transitions, joined-length, joined-sound}
 use Rattle.model.specs.declared.Model.{Model as Found}
 use Rattle.transition.specs.KnownLaws.{known-own}
 use Rattle.writer.specs.Appends.{Appends, headBytesOf}

@@ -7,6 +7,7 @@ pub mod BytesLaws
 pub mod SoundModelLaws
 pub mod ReadBack
 pub mod ReadSound
+pub mod LengthLaws
 pub mod QuestionsLaws
 pub mod EntryLists
 pub mod RefutationRecords

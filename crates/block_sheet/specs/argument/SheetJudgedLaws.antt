@@ -1,5 +1,5 @@
 -- What the call that writes the sheet answers: the pairs still related share a block, so the sheet is that of the accepted blocks.
-use Prim.Native.Nat.{ℕ, zero, suc, _+_, _≤_, _<_}
+use Prim.Native.Nat.{ℕ, zero, suc, _+_, _*_, _≤_, _<_}
 use mathlib.Core.Path.{_≡_, refl, sym, _∙_, ap, subst}
 use mathlib.Core.Bool.{Bool, true, false}
 use mathlib.Core.List.{List, [], _∷_}
@@ -10,30 +10,31 @@ use native.Mathlib.Omega.{arith}
 use Rattle.bisimulation.specs.argument.ChoiceLaws.{pastLess, false-not}
 use Rattle.bisimulation.specs.definitions.Automaton.{Automaton}
 use Rattle.bisimulation.specs.definitions.Pairs.{Pairs, equalLabels}
-use Rattle.rules.specs.definitions.Limits.{Limits}
+use Rattle.rules.specs.definitions.Limits.{Limits, limits}
 use Rattle.rules.specs.definitions.Model.{automatonOf}
-use Rattle.rules.specs.definitions.SoundModel.{Bytes}
+use Rattle.rules.specs.definitions.SoundModel.{Bytes, FitsWidths}
 use Rattle.rules.specs.definitions.Faults.{fault}
 use Rattle.rules.specs.definitions.Reading.{Reading}
 use Rattle.rules.specs.definitions.Certificate.{FileRule, refutationCount, pairsAfter, afterRefutation, sameBlock, blocksAt, afterFlow}
 use Rattle.rules.specs.definitions.Judging.{accepted, refusedIn, Question, questions, judgeFlows, judgeBlocks, judgeRefutations, judgeCertificate, judgeReading, judge}
 use Rattle.rules.specs.definitions.Accepted.{GoodBlocks}
 use Rattle.rules.specs.definitions.BlockCount.{blockCount}
-use Rattle.rules.specs.definitions.JudgedBy.{plainPairs}
+use Rattle.rules.specs.definitions.JudgedBy.{plainPairsAt, plainPairs}
 use Rattle.rules.specs.definitions.PlainRule.{plainRule}
 use Rattle.rules.specs.definitions.Answers.{filesOutcome}
 use Rattle.rules.specs.definitions.Demands.{outcomeBy}
 use Rattle.rules.specs.argument.AnyRule.{PairRules, pairsOf}
+use Rattle.rules.specs.argument.SoundModelLaws.{limits-fit}
 use Rattle.rules.specs.argument.BlocksRecord.{blocks-good}
 use Rattle.rules.specs.argument.CertificateKept.{not-refused, none-refused}
 use Rattle.rules.specs.argument.LargestBlocks.{Numbered}
 use Rattle.rules.specs.argument.Demand3Holds.{holds-read, facts-of}
 use Rattle.rules.specs.argument.PairOutcome.{FollowsLaws}
 use Rattle.rules.specs.argument.JudgedFirst.{Found, found-outcome}
-use Rattle.rules.specs.argument.DemandsHold.{file-follow, late-numbered}
-use Rattle.rules.specs.argument.PlainRules.{plainRules}
+use Rattle.rules.specs.argument.DemandsHold.{file-follow, follow-at, file-late, late-numbered}
+use Rattle.rules.specs.argument.PlainRules.{plainRulesAt, plainRules}
 use Rattle.block_sheet.specs.definitions.Sheet.{members, sizeColumn, sheet}
-use Rattle.block_sheet.specs.argument.SheetLaws.{SharedAsRelated, size-members, some-member, sheet-same}
+use Rattle.block_sheet.specs.argument.SheetLaws.{SharedAsRelated, size-members, some-member, sheet-same, sheet-most}
 use Rattle.block_sheet.specs.definitions.SheetAnswer.{relatedAfter, stillRelated, sheetFile, writesSheet, SheetNumber}
 
 -- judging accepts the blocks of the record that it read, and they are good for the pairs left
@@ -123,3 +124,15 @@ module _ (by : PairRules) (M C : List ℕ) (b : Bytes M) (c : Bytes C) where
     found-sheeted before =
         ap (λ (l : List ℕ). filesOutcome 28 (l ∷ []) before) (sym found-sheet)
         ∙ found-outcome by M C (writesSheet (by .rule M .file) C) before (λ N end e. omega arith) a
+
+-- 28 only for a buffer shorter than a line of 73 bytes for each of the most states
+pub sheet-short : (L : Limits) (widths : FitsWidths L) (few : L .refutations < 65536) (M C buffer : List ℕ) → Bytes M → Bytes C → outcomeBy (plainPairsAt L) (writesSheet plainRule C) M C (buffer ∷ []) .answer .number ≡ 28 → length buffer < 73 * L .states
+unfolding sheetFile
+sheet-short L widths few M C buffer b c =
+    let by = plainRulesAt L widths few in
+    file-late by 28 (sheetFile plainRule C) (follow-at L widths few (sheet-follow C)) (λ z. omega (arith, z)) M C buffer (73 * L .states)
+    (λ a. omega (arith, sheet-most (stillRelated plainRule (automatonOf (a .N)) C) (a .blocks), found-whole by M C b c a .few))
+
+-- of less than 9,344 bytes
+pub sheet-short-today : (M C buffer : List ℕ) → Bytes M → Bytes C → outcomeBy plainPairs (writesSheet plainRule C) M C (buffer ∷ []) .answer .number ≡ 28 → length buffer < 9344
+sheet-short-today = sheet-short limits limits-fit (omega arith)

@@ -1,5 +1,5 @@
 -- The joined model of two sound models is sound within the limits, its file reads back as it, and its automaton is the joined one.
-use Prim.Native.Nat.{ℕ, zero, suc, _+_, _*_, _≤_, _<_}
+use Prim.Native.Nat.{ℕ, zero, suc, _+_, _≤_, _<_}
 use mathlib.Core.Path.{_≡_, refl, sym, _∙_, ap}
 use mathlib.Core.List.{List, [], _∷_, _++_, map}
 use lib.ListN.{length, getD, length-append, length-map}
@@ -8,14 +8,13 @@ use native.Mathlib.Omega.{arith}
 use Rattle.bisimulation.specs.definitions.Choice.{ifLess, ifSame}
 use Rattle.bisimulation.specs.argument.ChoiceLaws.{same, notSame, eitherLess, less, notLess}
 use Rattle.rules.specs.definitions.Limits.{Limits}
-use Rattle.rules.specs.definitions.Bytes.{twoBytes}
-use Rattle.rules.specs.definitions.Model.{Entry, Transition, Model, noTransition, weightOf, automatonOf, headBytes, labelsBytes, transitionBytes, transitionsBytes, modelBytes}
+use Rattle.rules.specs.definitions.Model.{Entry, Transition, Model, noTransition, weightOf, automatonOf, modelBytes}
 use Rattle.rules.specs.definitions.Reading.{model, readWhole}
 use Rattle.rules.specs.definitions.SoundModel.{Each, Along, sumOver, TransitionRules, entryCount, SoundModel, FitsWidths}
 use Rattle.rules.specs.argument.SoundModelLaws.{each-at, each-append, each-map}
-use Rattle.rules.specs.argument.ReadBack.{transitionBytes-length, read-back-whole}
+use Rattle.rules.specs.argument.ReadBack.{read-back-whole}
 use Rattle.bisimulation.specs.definitions.Joined.{larger, IsJoined}
-use Rattle.rules.specs.argument.MadeLaws.{Within}
+use Rattle.rules.specs.argument.LengthLaws.{file-length, Within}
 use Rattle.joined.specs.definitions.Joined.{raisedEntry, raisedTransition, joined, joinedFile}
 
 -- the larger of two is at least each, and one of them
@@ -174,16 +173,6 @@ module _ (M N : Model) where
   unfolding joined
   joined-entries = omega (arith, sum-append (λ (t : Transition). length (t .entries)) (M .transitions) (map (raisedTransition k) (N .transitions)), raised-entries k (N .transitions))
 
--- the bytes of transitions: 7 for each, and 3 for each entry
-records-length : (ts : List Transition) → length (transitionsBytes ts) ≡ 7 * length ts + 3 * sumOver (λ (t : Transition). length (t .entries)) ts
-unfolding transitionsBytes sumOver
-records-length [] = refl
-records-length (t ∷ ts) = omega (arith, length-append (transitionBytes t) (transitionsBytes ts), transitionBytes-length t, records-length ts)
-
-pub file-length : (M : Model) → length (modelBytes M) ≡ 8 + length (M .labels) + 7 * length (M .transitions) + 3 * entryCount M
-unfolding modelBytes headBytes labelsBytes twoBytes
-file-length M = omega (arith, length-append (M .labels) (transitionsBytes (M .transitions)), records-length (M .transitions))
-
 pub joined-length : (M N : Model) → length (joinedFile M N) + 8 ≡ length (modelBytes M) + length (modelBytes N)
 joined-length M N = omega (arith, file-length (joined M N), file-length M, file-length N, joined-states M N, joined-transitions M N, joined-entries M N)
 
@@ -208,10 +197,6 @@ module _ (L : Limits) (M N : Model) (first : SoundModel L M) (second : SoundMode
             (each-map (TransitionRules (k M N) (M .actions)) (λ (t : Transition). t .source < k M N) (λ t r. r .source) (M .transitions) (first .transitions)) (second .sources);
         entries = w .entries;
       }
-
-  -- a sound model is within the limits
-  pub sound-within : SoundModel L (joined M N) → Within L (joined M N)
-  sound-within s = record { states = s .states; transitions = s .count; entries = s .entries }
 
   -- its file reads back as it
   pub joined-reads : FitsWidths L → Within L (joined M N) → readWhole L (joinedFile M N) ≡ model (joined M N) (length (joinedFile M N))

@@ -1,15 +1,23 @@
 -- What follows acceptance in the call that reduces, and which numbers it answers.
-use Prim.Native.Nat.{ℕ, _≤_}
+use Prim.Native.Nat.{ℕ, _≤_, _<_}
 use mathlib.Core.Logic.{_⊎_, inl, inr, ⊎-elim}
-use mathlib.Core.List.{List}
+use mathlib.Core.Path.{_≡_}
+use mathlib.Core.List.{List, [], _∷_}
+use lib.ListN.{length}
 use native.Mathlib.Omega.{arith}
-use Rattle.rules.specs.definitions.JudgedBy.{plainPairs}
+use Rattle.rules.specs.definitions.Limits.{Limits, limits, longestModel}
+use Rattle.rules.specs.definitions.SoundModel.{Bytes, FitsWidths}
+use Rattle.rules.specs.definitions.JudgedBy.{plainPairsAt, plainPairs}
 use Rattle.rules.specs.definitions.Demands.{outcomeBy}
 use Rattle.rules.specs.argument.PairOutcome.{FollowsLaws, outcome-number}
-use Rattle.rules.specs.argument.PlainRules.{plainRules}
-use Rattle.rules.specs.argument.DemandsHold.{plain-refusal, file-follow}
-use Rattle.quotient.specs.definitions.Quotient.{mergedFile}
+use Rattle.rules.specs.argument.SoundModelLaws.{limits-fit}
+use Rattle.rules.specs.argument.LengthLaws.{sound-within, longest-file}
+use Rattle.rules.specs.argument.PlainRules.{plainCertificates, plainRulesAt, plainRules}
+use Rattle.rules.specs.argument.Demand3Holds.{holds-read}
+use Rattle.rules.specs.argument.DemandsHold.{plain-refusal, file-follow, follow-at, file-late}
+use Rattle.quotient.specs.definitions.Quotient.{quotient, mergedFile}
 use Rattle.quotient.specs.definitions.ReduceAnswer.{writesMerged, ReduceNumber}
+use Rattle.quotient.specs.argument.QuotientHolds.{merges}
 
 -- the merged file is written, with 23 where there is no room for it
 pub merged-follow : FollowsLaws plainRules writesMerged
@@ -21,3 +29,17 @@ unfolding ReduceNumber
 reduce-numbered M C before =
     outcome-number plainRules writesMerged merged-follow M C before (λ k. (k ≤ 9) ⊎ ((11 ≤ k) × (k ≤ 23))) (inl (omega arith)) (inr (omega arith, omega arith))
     (λ k h. ⊎-elim (λ x. inl x) (λ x. inr (x .0, omega (arith, x .1))) (plain-refusal k h)) (λ N h. absurd (omega arith))
+
+-- 23 only for a buffer shorter than the longest model
+pub merged-short : (L : Limits) (widths : FitsWidths L) (few : L .refutations < 65536) (M C buffer : List ℕ) → Bytes M → Bytes C → outcomeBy (plainPairsAt L) writesMerged M C (buffer ∷ []) .answer .number ≡ 23 → length buffer < longestModel L
+unfolding mergedFile
+merged-short L widths few M C buffer b c =
+    let by = plainRulesAt L widths few in
+    file-late by 23 mergedFile (follow-at L widths few merged-follow) (λ z. omega (arith, z)) M C buffer (longestModel L)
+    (λ a.
+    longest-file L (quotient (a .N) (a .blocks))
+    (sound-within L (quotient (a .N) (a .blocks)) (merges L widths few plainCertificates .merged M C (a .blocks) b c (record { answers = a .judged }) (a .N) (holds-read by M b (a .reads)) .sound)))
+
+-- of less than 8,072 bytes
+pub merged-short-today : (M C buffer : List ℕ) → Bytes M → Bytes C → outcomeBy plainPairs writesMerged M C (buffer ∷ []) .answer .number ≡ 23 → length buffer < 8072
+merged-short-today = merged-short limits limits-fit (omega arith)

@@ -1,11 +1,11 @@
 -- The merged model may be used for its original, and the call that reduces keeps what it promises of it. Of how merged transitions are written
 -- one fact is used, that they and the original ones stand for each other; beside it, that the merged model is sound, is read back, and has a
 -- state for each block with its members' label.
-use Prim.Native.Nat.{ℕ, _+_, _<_}
+use Prim.Native.Nat.{ℕ, _<_}
 use mathlib.Core.Path.{_≡_, refl, sym, _∙_, ap, subst}
-use mathlib.Core.Logic.{_↔_, inl}
-use mathlib.Core.List.{List, [], _∷_, _++_}
-use lib.ListN.{length, take, drop, getD}
+use mathlib.Core.Logic.{inl}
+use mathlib.Core.List.{List, [], _∷_}
+use lib.ListN.{length, take, getD}
 use lib.Seq.{take-append-seam}
 use native.Mathlib.Omega.{arith}
 use Rattle.bisimulation.specs.definitions.Automaton.{SoundAutomaton}
@@ -34,12 +34,12 @@ use Rattle.rules.specs.argument.PlainRules.{wholeRules, plainCertificates, plai
 use Rattle.quotient.specs.argument.QuotientHolds.{merges, plain-merges}
 use Rattle.joined.specs.definitions.Joined.{joined, joinedFile}
 use Rattle.joined.specs.argument.JoinedLaws.{joined-automaton, joined-states}
-use Rattle.joined.specs.definitions.AlikeAnswer.{alikeSays, SaysAlike, testsParts}
+use Rattle.joined.specs.definitions.AlikeAnswer.{alikeSays}
 use Rattle.joined.specs.argument.AlikeAnswerLaws.{says-alike}
 use Rattle.bisimulation.specs.definitions.Joined.{IsJoined}
 use Rattle.bisimulation.specs.definitions.Beside.{IsMerged, SharesBlocks}
 use Rattle.bisimulation.specs.argument.BesideLaws.{linkedBisimulation, standInBisimilar}
-use Rattle.replacement.specs.definitions.Replacement.{LinkedBy, standIn, withStandIn, Replaces, MergedReplaces, HoldsReplacement, ReduceDemands}
+use Rattle.replacement.specs.definitions.Replacement.{standIn, withStandIn, Replaces, MergedReplaces, HoldsReplacement, ReduceDemands}
 
 module _ (L : Limits) (widths : FitsWidths L) (few : L .refutations < 65536) where
   abbrev by : PairRules

@@ -1,7 +1,7 @@
 -- Laws of what a fetch answers, and of a call that writes a file.
 use Prim.Native.Nat.{ℕ, zero, suc, _+_, _-_, _≤_, _<_}
 use mathlib.Core.Path.{_≡_, refl, sym, _∙_, ap, subst}
-use mathlib.Core.Logic.{inl, inr, ⊎-elim}
+use mathlib.Core.Logic.{inl, inr}
 use mathlib.Core.List.{List, [], _∷_}
 use lib.ListN.{length, length-take, length-drop}
 use lib.IntN.{pos}
@@ -198,3 +198,11 @@ module _ (short : ℕ) (file buffer : List ℕ) where
       go : Dec (length buffer < length file) → length file ≤ length buffer
       go (yes h) = absurd (some (ap (λ (o : Outcome). o .answer .number) (file-short h) ∙ z))
       go (no h) = omega arith
+
+  pub file-lacks : (short ≡ 0 → ⊥) → filesOutcome short (file ∷ []) (buffer ∷ []) .answer .number ≡ short → length buffer < length file
+  unfolding filled answerWithoutPlace
+  file-lacks some z = go (decLt (length buffer) (length file))
+    where
+      go : Dec (length buffer < length file) → length buffer < length file
+      go (yes h) = h
+      go (no h) = absurd (some (sym (ap (λ (o : Outcome). o .answer .number) (file-whole (omega arith)) ∙ z)))

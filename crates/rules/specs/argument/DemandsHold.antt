@@ -6,21 +6,22 @@ use mathlib.Core.List.{List, [], _∷_, _++_}
 use lib.ListN.{length, take, drop}
 use lib.Seq.{take-append-seam}
 use native.Mathlib.Omega.{arith}
+use Rattle.rules.specs.definitions.Limits.{Limits}
 use Rattle.rules.specs.definitions.Model.{Model, automatonOf}
-use Rattle.rules.specs.definitions.JudgedBy.{plainPairs, AcceptedBy}
-use Rattle.rules.specs.definitions.SoundModel.{Bytes}
-use Rattle.rules.specs.definitions.Judging.{accepted, NameSameBlocks}
+use Rattle.rules.specs.definitions.JudgedBy.{plainPairs}
+use Rattle.rules.specs.definitions.SoundModel.{Bytes, FitsWidths}
 use Rattle.rules.specs.argument.AnyRule.{PairRules, RefusalOf, pairsOf}
-use Rattle.rules.specs.definitions.Answers.{Outcome, leftIn, answerWithoutPlace, filled, filledEach, filledWith, Follows, firstLent, writesBlocks, writesFile, JudgeNumber, LateNumber}
+use Rattle.rules.specs.definitions.Answers.{Outcome, leftIn, refusalIn, answerWithoutPlace, unwritten, filled, filledEach, filledWith, Follows, firstLent, writesBlocks, writesFile, JudgeNumber, LateNumber}
 use Rattle.rules.specs.definitions.Demand3.{HoldsModel, LargestBlocks}
 use Rattle.rules.specs.definitions.Demands.{KeepsRulesOn, LargestOf, outcomeBy, Accepting, Demands}
 use Rattle.rules.specs.argument.AnyRule.{AnyCertificateNumber}
 use Rattle.rules.specs.argument.FaultLaws.{told-fault}
-use Rattle.rules.specs.argument.AnswerLaws.{files-number, files-told, files-unwritten}
+use Rattle.rules.specs.argument.AnswerLaws.{files-number, files-told, files-unwritten, file-lacks}
+use Rattle.rules.specs.argument.JudgedFirst.{Found, found-outcome}
 use Rattle.rules.specs.argument.AcceptedExactly.{AcceptedAs, accepted-exactly}
-use Rattle.rules.specs.argument.Demand3Holds.{itself, holds, one-model, holds-read, demand3, largest-of}
-use Rattle.rules.specs.argument.PairOutcome.{FollowsLaws, Followed, outcome-number, outcome-unwritten, outcome-found, outcome-followed}
-use Rattle.rules.specs.argument.PlainRules.{PlainNumber, ModelNumber, plainRules}
+use Rattle.rules.specs.argument.Demand3Holds.{holds, one-model, holds-read, demand3, largest-of}
+use Rattle.rules.specs.argument.PairOutcome.{FollowsLaws, Followed, outcome-cases, outcome-number, outcome-unwritten, outcome-found, outcome-followed}
+use Rattle.rules.specs.argument.PlainRules.{PlainNumber, ModelNumber, plainRulesAt, plainRules}
 
 module _ (by : PairRules) (model certificate blocks : List ℕ) (b : Bytes model) where
   -- the two ways to say that the rules are kept
@@ -120,6 +121,28 @@ file-follow short file above =
       notTen = λ z. omega (arith, z);
     }
 
+-- what follows acceptance does not depend on the limits
+pub follow-at : (L : Limits) (widths : FitsWidths L) (few : L .refutations < 65536) {follows : Follows} → FollowsLaws plainRules follows → FollowsLaws (plainRulesAt L widths few) follows
+unfolding RefusalOf
+follow-at L widths few laws = record { numbered = laws .numbered; told = laws .told; unwritten = laws .unwritten; late = laws .late; notTen = laws .notTen }
+
+-- the number for a short buffer only where it is shorter than the longest file of an accepted pair
+pub file-late : (by : PairRules) (short : ℕ) (file : Model → List ℕ → List ℕ) → FollowsLaws by (writesFile short file) → (short ≡ 0 → ⊥) → (M C buffer : List ℕ) (most : ℕ) → ((a : Found by M C) → length (file (a .N) (a .blocks)) ≤ most) → outcomeBy (pairsOf by) (writesFile short file) M C (buffer ∷ []) .answer .number ≡ short → length buffer < most
+unfolding Accepting
+file-late by short file laws some M C buffer most longest z =
+    let f = outcome-found by (writesFile short file) laws M C (buffer ∷ []) (inr z) .found in
+    let o = found-outcome by M C (writesFile short file) (buffer ∷ []) (λ N end e. omega arith) f in
+    omega (arith, file-lacks short (file (f .N) (f .blocks)) buffer some (ap (λ (x : Outcome). x .answer .number) o ∙ z), longest f)
+
+-- 10 only for a block buffer shorter than the most states, where no refusal of judging is 10
+pub blocks-short : (by : PairRules) → (RefusalOf by 10 → ⊥) → (M C : List ℕ) (before : List (List ℕ)) → Bytes M → outcomeBy (pairsOf by) writesBlocks M C before .answer .number ≡ 10 → length (firstLent before) < by .limits .states
+unfolding unwritten refusalIn answerWithoutPlace filled
+blocks-short by none M C before b =
+    outcome-cases by writesBlocks blocks-follow M C before (λ o. o .answer .number ≡ 10 → length (firstLent before) < by .limits .states)
+    (λ f file place h z. absurd (none (subst (RefusalOf by) z (h .number))))
+    (λ N end e h z. omega (arith, h, by .models .sound M N (by .models .exactly M N b .0 (holds-read by M b e .reads)) .states))
+    (λ N end blocks e room q z. absurd (omega (arith, z)))
+
 module _ (M C : List ℕ) (before : List (List ℕ)) where
   -- the call that judges answers one of 0 to 22
   pub judge-numbered : JudgeNumber (outcomeBy plainPairs writesBlocks M C before .answer .number)
@@ -127,6 +150,10 @@ module _ (M C : List ℕ) (before : List (List ℕ)) where
   judge-numbered =
       outcome-number plainRules writesBlocks blocks-follow M C before (λ k. k ≤ 22) (omega arith) (omega arith)
       (λ k h. ⊎-elim (λ x. omega (arith, x)) (λ x. x .1) (plain-refusal k h)) (λ N h. omega arith)
+
+  -- with 10 only for a block buffer of less than 128 bytes
+  pub blocks-short-today : Bytes M → outcomeBy plainPairs writesBlocks M C before .answer .number ≡ 10 → length (firstLent before) < 128
+  blocks-short-today = blocks-short plainRules (λ h. ⊎-elim (λ x. omega (arith, x)) (λ x. omega (arith, x)) (plain-refusal 10 h)) M C before
 
   -- a call of document 02 that lends no block buffer: one of 0 to 9, 11 to 22, and its own
   pub late-numbered : (follows : Follows) → FollowsLaws plainRules follows → ((N : Model) → follows .blockRoom N ≡ 0) → LateNumber (follows .late) (outcomeBy plainPairs follows M C before .answer .number)

@@ -2,8 +2,8 @@
 use Prim.Native.Nat.{ℕ, _≤_, _<_}
 use mathlib.Core.Path.{_≡_, refl, sym, _∙_, ap, ap₂, subst}
 use mathlib.Core.Bool.{Bool, true, false}
-use mathlib.Core.List.{List, [], _∷_, _++_}
-use lib.ListN.{length, drop}
+use mathlib.Core.List.{List, [], _∷_}
+use lib.ListN.{length}
 use native.Mathlib.Decide.{decLt}
 use native.Mathlib.Omega.{arith}
 use Rattle.bisimulation.specs.argument.ChoiceLaws.{less, notLess, isTrue, isFalse}
@@ -18,14 +18,9 @@ use Rattle.rules.specs.definitions.Answers.{Outcome, leftIn, refusalIn, 
 use Rattle.rules.specs.definitions.Made.{passesLimit, madeOutcome, OfTwo, readingsOutcome, twoOutcome, MakesModel}
 use Rattle.rules.specs.argument.FaultLaws.{Told}
 use Rattle.rules.specs.argument.ReadBack.{read-back-whole}
-use Rattle.rules.specs.argument.AnswerLaws.{NoState, left-unwritten, file-whole, files-number, files-zero, files-unwritten, file-fits}
+use Rattle.rules.specs.argument.LengthLaws.{Within}
+use Rattle.rules.specs.argument.AnswerLaws.{NoState, left-unwritten, file-whole, files-number, files-zero, files-unwritten, file-fits, file-lacks}
 use Rattle.rules.specs.argument.PlainRules.{ModelNumber, refusal-told, wholeFiles}
-
--- a model within the limits of states, transitions and entries
-pub record Within (L : Limits) (M : Model) : Type 0 where
-  pub states : length (M .labels) ≤ L .states
-  pub transitions : length (M .transitions) ≤ L .transitions
-  pub entries : entryCount M ≤ L .entries
 
 module _ (L : Limits) (M : Model) where
   pub within-passes : Within L M → false ≡ passesLimit L M
@@ -155,6 +150,15 @@ module _ (L : Limits) (widths : FitsWidths L) (make : Model → Model → Model)
       (λ f which place size n h t. refused (f .number) h)
       (λ M N f g p. o)
       (λ M N f g p. files-number short (file M N ∷ []) (before ∷ []) P (refused 0 (omega arith)) s)
+
+  -- the number for a short buffer only where it is shorter than the longest file that is made
+  pub two-short : (most : ℕ) → 9 < short → (over ≡ short → ⊥) → ((M N : Model) → FileOf L first M → FileOf L second N → passes M N ≡ false → length (file M N) ≤ most) → numberOf outcome ≡ short → length before < most
+  unfolding unwritten refusalIn answerWithoutPlace
+  two-short most late other longest =
+      two-cases (λ o. numberOf o ≡ short → length before < most)
+      (λ f which place size n h t z. absurd (omega (arith, late, h, z)))
+      (λ M N f g p z. absurd (other z))
+      (λ M N f g p z. omega (arith, file-lacks short (file M N) before someShort z, longest M N f g p))
 
   -- document 02, K2
   pub two-zero : NoState (outcome .answer)

@@ -2,12 +2,11 @@
 -- what its number tells.
 use Prim.Native.Nat.{ℕ, _≤_, _<_}
 use mathlib.Core.Path.{_≡_, refl, sym, _∙_, ap, subst}
-use mathlib.Core.Logic.{_⊎_, inl, inr, ⊎-elim}
+use mathlib.Core.Logic.{_⊎_, ⊎-elim}
 use mathlib.Core.List.{List, [], _∷_}
 use lib.ListN.{length}
 use native.Mathlib.Omega.{arith}
 use native.Mathlib.Decide.{decLt}
-use Rattle.bisimulation.specs.definitions.Choice.{ifLess}
 use Rattle.bisimulation.specs.argument.ChoiceLaws.{less, notLess}
 use Rattle.rules.specs.definitions.Limits.{Limits}
 use Rattle.rules.specs.definitions.Model.{Model, automatonOf}
@@ -75,7 +74,7 @@ module _ (by : PairRules) (follows : Follows) (laws : FollowsLaws by follows) (M
   -- the cases of an outcome: reading refuses, 10, judging refuses, or acceptance with what follows
   pub outcome-cases {κ} : (P : Outcome → Type κ)
       → ((f : Fault) (file place : ℕ) → RefusedWith by f → P (unwritten (refusalIn f file place (length (fileOf (M ∷ C ∷ []) file))) before))
-      → ((N : Model) → length (firstLent before) < follows .blockRoom N → P (unwritten (answerWithoutPlace 10) before))
+      → ((N : Model) (end : ℕ) → by .models .read M ≡ model N end → length (firstLent before) < follows .blockRoom N → P (unwritten (answerWithoutPlace 10) before))
       → ((N : Model) (end : ℕ) (blocks : List ℕ) → by .models .read M ≡ model N end → follows .blockRoom N ≤ length (firstLent before) → accepted blocks ≡ judgeCertificate (by .limits) (by .rule M .file) (automatonOf N) C → P (follows .outcome N blocks before))
       → P (outcomeBy (pairsOf by) follows M C before)
   unfolding fileOf
@@ -86,7 +85,7 @@ module _ (by : PairRules) (follows : Follows) (laws : FollowsLaws by follows) (M
       by-judgement N end e room (refusedIn f file place) q h = unfold judgedOutcome judgementAnswer in refuses f file place h
 
       by-room : (N : Model) (end : ℕ) → by .models .read M ≡ model N end → Dec (length (firstLent before) < follows .blockRoom N) → P (outcomeBy (pairsOf by) follows M C before)
-      by-room N end e (yes l) = subst P (outcome-short (by .limits) (by .models .read) (by .rule M .file) follows M C before e l) (short N l)
+      by-room N end e (yes l) = subst P (outcome-short (by .limits) (by .models .read) (by .rule M .file) follows M C before e l) (short N end e l)
       by-room N end e (no l) =
           subst P (outcome-judged (by .limits) (by .models .read) (by .rule M .file) follows M C before e (omega arith))
           (by-judgement N end e (omega arith) _ refl (certificate-numbered by M (automatonOf N) C))
@@ -102,7 +101,7 @@ module _ (by : PairRules) (follows : Follows) (laws : FollowsLaws by follows) (M
   outcome-number P zero late refusal ten =
       outcome-cases (λ o. P (numberOf o))
       (λ f file place h. refusal (f .number) (h .number))
-      (λ N h. ten N h)
+      (λ N end e h. ten N h)
       (λ N end blocks e room q. ⊎-elim (λ z. subst P (sym z) zero) (λ z. subst P (sym z) late) (laws .numbered N blocks before))
 
   -- what its state and remainder tell
@@ -111,7 +110,7 @@ module _ (by : PairRules) (follows : Follows) (laws : FollowsLaws by follows) (M
   outcome-told =
       outcome-cases (λ o. Told (faultIn (o .answer)))
       (λ f file place h. h .told)
-      (λ N h. told-fault 10 (omega arith))
+      (λ N end e h. told-fault 10 (omega arith))
       (λ N end blocks e room q. laws .told N blocks before)
 
   -- a refusal leaves the buffers as they were
@@ -119,7 +118,7 @@ module _ (by : PairRules) (follows : Follows) (laws : FollowsLaws by follows) (M
   outcome-unwritten =
       outcome-cases (λ o. (numberOf o ≡ 0 → ⊥) → leftIn o ≡ before)
       (λ f file place h n. left-unwritten _ before)
-      (λ N h n. left-unwritten _ before)
+      (λ N end e h n. left-unwritten _ before)
       (λ N end blocks e room q n. laws .unwritten N blocks before n)
 
   -- an accepted pair with room: its outcome is what follows
@@ -133,7 +132,7 @@ module _ (by : PairRules) (follows : Follows) (laws : FollowsLaws by follows) (M
   outcome-found =
       outcome-cases (λ o. (numberOf o ≡ 0) ⊎ (numberOf o ≡ follows .late) → Followed)
       (λ f file place h z. absurd (⊎-elim (λ x. h .some x) (λ x. laws .late (f .number) (h .number) (h .some) x) z))
-      (λ N h z. absurd (⊎-elim (λ x. omega (arith, x)) (λ x. laws .notTen (sym x)) z))
+      (λ N end e h z. absurd (⊎-elim (λ x. omega (arith, x)) (λ x. laws .notTen (sym x)) z))
       (λ N end blocks e room q z.
       record {
         found = record { N = N; end = end; reads = e; blocks = blocks; judged = ap (λ (r : Reading). judgeReading (by .limits) (by .rule M .file) r C) e ∙ sym q };

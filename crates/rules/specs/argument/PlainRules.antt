@@ -168,6 +168,10 @@ wholeRules L widths few {numbers} rule =
       oneRule = λ model other M N one. refl;
     }
 
--- today's limits, document 01's model files and step rule
+-- document 01's model files and step rule, within given limits
+abbrev pub plainRulesAt : (L : Limits) → FitsWidths L → L .refutations < 65536 → PairRules
+plainRulesAt L widths few = wholeRules L widths few plainCertificates
+
+-- within today's
 abbrev pub plainRules : PairRules
-plainRules = wholeRules limits limits-fit (omega arith) plainCertificates
+plainRules = plainRulesAt limits limits-fit (omega arith)

@@ -1,5 +1,5 @@
 -- The limits of the papers' tables, named once. Every definition of the files takes them as a parameter.
-use Prim.Native.Nat.{ℕ}
+use Prim.Native.Nat.{ℕ, _+_, _*_}
 
 -- the most states, actions, transitions, entries and refutations, and the highest label
 pub record Limits : Type 0 where
@@ -17,3 +17,7 @@ limits = record { states = 128; actions = 32; transitions = 256; entries = 2048;
 -- the limits of document 01, which a part from before K7 has
 abbrev pub olderLimits : Limits
 olderLimits = record { states = 64; actions = 32; transitions = 256; entries = 1024; refutations = 2016; label = 63 }
+
+-- the bytes of the longest model: its head and the mark of its labels, a label for each state, and so many for each transition and each entry
+abbrev pub longestModel : Limits → ℕ
+longestModel L = 8 + L .states + 7 * L .transitions + 3 * L .entries

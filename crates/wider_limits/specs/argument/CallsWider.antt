@@ -7,16 +7,16 @@ use mathlib.Core.List.{List, [], _∷_}
 use native.Mathlib.Omega.{arith}
 use Rattle.rules.specs.definitions.Limits.{Limits}
 use Rattle.rules.specs.definitions.Model.{Model}
-use Rattle.rules.specs.definitions.SoundModel.{FitsWidths}
 use Rattle.rules.specs.definitions.Faults.{Fault}
 use Rattle.rules.specs.definitions.Reading.{Reading, model, noModel, readWhole}
 use Rattle.rules.specs.definitions.JudgedBy.{JudgedBy, AcceptedBy}
-use Rattle.rules.specs.definitions.Answers.{Outcome, refusalIn, answerWithoutPlace, fetchReading, fetchAnswer, unwritten, Follows, readOutcome, pairOutcome}
+use Rattle.rules.specs.definitions.Answers.{refusalIn, answerWithoutPlace, fetchReading, fetchAnswer, unwritten, Follows, readOutcome, pairOutcome}
 use Rattle.rules.specs.definitions.Demands.{outcomeBy, Accepting}
-use Rattle.rules.specs.argument.AnyRule.{PairRules, RefusalOf, pairsOf}
-use Rattle.rules.specs.argument.PlainRules.{ModelNumber, refusal-told, plainCertificates, wholeRules, plainRules}
+use Rattle.rules.specs.argument.AnyRule.{PairRules, pairsOf}
+use Rattle.rules.specs.argument.PlainRules.{ModelNumber, refusal-told}
 use Rattle.rules.specs.definitions.Made.{passesLimit, madeOutcome, OfTwo, readingsOutcome, twoOutcome}
-use Rattle.rules.specs.argument.MadeLaws.{Within as MadeWithin, within-passes, passes-within, made-cases}
+use Rattle.rules.specs.argument.LengthLaws.{Within as MadeWithin}
+use Rattle.rules.specs.argument.MadeLaws.{within-passes, passes-within, made-cases}
 use Rattle.rules.specs.argument.PairOutcome.{FollowsLaws, outcome-found}
 use Rattle.joined.specs.definitions.Joined.{joined}
 use Rattle.joined.specs.definitions.JoinAnswer.{passesJoined, joinOutcome}
@@ -47,16 +47,6 @@ pub outcome-stays : (by : PairRules) (newer : JudgedBy) → Widens (pairsOf by) 
 outcome-stays by newer wider follows laws M C before z =
     let a = told-accepted by follows laws M C before z in
     outcome-wider (pairsOf by) newer wider M C (a .0) (a .1) follows before
-
--- what must hold of the pairs within given limits
-module _ (L : Limits) (widths : FitsWidths L) (count : L .refutations < 65536) where
-  abbrev pub plainRulesAt : PairRules
-  plainRulesAt = wholeRules L widths count plainCertificates
-
-  -- what follows acceptance does not depend on the limits
-  pub follow-at : {follows : Follows} → FollowsLaws plainRules follows → FollowsLaws plainRulesAt follows
-  unfolding RefusalOf
-  follow-at laws = record { numbered = laws .numbered; told = laws .told; unwritten = laws .unwritten; late = laws .late; notTen = laws .notTen }
 
 -- the calls that judge nothing
 module _ (L W : Limits) (within : Within L W) where

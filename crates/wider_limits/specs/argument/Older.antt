@@ -18,9 +18,9 @@ use Rattle.rules.specs.definitions.JudgedBy.{JudgedBy, plainPairsAt, plainPairs
 use Rattle.rules.specs.definitions.Answers.{refusalIn, fetchAnswer, unwritten, Follows, writesBlocks}
 use Rattle.quotient.specs.definitions.ReduceAnswer.{writesMerged}
 use Rattle.rules.specs.definitions.Demands.{outcomeBy, Accepting}
-use Rattle.rules.specs.argument.PlainRules.{plainRules}
+use Rattle.rules.specs.argument.PlainRules.{plainRulesAt, plainRules}
 use Rattle.rules.specs.argument.PairOutcome.{FollowsLaws}
-use Rattle.rules.specs.argument.DemandsHold.{blocks-follow}
+use Rattle.rules.specs.argument.DemandsHold.{blocks-follow, follow-at}
 use Rattle.quotient.specs.argument.ReduceAnswerLaws.{merged-follow}
 use Rattle.block_sheet.specs.definitions.SheetAnswer.{writesSheet}
 use Rattle.block_sheet.specs.argument.SheetJudgedLaws.{sheet-follow}
@@ -35,7 +35,7 @@ use Rattle.cost_files.specs.argument.CostRules.{costRulesAt}
 use Rattle.wider_limits.specs.definitions.Wider.{within-older, others-stay, Widens, Meets, Larger, ThreeOrEight}
 use Rattle.wider_limits.specs.argument.ReadingWider.{read-wider, cost-read-wider}
 use Rattle.wider_limits.specs.argument.JudgingWider.{accepted-wider, plain-widens, cost-widens}
-use Rattle.wider_limits.specs.argument.CallsWider.{outcome-wider, alike-wider, told-accepted, outcome-stays, plainRulesAt, follow-at, fetch-wider, join-wider}
+use Rattle.wider_limits.specs.argument.CallsWider.{outcome-wider, alike-wider, told-accepted, outcome-stays, fetch-wider, join-wider}
 use Rattle.wider_limits.specs.argument.MeetsLaws.{whole-meets, cost-meets, three-or-eight, reads-exactly, call-refuses}
 
 -- what an older part judges pairs and cost pairs by

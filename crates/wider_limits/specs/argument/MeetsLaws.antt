@@ -16,8 +16,10 @@ use Rattle.rules.specs.definitions.Reading.{statesOf, actionsOf, countOf, range
 use Rattle.rules.specs.definitions.Certificate.{FileRule}
 use Rattle.rules.specs.definitions.Judging.{Reader}
 use Rattle.rules.specs.definitions.Accepted.{FileOf}
-use Rattle.rules.specs.definitions.Answers.{refusalIn, unwritten, Follows, pairOutcome}
+use Rattle.rules.specs.definitions.Answers.{Outcome, refusalIn, fetchReading, fetchAnswer, fetchOutcome, unwritten, Follows, pairOutcome}
+use Rattle.rules.specs.definitions.Made.{OfTwo, twoOutcome}
 use Rattle.rules.specs.argument.PairOutcome.{outcome-refused}
+use Rattle.rules.specs.argument.MadeLaws.{first-refused, second-refused}
 use Rattle.rules.specs.argument.ReadingLaws.{PassedTransition, transition-passed, head-passed, refuse-stops, refuse-passes, Sound, Tells, scan-tells}
 use Rattle.rules.specs.argument.ReadBack.{ModelBack, model-back, read-back-whole}
 use Rattle.rules.specs.argument.ReadSound.{refuse-past}
@@ -25,7 +27,7 @@ use Rattle.rules.specs.argument.FetchedRun.{length-entriesAt}
 use Rattle.cost_files.specs.definitions.CostModel.{costModelBytes, CostFileOf, costsBytes}
 use Rattle.cost_files.specs.definitions.CostReading.{scanCostRecord, scanCostModel, readCosts}
 use Rattle.cost_files.specs.argument.CostReadingLaws.{cost-read-back}
-use Rattle.wider_limits.specs.definitions.Wider.{Within, OthersStay, entriesBefore, PassedAt, Meets, Larger, ThreeOrEight}
+use Rattle.wider_limits.specs.definitions.Wider.{Within, OthersStay, entriesBefore, PassedAt, Meets, Larger, ThreeOrEight, RefusesLarger}
 use Rattle.wider_limits.specs.argument.ReadingWider.{head-passes, labels-pass, transition-passes}
 
 abbrev entriesIn : List Transition → ℕ
@@ -237,6 +239,25 @@ module _ (L : Limits) (read : Reader) (file : List ℕ) (M : Model) (meets : Mee
       few e (yes h) = absurd (not-larger e (inr h))
       few e (no h) = omega arith
 
--- every call that judges such a file refuses so
-pub call-refuses : (L : Limits) (read : Reader) (file : List ℕ) (x : ThreeOrEight read file) (rule : FileRule) (follows : Follows) (C : List ℕ) (before : List (List ℕ)) → pairOutcome L read rule follows file C before ≡ unwritten (refusalIn (fault (x .number)) 1 (x .place) (length file)) before
-call-refuses L read file x rule follows C before = sym (outcome-refused L read rule follows file C before (fault (x .number)) (x .place) (x .refused))
+-- every call that reads such a file refuses it so
+module _ (read : Reader) (file : List ℕ) (x : ThreeOrEight read file) where
+  refused-so : {which : ℕ} {before : List (List ℕ)} {o : Outcome} → unwritten (refusalIn (fault (x .number)) which (x .place) (length file)) before ≡ o → RefusesLarger which file before o
+  refused-so e = record { number = x .number; place = x .place; either = x .either; refuses = sym e }
+
+  -- one that judges
+  pub call-refuses : (L : Limits) (rule : FileRule) (follows : Follows) (C : List ℕ) (before : List (List ℕ)) → RefusesLarger 1 file before (pairOutcome L read rule follows file C before)
+  call-refuses L rule follows C before = refused-so (outcome-refused L read rule follows file C before _ _ (x .refused))
+
+  -- one that reads two models, as its first, whatever the second is
+  pub first-refuses : (made : OfTwo) (second : List ℕ) (before : List (List ℕ)) → RefusesLarger 1 file before (twoOutcome read made file second before)
+  first-refuses made second before = refused-so (first-refused read made file second before _ _ (x .refused))
+
+  -- and as its second
+  pub second-refuses : (made : OfTwo) (first : List ℕ) (before : List (List ℕ)) {N : Model} {end : ℕ} → read first ≡ model N end → RefusesLarger 3 file before (twoOutcome read made first file before)
+  second-refuses made first before e = refused-so (second-refused read made first file before _ _ e (x .refused))
+
+-- the fetch
+pub fetch-refuses : (L : Limits) (file : List ℕ) → ThreeOrEight (readWhole L) file → (state : ℕ) → RefusesLarger 1 file [] (fetchOutcome L file state)
+unfolding fetchAnswer fetchReading unwritten
+fetch-refuses L file x state =
+    refused-so (readWhole L) file x (ap (λ (r : Reading). record { answer = fetchReading file state r; lent = [] }) (sym (x .refused)))

@@ -3,19 +3,18 @@
 use Prim.Native.Nat.{ℕ, _≤_, _<_}
 use mathlib.Core.Path.{_≡_}
 use mathlib.Core.Logic.{_↔_, _⊎_, inl}
-use mathlib.Core.List.{List}
+use mathlib.Core.List.{List, [], _∷_}
 use lib.ListN.{length}
 use native.Mathlib.Omega.{arith}
 use Rattle.rules.specs.definitions.Limits.{limits, olderLimits}
 use Rattle.rules.specs.definitions.Model.{Model}
 use Rattle.rules.specs.definitions.SoundModel.{entryCount, FitsWidths}
 use Rattle.rules.specs.argument.SoundModelLaws.{limits-fit}
-use Rattle.rules.specs.definitions.Faults.{fault}
 use Rattle.rules.specs.definitions.Reading.{model, readWhole}
 use Rattle.rules.specs.definitions.PlainRule.{plainRule}
 use Rattle.rules.specs.definitions.Accepted.{FileOf}
 use Rattle.rules.specs.definitions.JudgedBy.{JudgedBy, plainPairsAt, plainPairs, AcceptedBy}
-use Rattle.rules.specs.definitions.Answers.{refusalIn, fetchAnswer, unwritten, Follows, writesBlocks}
+use Rattle.rules.specs.definitions.Answers.{fetchAnswer, fetchOutcome, Follows, writesBlocks}
 use Rattle.quotient.specs.definitions.ReduceAnswer.{writesMerged}
 use Rattle.rules.specs.definitions.Demands.{outcomeBy, Accepting}
 use Rattle.rules.specs.argument.PlainRules.{plainRulesAt, plainRules}
@@ -32,11 +31,11 @@ use Rattle.cost_files.specs.definitions.CostReading.{readCosts}
 use Rattle.cost_files.specs.definitions.CostFile.{costFile}
 use Rattle.cost_files.specs.definitions.CostPairs.{costPairsAt, costPairs}
 use Rattle.cost_files.specs.argument.CostRules.{costRulesAt}
-use Rattle.wider_limits.specs.definitions.Wider.{within-older, others-stay, Widens, Meets, Larger, ThreeOrEight}
+use Rattle.wider_limits.specs.definitions.Wider.{within-older, others-stay, Widens, Meets, Larger, ThreeOrEight, RefusesLarger}
 use Rattle.wider_limits.specs.argument.ReadingWider.{read-wider, cost-read-wider}
 use Rattle.wider_limits.specs.argument.JudgingWider.{accepted-wider, plain-widens, cost-widens}
 use Rattle.wider_limits.specs.argument.CallsWider.{outcome-wider, alike-wider, told-accepted, outcome-stays, fetch-wider, join-wider}
-use Rattle.wider_limits.specs.argument.MeetsLaws.{whole-meets, cost-meets, three-or-eight, reads-exactly, call-refuses}
+use Rattle.wider_limits.specs.argument.MeetsLaws.{whole-meets, cost-meets, three-or-eight, reads-exactly, call-refuses, first-refuses, second-refuses, fetch-refuses}
 
 -- what an older part judges pairs and cost pairs by
 abbrev pub olderPairs : JudgedBy
@@ -123,20 +122,33 @@ older-cost-meets = cost-meets olderLimits limits within-older others-stay limits
 pub older-refuses-larger : (file : List ℕ) (M : Model) → FileOf limits file M → Larger olderLimits M → ThreeOrEight (readWhole olderLimits) file
 older-refuses-larger file M f = three-or-eight olderLimits (readWhole olderLimits) file M (older-meets file M f)
 
--- so every call that judges without costs answers 3 or 8 there, and leaves the lent buffers as they were
-pub older-calls-refuse-larger : (file : List ℕ) (M : Model) → FileOf limits file M → Larger olderLimits M → (follows : Follows) (C : List ℕ) (before : List (List ℕ)) → (number place : ℕ) × ((number ≡ 3) ⊎ (number ≡ 8)) × (outcomeBy olderPairs follows file C before ≡ unwritten (refusalIn (fault number) 1 place (length file)) before)
-older-calls-refuse-larger file M f large follows C before =
-    let x = older-refuses-larger file M f large in
-    (x .number, x .place, x .either, call-refuses olderLimits (readWhole olderLimits) file x plainRule follows C before)
+-- so every call answers 3 or 8 there, and leaves the lent buffers as they were
+module _ (file : List ℕ) (M : Model) (f : FileOf limits file M) (large : Larger olderLimits M) where
+  met : ThreeOrEight (readWhole olderLimits) file
+  met = older-refuses-larger file M f large
+
+  -- those that judge without costs
+  pub older-calls-refuse-larger : (follows : Follows) (C : List ℕ) (before : List (List ℕ)) → RefusesLarger 1 file before (outcomeBy olderPairs follows file C before)
+  older-calls-refuse-larger = call-refuses (readWhole olderLimits) file met olderLimits plainRule
+
+  -- the one that fetches
+  pub older-fetch-refuses-larger : (state : ℕ) → RefusesLarger 1 file [] (fetchOutcome olderLimits file state)
+  older-fetch-refuses-larger = fetch-refuses olderLimits file met
+
+  -- the one that joins: as its first model, whatever the second is, and as its second where the first is read
+  pub older-join-refuses-first : (second buffer : List ℕ) → RefusesLarger 1 file (buffer ∷ []) (joinOutcome olderLimits (readWhole olderLimits) file second buffer)
+  older-join-refuses-first second buffer = first-refuses (readWhole olderLimits) file met _ second (buffer ∷ [])
+
+  pub older-join-refuses-second : (first buffer : List ℕ) {N : Model} {end : ℕ} → readWhole olderLimits first ≡ model N end → RefusesLarger 3 file (buffer ∷ []) (joinOutcome olderLimits (readWhole olderLimits) first file buffer)
+  older-join-refuses-second first buffer e = second-refuses (readWhole olderLimits) file met _ first (buffer ∷ []) e
 
 -- and so of cost models, in the call that judges them
 pub older-cost-refuses-larger : (file : List ℕ) (M : Model) → CostFileOf limits file M → Larger olderLimits M → ThreeOrEight (readCosts olderLimits) file
 older-cost-refuses-larger file M f = three-or-eight olderLimits (readCosts olderLimits) file M (older-cost-meets file M f)
 
-pub older-cost-calls-refuse-larger : (file : List ℕ) (M : Model) → CostFileOf limits file M → Larger olderLimits M → (follows : Follows) (C : List ℕ) (before : List (List ℕ)) → (number place : ℕ) × ((number ≡ 3) ⊎ (number ≡ 8)) × (outcomeBy olderCostPairs follows file C before ≡ unwritten (refusalIn (fault number) 1 place (length file)) before)
-older-cost-calls-refuse-larger file M f large follows C before =
-    let x = older-cost-refuses-larger file M f large in
-    (x .number, x .place, x .either, call-refuses olderLimits (readCosts olderLimits) file x (costFile (costsIn file)) follows C before)
+pub older-cost-calls-refuse-larger : (file : List ℕ) (M : Model) → CostFileOf limits file M → Larger olderLimits M → (follows : Follows) (C : List ℕ) (before : List (List ℕ)) → RefusesLarger 1 file before (outcomeBy olderCostPairs follows file C before)
+older-cost-calls-refuse-larger file M f large =
+    call-refuses (readCosts olderLimits) file (older-cost-refuses-larger file M f large) olderLimits (costFile (costsIn file))
 
 -- and it reads the others
 pub older-reads-exactly : (file : List ℕ) (M : Model) → FileOf limits file M → (readWhole olderLimits file ≡ model M (length file)) ↔ ((length (M .labels) ≤ 64) × (entryCount M ≤ 1024))

@@ -13,6 +13,7 @@ use Rattle.rules.specs.definitions.Faults.{fault}
 use Rattle.rules.specs.definitions.Reading.{model, noModel, placeOf}
 use Rattle.rules.specs.definitions.Judging.{Reader}
 use Rattle.rules.specs.definitions.JudgedBy.{JudgedBy}
+use Rattle.rules.specs.definitions.Answers.{Outcome, refusalIn, unwritten}
 
 -- each limit of L is at most that of W
 pub record Within (L W : Limits) : Type 0 where
@@ -74,3 +75,10 @@ pub record ThreeOrEight (read : Reader) (file : List ℕ) : Type 0 where
   pub place : ℕ
   pub either : (number ≡ 3) ⊎ (number ≡ 8)
   pub refused : read file ≡ noModel (fault number) place
+
+-- what a call answers that meets a larger model so: it refuses the file, 1 or 3 by its number, with 3 or 8, and leaves the lent buffers as they were
+pub record RefusesLarger (which : ℕ) (file : List ℕ) (before : List (List ℕ)) (o : Outcome) : Type 0 where
+  pub number : ℕ
+  pub place : ℕ
+  pub either : (number ≡ 3) ⊎ (number ≡ 8)
+  pub refuses : o ≡ unwritten (refusalIn (fault number) which place (length file)) before

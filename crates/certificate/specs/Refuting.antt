@@ -27,7 +27,7 @@ use Rattle.refutation.specs.RefutationJudged.{RefutationJudged}
 use Rattle.flows.specs.declared.Judged.{Judged}
 use Rattle.flows.specs.declared.Judged.the-variants.{Refused}
 use Rattle.flows.specs.FlowsJudged.{Judges, judges, JudgesFlows}
-use Rattle.flows.specs.Going.{record-stops, record-passes}
+use Rattle.rules.specs.argument.JudgingLaws.{record-stops, record-passes}
 use Rattle.certificate.specs.declared.Passed.{Passed}
 use Rattle.certificate.specs.CertificateJudged.{JudgesBlocks}
 

@@ -5,13 +5,14 @@ use mathlib.Core.List.{List, [], _∷_, _++_}
 use lib.ListN.{length, take, drop}
 use lib.IntN.{ℤ}
 use native.Mathlib.Omega.{arith}
-use Rattle.bisimulation.specs.argument.ChoiceLaws.{same, notSame, less, notLess}
+use Rattle.bisimulation.specs.argument.ChoiceLaws.{less, notLess}
 use Rattle.bisimulation.specs.definitions.Pairs.{Pairs}
 use Rattle.rules.specs.definitions.Limits.{limits}
 use Rattle.rules.specs.definitions.Certificate.{FileRule}
 use Rattle.rules.specs.definitions.Faults as rules
 use Rattle.rules.specs.definitions.Faults.{fault}
-use Rattle.rules.specs.definitions.Judging.{Judgement, refusedIn, refuseRecordAt, Question, questions, questionsOfState, questionsFrom, judgeFlows}
+use Rattle.rules.specs.definitions.Judging.{Judgement, refusedIn, Question, questions, questionsOfState, questionsFrom, judgeFlows}
+use Rattle.rules.specs.argument.JudgingLaws.{record-stops, record-passes}
 use Rattle.fault.specs.declared.Fault.{Fault}
 use Rattle.fault.specs.Faults.{faultOf, Placed}
 use Rattle.pairs.specs.Rows.{HoldsPairs}
@@ -22,16 +23,6 @@ use Rattle.flow.specs.declared.Met.{Met}
 use Rattle.flows.specs.FlowsJudged.{JudgesFlows}
 use Rattle.runs.specs.Runs.{runQuestions}
 use Rattle.flows.specs.declared.Judged.the-variants.{Accepted, Refused}
-
--- a record's fault refuses at its place; without one judging goes on
-pub record-stops : {f : rules.Fault} (x : rules.Fault) (at : ℕ) (next : Judgement) → x ≡ f → (x .number ≡ 0 → ⊥) → refusedIn x 2 at ≡ refuseRecordAt f at next
-unfolding refuseRecordAt
-record-stops {f} x at next e n =
-    notSame next (λ z. n (ap (λ (g : rules.Fault). g .number) e ∙ z)) (ap (λ (g : rules.Fault). refusedIn g 2 at) e)
-
-pub record-passes : {x f : rules.Fault} (at : ℕ) {z next : Judgement} → x ≡ f → x .number ≡ 0 → z ≡ next → z ≡ refuseRecordAt f at next
-unfolding refuseRecordAt
-record-passes {x} {f} at e n h = same _ (ap (λ (g : rules.Fault). g .number) (sym e) ∙ n) h
 
 -- the blocks are those at a place of the certificate C
 module _ (rule : FileRule) (s C : List ℕ) (n : ℕ) (rows : List ℕ) (blocks : ℕ) where

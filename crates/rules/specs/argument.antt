@@ -1,5 +1,6 @@
 -- Laws and theorems: the argument, which the prover has read.
 pub mod FaultLaws
+pub mod JudgingLaws
 pub mod AnyRule
 pub mod Standing
 pub mod ReadingLaws

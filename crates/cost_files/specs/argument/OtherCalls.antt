@@ -1,20 +1,28 @@
--- A cost model given to a call without costs has bytes left: 9 at the cost record.
-use Prim.Native.Nat.{ℕ}
+-- A cost model given to a call without costs has bytes left: 9 at the cost record. A certificate of the other kind has another mark: 12 at 0.
+use Prim.Native.Nat.{ℕ, _≤_}
 use mathlib.Core.Path.{_≡_, sym, _∙_, ap}
 use mathlib.Core.List.{List, [], _∷_}
 use lib.ListN.{length}
+use native.Mathlib.Omega.{arith}
 use Rattle.rules.specs.definitions.Limits.{limits}
 use Rattle.rules.specs.definitions.Model.{Model}
+use Rattle.rules.specs.definitions.Bytes.{twoAt}
+use Rattle.rules.specs.definitions.SoundModel.{Bytes}
 use Rattle.rules.specs.definitions.Faults.{fault}
 use Rattle.rules.specs.definitions.Reading.{readWhole, model, noModel}
+use Rattle.rules.specs.definitions.Accepted.{FileOf}
 use Rattle.rules.specs.definitions.JudgedBy.{plainPairs}
-use Rattle.rules.specs.definitions.Answers.{Answer, refusalIn, unwritten, Follows, fetchReading, fetchAnswer}
+use Rattle.rules.specs.definitions.Answers.{Answer, refusalIn, unwritten, Follows, firstLent, fetchReading, fetchAnswer}
 use Rattle.rules.specs.definitions.Demands.{outcomeBy}
 use Rattle.rules.specs.argument.SoundModelLaws.{limits-fit}
+use Rattle.rules.specs.argument.PlainRules.{plainRules}
 use Rattle.rules.specs.argument.PairOutcome.{outcome-refused}
+use Rattle.rules.specs.argument.DemandsHold.{another-mark}
 use Rattle.rules.specs.argument.MadeLaws.{first-refused, second-refused}
 use Rattle.joined.specs.definitions.JoinAnswer.{joinOutcome}
 use Rattle.cost_files.specs.definitions.CostModel.{CostFileOf, transitionsEnd}
+use Rattle.cost_files.specs.definitions.CostPairs.{costPairs}
+use Rattle.cost_files.specs.argument.CostRules.{costRules}
 use Rattle.cost_files.specs.argument.CostReadingLaws.{transitions-end, read-without-costs}
 
 -- a cost model, of whatever automaton and costs
@@ -42,3 +50,11 @@ module _ (bytes : List ℕ) {M : Model} (cost : CostFileOf limits bytes M) where
   -- and as its second
   pub join-second-left : (first before : List ℕ) {N : Model} {end : ℕ} → readWhole limits first ≡ model N end → joinOutcome limits (readWhole limits) first bytes before ≡ unwritten (recordLeft 3) (before ∷ [])
   join-second-left first before e = sym (second-refused _ _ first bytes (before ∷ []) _ _ e read-left)
+
+-- a cost certificate, 43 43, given to a call that judges by document 01's rules, whatever follows acceptance
+pub cost-mark-refused : (s C : List ℕ) (M : Model) → Bytes s → FileOf limits s M → 2 ≤ length C → twoAt C 0 ≡ 0x4343 → (follows : Follows) (before : List (List ℕ)) → follows .blockRoom M ≤ length (firstLent before) → outcomeBy plainPairs follows s C before ≡ unwritten (refusalIn (fault 12) 2 0 (length C)) before
+cost-mark-refused s C M b f two e = another-mark plainRules s C M b f two (λ z. omega (arith, e, z))
+
+-- a certificate without costs, 43 54, given to the call that judges cost pairs
+pub plain-mark-refused : (s C : List ℕ) (M : Model) → Bytes s → CostFileOf limits s M → 2 ≤ length C → twoAt C 0 ≡ 0x4354 → (follows : Follows) (before : List (List ℕ)) → follows .blockRoom M ≤ length (firstLent before) → outcomeBy costPairs follows s C before ≡ unwritten (refusalIn (fault 12) 2 0 (length C)) before
+plain-mark-refused s C M b f two e = another-mark costRules s C M b f two (λ z. omega (arith, e, z))

@@ -8,6 +8,8 @@ use lib.Seq.{take-append-seam}
 use native.Mathlib.Omega.{arith}
 use Rattle.rules.specs.definitions.Limits.{Limits}
 use Rattle.rules.specs.definitions.Model.{Model, automatonOf}
+use Rattle.rules.specs.definitions.Bytes.{twoAt}
+use Rattle.rules.specs.definitions.Faults.{fault}
 use Rattle.rules.specs.definitions.JudgedBy.{plainPairs}
 use Rattle.rules.specs.definitions.SoundModel.{Bytes, FitsWidths}
 use Rattle.rules.specs.argument.AnyRule.{PairRules, RefusalOf, pairsOf}
@@ -20,7 +22,7 @@ use Rattle.rules.specs.argument.AnswerLaws.{files-number, files-told, fi
 use Rattle.rules.specs.argument.JudgedFirst.{Found, found-outcome}
 use Rattle.rules.specs.argument.AcceptedExactly.{AcceptedAs, accepted-exactly}
 use Rattle.rules.specs.argument.Demand3Holds.{holds, one-model, holds-read, demand3, largest-of}
-use Rattle.rules.specs.argument.PairOutcome.{FollowsLaws, Followed, outcome-cases, outcome-number, outcome-unwritten, outcome-found, outcome-followed}
+use Rattle.rules.specs.argument.PairOutcome.{FollowsLaws, Followed, outcome-cases, outcome-number, outcome-unwritten, outcome-found, outcome-followed, outcome-other-mark}
 use Rattle.rules.specs.argument.PlainRules.{PlainNumber, ModelNumber, plainRulesAt, plainRules}
 
 module _ (by : PairRules) (model certificate blocks : List ℕ) (b : Bytes model) where
@@ -125,6 +127,11 @@ file-follow short file above =
 pub follow-at : (L : Limits) (widths : FitsWidths L) (few : L .refutations < 65536) {follows : Follows} → FollowsLaws plainRules follows → FollowsLaws (plainRulesAt L widths few) follows
 unfolding RefusalOf
 follow-at L widths few laws = record { numbered = laws .numbered; told = laws .told; unwritten = laws .unwritten; late = laws .late; notTen = laws .notTen }
+
+-- the answer to a certificate with another mark than the rule's, for every sound model
+pub another-mark : (by : PairRules) (s C : List ℕ) (M : Model) → Bytes s → by .models .isFile s M → 2 ≤ length C → (twoAt C 0 ≡ by .rule s .file .mark → ⊥) → (follows : Follows) (before : List (List ℕ)) → follows .blockRoom M ≤ length (firstLent before) → outcomeBy (pairsOf by) follows s C before ≡ unwritten (refusalIn (fault 12) 2 0 (length C)) before
+another-mark by s C M b f two other follows before room =
+    sym (outcome-other-mark (by .limits) (by .models .read) (by .rule s .file) follows s C before (by .models .exactly s M b .1 f) room two other)
 
 -- the number for a short buffer only where it is shorter than the longest file of an accepted pair
 pub file-late : (by : PairRules) (short : ℕ) (file : Model → List ℕ → List ℕ) → FollowsLaws by (writesFile short file) → (short ≡ 0 → ⊥) → (M C buffer : List ℕ) (most : ℕ) → ((a : Found by M C) → length (file (a .N) (a .blocks)) ≤ most) → outcomeBy (pairsOf by) (writesFile short file) M C (buffer ∷ []) .answer .number ≡ short → length buffer < most

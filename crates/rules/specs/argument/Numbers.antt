@@ -1,12 +1,10 @@
 -- Judging answers a number that it has, whatever bytes arrive.
-use Prim.Native.Nat.{ℕ, zero, suc, _+_, _≤_}
+use Prim.Native.Nat.{ℕ, zero, suc, _+_}
 use mathlib.Core.Path.{_≡_, refl}
 use mathlib.Core.Logic.{_⊎_, inl, inr, ⊎-elim}
-use mathlib.Core.Bool.{Bool, true, false, cond}
+use mathlib.Core.Bool.{Bool}
 use mathlib.Core.List.{List, [], _∷_}
-use lib.Dec.{eqb}
 use lib.ListN.{length}
-use borrow.Author.Tests.{eqb-false}
 use native.Mathlib.Omega.{arith}
 use Rattle.bisimulation.specs.definitions.Choice.{ifLess, ifSame, ifTrue}
 use Rattle.bisimulation.specs.argument.ChoiceLaws.{eitherLess, eitherSame, eitherTrue}
@@ -17,6 +15,7 @@ use Rattle.rules.specs.definitions.Bytes.{byteAt, twoAt, threeAt}
 use Rattle.rules.specs.definitions.Model.{automatonOf}
 use Rattle.rules.specs.definitions.Reading.{Reading, model, noModel}
 use Rattle.rules.specs.definitions.Faults.{Fault, fault, noFault, firstOf, certificateRecord, openFault}
+use Rattle.rules.specs.argument.JudgingLaws.{record-cases}
 use Rattle.rules.specs.argument.FaultLaws.{Told, told-fault, either-first, either-open}
 use Rattle.rules.specs.definitions.Certificate.{FileRule, certificateHeadFault, pairFault, refutationFault, numberedFault, pairsFault, blocksFault, kFault, wFault, flowFault}
 use Rattle.rules.specs.definitions.Judging.{Judgement, accepted, refusedIn, refuseRecordAt, Question, judgeFlows, judgeBlocks, judgeRefutations, judgeCertificate, judgeReading, judge}
@@ -154,12 +153,7 @@ module _ (by : PairRules) where
   refused-with f n l = record { some = n; number = ⊎-elim (λ z. absurd (n z)) (λ z. inr z) (l .number); told = l .told }
 
   numbered : (f : Fault) (place : ℕ) (next : Judgement) → Listed (by .numbers) f → JudgementNumber by next → JudgementNumber by (refuseRecordAt f place next)
-  unfolding refuseRecordAt ifSame
-  numbered f place next l h = go (eqb (f .number) 0) refl
-    where
-      go : (t : Bool) → eqb (f .number) 0 ≡ t → JudgementNumber by (cond t next (refusedIn f 2 place))
-      go true q = h
-      go false q = refused-with f (eqb-false (f .number) 0 q) l
+  numbered f place next l h = record-cases (JudgementNumber by) f place next (λ n. refused-with f n l) (λ p. h)
 
   module _ (M : List ℕ) (A : Automaton) (C : List ℕ) where
     flows-numbered : (R : Pairs) (blocks : List ℕ) (xs : List Question) (at : ℕ) → JudgementNumber by (judgeFlows (by .limits) (by .rule M .file) A C R blocks xs at)

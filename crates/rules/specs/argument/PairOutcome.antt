@@ -10,8 +10,10 @@ use native.Mathlib.Decide.{decLt}
 use Rattle.bisimulation.specs.argument.ChoiceLaws.{less, notLess}
 use Rattle.rules.specs.definitions.Limits.{Limits}
 use Rattle.rules.specs.definitions.Model.{Model, automatonOf}
-use Rattle.rules.specs.definitions.Faults.{Fault}
+use Rattle.rules.specs.definitions.Faults.{Fault, fault}
+use Rattle.rules.specs.definitions.Bytes.{twoAt}
 use Rattle.rules.specs.argument.FaultLaws.{Told, told-fault}
+use Rattle.rules.specs.argument.JudgingLaws.{other-mark}
 use Rattle.rules.specs.definitions.Reading.{Reading, model, noModel}
 use Rattle.rules.specs.definitions.Certificate.{FileRule}
 use Rattle.rules.specs.definitions.Judging.{Judgement, accepted, refusedIn, Reader, judgeCertificate, judgeReading, judge}
@@ -45,6 +47,10 @@ module _ (L : Limits) (read : Reader) (file : FileRule) (follows : Follows) (M C
     pub outcome-unaccepted : (f : Fault) (place : ℕ) → follows .blockRoom N ≤ length (firstLent before) → refusedIn f 2 place ≡ judgeCertificate L file (automatonOf N) C → unwritten (refusalIn f 2 place (length C)) before ≡ pairOutcome L read file follows M C before
     unfolding judgedOutcome judgementAnswer fileOf
     outcome-unaccepted f place h j = ap (judgedOutcome follows M C before N) j ∙ outcome-judged h
+
+    -- its mark is not the rule's
+    pub outcome-other-mark : follows .blockRoom N ≤ length (firstLent before) → 2 ≤ length C → (twoAt C 0 ≡ file .mark → ⊥) → unwritten (refusalIn (fault 12) 2 0 (length C)) before ≡ pairOutcome L read file follows M C before
+    outcome-other-mark h two other = outcome-unaccepted (fault 12) 0 h (other-mark L file (automatonOf N) C two other)
 
     -- it is accepted
     pub outcome-accepted : (blocks : List ℕ) → follows .blockRoom N ≤ length (firstLent before) → accepted blocks ≡ judgeCertificate L file (automatonOf N) C → follows .outcome N blocks before ≡ pairOutcome L read file follows M C before

@@ -5,4 +5,5 @@ pub mod CostReadingLaws
 pub mod CostRules
 pub mod CostAnswerLaws
 pub mod OtherCalls
+pub mod CostBreaks
 pub mod FreePrices

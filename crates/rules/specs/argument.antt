@@ -1,6 +1,7 @@
 -- Laws and theorems: the argument, which the prover has read.
 pub mod FaultLaws
 pub mod JudgingLaws
+pub mod RecordFaults
 pub mod AnyRule
 pub mod Standing
 pub mod ReadingLaws
@@ -32,6 +33,7 @@ pub mod EntryPrices
 pub mod FetchedRun
 pub mod FetchHolds
 pub mod PairOutcome
+pub mod BreakJudged
 pub mod JudgedFirst
 pub mod DemandsHold
 pub mod PlainHolds

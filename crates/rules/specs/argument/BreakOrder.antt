@@ -3,13 +3,16 @@
 use Prim.Native.Nat.{ℕ, _<_}
 use mathlib.Core.Path.{_≡_, refl, subst}
 use mathlib.Core.Logic.{_⊎_, inl, inr}
+use mathlib.Core.Bool.{Bool, true, false, cond}
 use mathlib.Core.List.{List, [], _∷_}
+use lib.Dec.{eqb}
 use native.Mathlib.Omega.{arith}
 use native.Mathlib.Decide.{ℕ-discrete}
+use Rattle.bisimulation.specs.definitions.Choice.{ifSame}
 use Rattle.bisimulation.specs.definitions.Automaton.{Automaton}
 use Rattle.bisimulation.specs.definitions.StepRule.{Sides, Holds, Flow, internalMove, beforeMove, afterMove, atTarget}
 use Rattle.rules.specs.definitions.Faults.{Fault, Passes, firstOf}
-use Rattle.rules.specs.definitions.PlainRule.{firstBreak, internalEquationsFault, externalEquationsFault}
+use Rattle.rules.specs.definitions.PlainRule.{byKind, firstBreak, internalEquationsFault, externalEquationsFault, plainEquationsFault}
 use Rattle.rules.specs.argument.FaultLaws.{first-stops, first-none}
 use Rattle.rules.specs.argument.BreakLaws.{FirstBreak, break-first, break-passed}
 
@@ -18,8 +21,12 @@ pub record Kind : Type 0 where
   pub number : ℕ
   pub sides : ℕ → Sides
 
-abbrev kind : ℕ → (ℕ → Sides) → Kind
+abbrev pub kind : ℕ → (ℕ → Sides) → Kind
 kind number sides = record { number = number; sides = sides }
+
+-- the equations of a rule by their kinds, for a challenger, a defender and a flow
+abbrev pub Kinds : Type 0
+Kinds = Automaton → (q t : ℕ) → Flow → List Kind
 
 -- a fault is the first break of the first kind that has one, for kinds in their order; it is none where all of them hold
 unfoldable pub InOrder : (states : ℕ) → List Kind → Fault → Type 0
@@ -70,3 +77,18 @@ module _ (A : Automaton) where
       kind-before 20 (beforeMove A f t) (λ e. omega arith) _ _
       (kind-before 20 (afterMove A f) (λ e. omega arith) _ _
       (last-kind 21 (atTarget A f q) (λ e. omega arith)))
+
+  -- document 01's equations by their kinds; K2: 'the equations before the move first'
+  unfoldable pub equationKinds : (q t : ℕ) → Flow → List Kind
+  equationKinds q t f =
+      byKind A q
+      (kind 20 (internalMove A f t) ∷ kind 21 (atTarget A f q) ∷ [])
+      (kind 20 (beforeMove A f t) ∷ kind 20 (afterMove A f) ∷ kind 21 (atTarget A f q) ∷ [])
+
+  pub plain-order : (q t : ℕ) (f : Flow) → InOrder (A .states) (equationKinds q t f) (plainEquationsFault A q t f)
+  unfolding equationKinds plainEquationsFault byKind ifSame
+  plain-order q t f = go (eqb (A .action q) 0)
+    where
+      go : (b : Bool) → InOrder (A .states) (cond b (kind 20 (internalMove A f t) ∷ kind 21 (atTarget A f q) ∷ []) (kind 20 (beforeMove A f t) ∷ kind 20 (afterMove A f) ∷ kind 21 (atTarget A f q) ∷ [])) (cond b (internalEquationsFault A q t f) (externalEquationsFault A q t f))
+      go true = internal-order q t f
+      go false = external-order q t f

@@ -146,7 +146,7 @@ pub blocks-short : (by : PairRules) → (RefusalOf by 10 → ⊥) → (M C : Lis
 unfolding unwritten refusalIn answerWithoutPlace filled
 blocks-short by none M C before b =
     outcome-cases by writesBlocks blocks-follow M C before (λ o. o .answer .number ≡ 10 → length (firstLent before) < by .limits .states)
-    (λ f file place h z. absurd (none (subst (RefusalOf by) z (h .number))))
+    (λ f file place h j z. absurd (none (subst (RefusalOf by) z (h .number))))
     (λ N end e h z. omega (arith, h, by .models .sound M N (by .models .exactly M N b .0 (holds-read by M b e .reads)) .states))
     (λ N end blocks e room q z. absurd (omega (arith, z)))
 

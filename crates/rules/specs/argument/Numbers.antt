@@ -1,23 +1,21 @@
 -- Judging answers a number that it has, whatever bytes arrive.
-use Prim.Native.Nat.{ℕ, zero, suc, _+_}
+use Prim.Native.Nat.{ℕ, zero, suc}
 use mathlib.Core.Path.{_≡_, refl}
 use mathlib.Core.Logic.{_⊎_, inl, inr, ⊎-elim}
-use mathlib.Core.Bool.{Bool}
 use mathlib.Core.List.{List, [], _∷_}
 use lib.ListN.{length}
 use native.Mathlib.Omega.{arith}
-use Rattle.bisimulation.specs.definitions.Choice.{ifLess, ifSame, ifTrue}
-use Rattle.bisimulation.specs.argument.ChoiceLaws.{eitherLess, eitherSame, eitherTrue}
+use Rattle.bisimulation.specs.argument.ChoiceLaws.{eitherLess}
 use Rattle.bisimulation.specs.definitions.Automaton.{Automaton}
 use Rattle.bisimulation.specs.definitions.Pairs.{Pairs}
 use Rattle.rules.specs.definitions.Limits.{Limits}
-use Rattle.rules.specs.definitions.Bytes.{byteAt, twoAt, threeAt}
 use Rattle.rules.specs.definitions.Model.{automatonOf}
 use Rattle.rules.specs.definitions.Reading.{Reading, model, noModel}
-use Rattle.rules.specs.definitions.Faults.{Fault, fault, noFault, firstOf, certificateRecord, openFault}
+use Rattle.rules.specs.definitions.Faults.{Fault, fault, noFault}
 use Rattle.rules.specs.argument.JudgingLaws.{record-cases}
-use Rattle.rules.specs.argument.FaultLaws.{Told, told-fault, either-first, either-open}
-use Rattle.rules.specs.definitions.Certificate.{FileRule, certificateHeadFault, pairFault, refutationFault, numberedFault, pairsFault, blocksFault, kFault, wFault, flowFault}
+use Rattle.rules.specs.argument.RecordFaults.{head-either, refutation-either, blocks-either, flow-either}
+use Rattle.rules.specs.argument.FaultLaws.{Told, told-fault}
+use Rattle.rules.specs.definitions.Certificate.{FileRule, certificateHeadFault, refutationFault, blocksFault, flowFault}
 use Rattle.rules.specs.definitions.Judging.{Judgement, accepted, refusedIn, refuseRecordAt, Question, judgeFlows, judgeBlocks, judgeRefutations, judgeCertificate, judgeReading, judge}
 use Rattle.rules.specs.argument.AnyRule.{NoneOr, AnswersOnly, PairRules, AnyCertificateNumber, RefusalOf}
 
@@ -36,18 +34,6 @@ module _ (numbers : ℕ → Type 0) where
 
   own-listed : (f : Fault) → NoneOr numbers f → Listed f
   own-listed f h = record { number = ⊎-elim (λ z. inl z) (λ z. inr (inr z)) (h .number); told = h .told }
-
-  orLess : (a b : ℕ) {x y : Fault} → Listed x → Listed y → Listed (ifLess a b x y)
-  orLess a b p q = eitherLess Listed a b p q
-
-  orSame : (a b : ℕ) {x y : Fault} → Listed x → Listed y → Listed (ifSame a b x y)
-  orSame a b p q = eitherSame Listed a b p q
-
-  orTrue : (b : Bool) {x y : Fault} → Listed x → Listed y → Listed (ifTrue b x y)
-  orTrue b p q = eitherTrue Listed b p q
-
-  orFirst : (f next : Fault) → Listed f → Listed next → Listed (firstOf f next)
-  orFirst f next p q = either-first Listed f next p q
 
   short : Listed (fault 11)
   unfolding AnyCertificateNumber
@@ -81,60 +67,18 @@ module _ (numbers : ℕ → Type 0) where
   unfolding AnyCertificateNumber
   left = listed 22 (inr (inr refl))
 
-  opening : (m size : ℕ) (s : List ℕ) (at : ℕ) → Listed (openFault certificateRecord m size s at)
-  opening m size s at = either-open certificateRecord m size s at Listed short mark none-listed
-
   module _ (L : Limits) (file : FileRule) (rule : AnswersOnly numbers file) (A : Automaton) (C : List ℕ) where
     head-listed : Listed (certificateHeadFault L file C)
-    unfolding certificateHeadFault
-    head-listed = orFirst _ _ (opening (file .mark) 4 C 0) (orLess _ _ many none-listed)
+    head-listed = head-either Listed none-listed C short mark L file many
 
     refutation-listed : (R : Pairs) (at : ℕ) → Listed (refutationFault file A C R at)
-    unfolding refutationFault pairFault
-    refutation-listed R at =
-        orFirst _ _ (opening 0x5058 5 C at)
-        (orFirst _ _
-        (orLess _ _ (orLess _ _ (orSame _ _ pair (orTrue _ none-listed pair)) pair) pair)
-        (orLess _ _ short (own-listed _ (rule .prices A R _ _ _))))
-
-    numbered-listed : (left at seen : ℕ) → Listed (numberedFault C left at seen)
-    unfolding numberedFault
-    numbered-listed zero at seen = none-listed
-    numbered-listed (suc left) at seen =
-        orLess _ _ order (numbered-listed left (at + 1) (ifSame (byteAt C at) seen (seen + 1) seen))
+    refutation-listed R at = refutation-either Listed none-listed C short mark file A R at pair (own-listed _ (rule .prices A R _ _ _))
 
     blocks-listed : (R : Pairs) (at : ℕ) → Listed (blocksFault A C R at)
-    unfolding blocksFault pairsFault
-    blocks-listed R at =
-        orFirst _ _ (opening 0x424B (2 + A .states) C at)
-        (orFirst _ _ (numbered-listed (A .states) (at + 2) 0) (orTrue _ none-listed differs))
-
-    k-listed : (q t left at lowest : ℕ) → Listed (kFault file A C q t left at lowest)
-    unfolding kFault
-    k-listed q t zero at lowest = none-listed
-    k-listed q t (suc left) at lowest =
-        orLess _ _ entry
-        (orLess _ _ (orTrue _ (orLess _ _ (k-listed q t left (at + 7) (threeAt C at + 1)) entry) entry) entry)
-
-    w-listed : (R : Pairs) (left at lowest : ℕ) → Listed (wFault A C R left at lowest)
-    unfolding wFault
-    w-listed R zero at lowest = none-listed
-    w-listed R (suc left) at lowest =
-        orLess _ _ entry
-        (orLess _ _
-        (orLess _ _ (orTrue _ (orLess _ _ (w-listed R left (at + 6) (twoAt C at + 1)) entry) entry) entry)
-        entry)
+    blocks-listed R at = blocks-either Listed none-listed C short mark A R at order differs
 
     flow-listed : (R : Pairs) (q t at : ℕ) → Listed (flowFault file A C R q t at)
-    unfolding flowFault
-    flow-listed R q t at =
-        orFirst _ _ (opening 0x464C 8 C at)
-        (orSame _ _ entry
-        (orLess _ _ short
-        (orFirst _ _ (k-listed q t _ (at + 8) 0)
-        (orLess _ _ short
-        (orLess _ _ short
-        (orFirst _ _ (w-listed R _ _ 0) (own-listed _ (rule .equations A q t _))))))))
+    flow-listed R q t at = flow-either Listed none-listed C short mark file A R q t at entry (own-listed _ (rule .equations A q t _))
 
 -- a refusal of judging: its number is not 0, and one that judging has; and what it tells
 pub record RefusedWith (by : PairRules) (f : Fault) : Type 0 where

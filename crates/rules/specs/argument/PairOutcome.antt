@@ -77,18 +77,21 @@ module _ (by : PairRules) (follows : Follows) (laws : FollowsLaws by follows) (M
   abbrev numberOf : Outcome → ℕ
   numberOf o = o .answer .number
 
-  -- the cases of an outcome: reading refuses, 10, judging refuses, or acceptance with what follows
+  -- the cases of an outcome: judging refuses, the model or the certificate, 10, or acceptance with what follows
   pub outcome-cases {κ} : (P : Outcome → Type κ)
-      → ((f : Fault) (file place : ℕ) → RefusedWith by f → P (unwritten (refusalIn f file place (length (fileOf (M ∷ C ∷ []) file))) before))
+      → ((f : Fault) (file place : ℕ) → RefusedWith by f → judge (by .limits) (by .models .read) (by .rule M .file) M C ≡ refusedIn f file place → P (unwritten (refusalIn f file place (length (fileOf (M ∷ C ∷ []) file))) before))
       → ((N : Model) (end : ℕ) → by .models .read M ≡ model N end → length (firstLent before) < follows .blockRoom N → P (unwritten (answerWithoutPlace 10) before))
       → ((N : Model) (end : ℕ) (blocks : List ℕ) → by .models .read M ≡ model N end → follows .blockRoom N ≤ length (firstLent before) → accepted blocks ≡ judgeCertificate (by .limits) (by .rule M .file) (automatonOf N) C → P (follows .outcome N blocks before))
       → P (outcomeBy (pairsOf by) follows M C before)
-  unfolding fileOf
+  unfolding fileOf judge judgeReading
   outcome-cases P refuses short follow = by-model (by .models .read M) refl
     where
+      judged : {r : Reading} → by .models .read M ≡ r → judge (by .limits) (by .models .read) (by .rule M .file) M C ≡ judgeReading (by .limits) (by .rule M .file) r C
+      judged e = ap (λ (x : Reading). judgeReading (by .limits) (by .rule M .file) x C) e
+
       by-judgement : (N : Model) (end : ℕ) → by .models .read M ≡ model N end → follows .blockRoom N ≤ length (firstLent before) → (j : Judgement) → j ≡ judgeCertificate (by .limits) (by .rule M .file) (automatonOf N) C → JudgementNumber by j → P (judgedOutcome follows M C before N j)
       by-judgement N end e room (accepted blocks) q h = unfold judgedOutcome in follow N end blocks e room q
-      by-judgement N end e room (refusedIn f file place) q h = unfold judgedOutcome judgementAnswer in refuses f file place h
+      by-judgement N end e room (refusedIn f file place) q h = unfold judgedOutcome judgementAnswer in refuses f file place h (judged e ∙ sym q)
 
       by-room : (N : Model) (end : ℕ) → by .models .read M ≡ model N end → Dec (length (firstLent before) < follows .blockRoom N) → P (outcomeBy (pairsOf by) follows M C before)
       by-room N end e (yes l) = subst P (outcome-short (by .limits) (by .models .read) (by .rule M .file) follows M C before e l) (short N end e l)
@@ -99,14 +102,14 @@ module _ (by : PairRules) (follows : Follows) (laws : FollowsLaws by follows) (M
       by-model : (r : Reading) → by .models .read M ≡ r → P (outcomeBy (pairsOf by) follows M C before)
       by-model (model N end) e = by-room N end e (decLt (length (firstLent before)) (follows .blockRoom N))
       by-model (noModel f place) e =
-          subst P (outcome-refused (by .limits) (by .models .read) (by .rule M .file) follows M C before f place e) (refuses f 1 place (unread-number by M f place e))
+          subst P (outcome-refused (by .limits) (by .models .read) (by .rule M .file) follows M C before f place e) (refuses f 1 place (unread-number by M f place e) (judged e))
 
   -- its number: 0, the late one, a refusal of judging, or 10 where a block buffer is lent
   pub outcome-number : (P : ℕ → Type 0) → P 0 → P (follows .late) → ((k : ℕ) → RefusalOf by k → P k) → ((N : Model) → length (firstLent before) < follows .blockRoom N → P 10) → P (numberOf (outcomeBy (pairsOf by) follows M C before))
   unfolding unwritten refusalIn answerWithoutPlace Accepting
   outcome-number P zero late refusal ten =
       outcome-cases (λ o. P (numberOf o))
-      (λ f file place h. refusal (f .number) (h .number))
+      (λ f file place h j. refusal (f .number) (h .number))
       (λ N end e h. ten N h)
       (λ N end blocks e room q. ⊎-elim (λ z. subst P (sym z) zero) (λ z. subst P (sym z) late) (laws .numbered N blocks before))
 
@@ -115,7 +118,7 @@ module _ (by : PairRules) (follows : Follows) (laws : FollowsLaws by follows) (M
   unfolding unwritten refusalIn answerWithoutPlace
   outcome-told =
       outcome-cases (λ o. Told (faultIn (o .answer)))
-      (λ f file place h. h .told)
+      (λ f file place h j. h .told)
       (λ N end e h. told-fault 10 (omega arith))
       (λ N end blocks e room q. laws .told N blocks before)
 
@@ -123,7 +126,7 @@ module _ (by : PairRules) (follows : Follows) (laws : FollowsLaws by follows) (M
   pub outcome-unwritten : (numberOf (outcomeBy (pairsOf by) follows M C before) ≡ 0 → ⊥) → leftIn (outcomeBy (pairsOf by) follows M C before) ≡ before
   outcome-unwritten =
       outcome-cases (λ o. (numberOf o ≡ 0 → ⊥) → leftIn o ≡ before)
-      (λ f file place h n. left-unwritten _ before)
+      (λ f file place h j n. left-unwritten _ before)
       (λ N end e h n. left-unwritten _ before)
       (λ N end blocks e room q n. laws .unwritten N blocks before n)
 
@@ -137,7 +140,7 @@ module _ (by : PairRules) (follows : Follows) (laws : FollowsLaws by follows) (M
   unfolding unwritten refusalIn answerWithoutPlace Accepting judge judgeReading
   outcome-found =
       outcome-cases (λ o. (numberOf o ≡ 0) ⊎ (numberOf o ≡ follows .late) → Followed)
-      (λ f file place h z. absurd (⊎-elim (λ x. h .some x) (λ x. laws .late (f .number) (h .number) (h .some) x) z))
+      (λ f file place h j z. absurd (⊎-elim (λ x. h .some x) (λ x. laws .late (f .number) (h .number) (h .some) x) z))
       (λ N end e h z. absurd (⊎-elim (λ x. omega (arith, x)) (λ x. laws .notTen (sym x)) z))
       (λ N end blocks e room q z.
       record {

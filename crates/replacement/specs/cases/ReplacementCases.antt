@@ -1,5 +1,5 @@
--- Five wrong merged models of the small pair S with label 1 for state 2, blocks 0 0 1: none may be used for it.
-use Prim.Native.Nat.{ℕ, _+_, _-_, _*_, _<_}
+-- Six wrong merged models of the small pair S with label 1 for state 2, blocks 0 0 1: none may be used for it.
+use Prim.Native.Nat.{ℕ, zero, suc, _+_, _-_, _*_, _<_}
 use mathlib.Core.Path.{_≡_, refl}
 use mathlib.Core.Logic.{_⊎_, inl, inr}
 use mathlib.Core.List.{List, [], _∷_, _++_, map}
@@ -115,3 +115,17 @@ of-no-member r = broken (r .linked .meets .met _ 2 (record { first = omega arith
   where
     broken : Moves ofNoMember 4 2 → ⊥
     broken m = omega (arith, m .atLeastOne, m .before 2 (omega arith) .equal)
+
+-- a state that stands for no block
+abbrev spareState : Model
+spareState = model (0 ∷ 1 ∷ 1 ∷ []) (step 0 1 1 1 1 ∷ step 0 0 0 1 1 ∷ [])
+
+pub spare-state : Used spareState → ⊥
+unfolding model
+spare-state r = apart (r .stands 2 (omega arith))
+  where
+    apart : (s : ℕ) × (s < 3) × (getD itsBlocks s 0 ≡ 2) → ⊥
+    apart (zero, l, e) = omega (arith, e)
+    apart (suc zero, l, e) = omega (arith, e)
+    apart (suc (suc zero), l, e) = omega (arith, e)
+    apart (suc (suc (suc s)), l, e) = omega (arith, l)

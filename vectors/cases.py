@@ -3,9 +3,9 @@
 
 C1 to C10 of document 01; the cases that it lists under 'Also run', at the limits of K7 and at the older ones, files of the most bytes that the
 program reads, a pair with states that reach a move only by internal steps, refutations and blocks on either side of state 64, transitions
-that are the same in other terms, models joined at the limits, sheets of blocks of 1, 16, 17, 33 and 128 states and of 112 blocks, two
-cost pairs and what other calls say to the first, and every truncation of model S, with their answers by hand; and the lines of base.txt, k1.txt, k3.txt,
-k4.txt, k6.txt and k7.txt with the answers that stand there, but for refusals 10, 23, 26 and 28: the program lends buffers that are always
+that are the same in other terms, models joined at the limits, sheets of blocks of 1, 16, 17, 33 and 128 states and of 112 blocks, three
+cost pairs, one with a model above 8,192 bytes, and what other calls say to the first, and every truncation of model S, with their answers by
+hand; and the lines of base.txt, k1.txt, k3.txt, k4.txt, k6.txt and k7.txt with the answers that stand there, but for refusals 10, 23, 26 and 28: the program lends buffers that are always
 long enough. Merged models of base.txt, which is older than K3, lose what K3 drops, and lines about the limits that K7 raised are left out.
 
 With the name of a folder the two files are written there, and not into crates/cases.
@@ -318,6 +318,9 @@ def costs():
     pays = b'CC' + certificate([], [0, 0, 1, 2], flows)[2:]
     yield judge_costs(later + b'CO\x09\0\0\x09', pays, (0, 0, 0), (0, 0, 1, 2))
     yield judge_costs(later + b'CO\x09\0\0\x08', pays, (30, 2, 10))
+    long = model(64, 1, range(64), [(r // 4, 0, 8, [(8 * (r % 8) + i, 1) for i in range(8)]) for r in range(256)]) + b'CO' + bytes(r % 64 for r in range(256))
+    assert len(long) == 8266
+    yield judge_costs(long, b'CC' + certificate([], range(64), [])[2:], (0, 0, 0), range(64))
     yield judge(m, c, (9, 1, 41))
     yield reduce(m, c, (9, 1, 41), b'')
     yield sheet(m, c, (9, 1, 41))

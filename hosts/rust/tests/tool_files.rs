@@ -333,3 +333,20 @@ fn the_largest_pairs_go_through() {
         assert_eq!(folder.read("merged"), merged, "{name}");
     }
 }
+
+#[test]
+fn a_cost_model_longer_than_any_without_costs_goes_through() {
+    let folder = Folder::new("long_costs");
+    let mut model = b"PA\x40\x01\x01\0LB".to_vec();
+    model.extend(0..64);
+    for r in 0..=255_u8 {
+        model.extend([b'T', b'R', r / 4, 0, 0, 8, 8]);
+        model.extend((0..8).flat_map(|i| [8 * (r % 8) + i, 0, 1]));
+    }
+    model.extend(b"CO");
+    model.extend((0..=255_u8).map(|r| r % 64));
+    assert_eq!(model.len(), 8266);
+    folder.write("pa", &model);
+    folder.write("ct", &[&b"CC\0\0BK"[..], &(0..64).collect::<Vec<u8>>()].concat());
+    folder.run("judge-costs pa ct").first_line_is(0, "accepted: 64 states in 64 blocks");
+}

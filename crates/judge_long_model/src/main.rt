@@ -1,0 +1,4 @@
+// Judges pa.bin and ct.bin.
+fn main() {
+    judging_program::judge_files();
+}

@@ -15,11 +15,11 @@ use Rattle.rules.specs.definitions.SoundModel.{Each, Bytes, FitsWidths}
 use Rattle.rules.specs.argument.SoundModelLaws.{each-at}
 use Rattle.rules.specs.definitions.Faults.{Fault, fault, noFault, modelRecord, openFault}
 use Rattle.rules.specs.argument.FaultLaws.{Told, told-fault, model-refuses, opened, opens, either-open, pass-ifLess}
-use Rattle.rules.specs.definitions.Reading.{countOf, headFault, Scan, sound, refused, scanModel, refuseBytesLeft, scanWhole, transitionsAt, modelAt, Reading, model, noModel, readingOf, readModel, readWhole, afterTransition, placeOf}
+use Rattle.rules.specs.definitions.Reading.{countOf, headFault, Scan, sound, refused, scanModel, refuseBytesLeft, scanWhole, transitionsAt, modelAt, model, noModel, readingOf, readModel, readWhole, afterTransition, placeOf}
 use Rattle.rules.specs.argument.ReadingLaws.{refuse-stops, refuse-passes, refuse-cases, Sound, Tells, scan-tells}
 use Rattle.rules.specs.argument.ReadBack.{ModelBack, model-back}
 use Rattle.rules.specs.argument.ReadSound.{refuse-past, none-left, read-scan, SoundRead, read-sound}
-use Rattle.rules.specs.argument.LengthLaws.{sound-within, longest-file}
+use Rattle.rules.specs.argument.LengthLaws.{sound-within, longest-file, longer-refused}
 use Rattle.rules.specs.argument.AnyRule.{NoneOr, ModelFiles}
 use Rattle.rules.specs.argument.PlainRules.{ModelNumber}
 use Rattle.cost_files.specs.definitions.CostModel.{highestCost, costOf, costsBytes, costModelBytes, CostFileOf, transitionsEnd, costsIn, withoutCosts}
@@ -292,10 +292,9 @@ costFiles L fits =
 
 -- the longest cost model has a cost record of 2 bytes and one for each transition more; a longer file is not read
 pub longer-cost-unread : (L : Limits) (s : List ℕ) → Bytes s → longestModel L + 2 + L .transitions < length s → (f : Fault) × (place : ℕ) × (readCosts L s ≡ noModel f place)
-longer-cost-unread L s b long = go (readCosts L s) refl
-  where
-    go : (r : Reading) → readCosts L s ≡ r → (f : Fault) × (place : ℕ) × (readCosts L s ≡ noModel f place)
-    go (model M end) e =
-        let f = cost-read-sound L s b M end e .0 in
-        absurd (unfold costModelBytes costsBytes in omega (arith, long, longest-file L M (sound-within L M (f .sound)), f .right .count, f .sound .count, ap length (f .encoded), length-append (modelBytes M) (costsBytes (f .costs))))
-    go (noModel f place) e = (f, place, e)
+unfolding costModelBytes costsBytes
+longer-cost-unread L s b =
+    longer-refused (readCosts L) s (longestModel L + 2 + L .transitions)
+    (λ M end e.
+    let f = cost-read-sound L s b M end e .0 in
+    omega (arith, longest-file L M (sound-within L M (f .sound)), f .right .count, f .sound .count, ap length (f .encoded), length-append (modelBytes M) (costsBytes (f .costs))))

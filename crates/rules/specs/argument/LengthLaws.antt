@@ -10,6 +10,7 @@ use Rattle.rules.specs.definitions.Model.{Transition, Model, transitionB
 use Rattle.rules.specs.definitions.SoundModel.{sumOver, Bytes, SoundModel, entryCount}
 use Rattle.rules.specs.definitions.Faults.{Fault}
 use Rattle.rules.specs.definitions.Reading.{Reading, model, noModel, readWhole}
+use Rattle.rules.specs.definitions.Judging.{Reader}
 use Rattle.rules.specs.argument.ReadBack.{transitionBytes-length}
 use Rattle.rules.specs.argument.ReadSound.{read-whole-sound}
 
@@ -36,15 +37,18 @@ sound-within L M s = record { states = s .states; transitions = s .count; entrie
 pub longest-file : (L : Limits) (M : Model) → Within L M → length (modelBytes M) ≤ longestModel L
 longest-file L M w = omega (arith, file-length M, w .states, w .transitions, w .entries)
 
--- a longer file is not read: it is refused
-pub longer-unread : (L : Limits) (s : List ℕ) → Bytes s → longestModel L < length s → (f : Fault) × (place : ℕ) × (readWhole L s ≡ noModel f place)
-longer-unread L s b long = go (readWhole L s) refl
+-- a file that is longer than those that are read is refused
+pub longer-refused : (read : Reader) (s : List ℕ) (most : ℕ) → ((M : Model) (end : ℕ) → read s ≡ model M end → length s ≤ most) → most < length s → (f : Fault) × (place : ℕ) × (read s ≡ noModel f place)
+longer-refused read s most longest long = go (read s) refl
   where
-    go : (r : Reading) → readWhole L s ≡ r → (f : Fault) × (place : ℕ) × (readWhole L s ≡ noModel f place)
-    go (model M end) e =
-        let k = read-whole-sound L s M end b e in
-        absurd (omega (arith, long, longest-file L M (sound-within L M (k .0)), ap length (k .1)))
+    go : (r : Reading) → read s ≡ r → (f : Fault) × (place : ℕ) × (read s ≡ noModel f place)
+    go (model M end) e = absurd (omega (arith, long, longest M end e))
     go (noModel f place) e = (f, place, e)
+
+pub longer-unread : (L : Limits) (s : List ℕ) → Bytes s → longestModel L < length s → (f : Fault) × (place : ℕ) × (readWhole L s ≡ noModel f place)
+longer-unread L s b =
+    longer-refused (readWhole L) s (longestModel L)
+    (λ M end e. let k = read-whole-sound L s M end b e in omega (arith, longest-file L M (sound-within L M (k .0)), ap length (k .1)))
 
 -- today's: 8 + 128 + 7 · 256 + 3 · 2,048
 pub longest-today : longestModel limits ≡ 8072

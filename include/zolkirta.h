@@ -6,8 +6,8 @@
  * lent buffer.
  *
  * Stack. zolkirta_judge, zolkirta_judge_costs and zolkirta_alike use at most 12,500 bytes each, zolkirta_sheet 16,500, zolkirta_reduce
- * 23,500, zolkirta_join and zolkirta_fetch 2,500 (measured, rounded up). In a dynamically linked program the loader adds some 3 KiB
- * when it binds memcpy or memset at the first call. No heap is used.
+ * 23,500, zolkirta_read_prism 11,000, zolkirta_join and zolkirta_fetch 2,500 (measured, rounded up). In a dynamically linked program the
+ * loader adds some 3 KiB when it binds memcpy or memset at the first call. No heap is used.
  *
  * Threads. The library has no state and keeps no pointer: any number of calls may run at once.
  *
@@ -19,13 +19,14 @@
 #include <stddef.h>
 #include <stdint.h>
 
-#define ZOLKIRTA_VERSION "0.8.0"
-#define ZOLKIRTA_VERSION_NUMBER 800 /* major * 10000 + minor * 100 + patch */
+#define ZOLKIRTA_VERSION "0.9.0"
+#define ZOLKIRTA_VERSION_NUMBER 900 /* major * 10000 + minor * 100 + patch */
 
 /* The most states that a model has: a block buffer of this length is always long enough. */
 #define ZOLKIRTA_STATES 128
 /* The bytes of the longest model, 8 + 128 + 7 * 256 + 3 * 2048: an output buffer of this length is always long enough for
- * zolkirta_reduce and zolkirta_join, and a longer model file is always refused; a cost model's has up to 258 bytes more. */
+ * zolkirta_reduce, zolkirta_join and zolkirta_read_prism, and a longer model file is always refused; a cost model's has up to 258 bytes
+ * more. */
 #define ZOLKIRTA_MODEL 8072
 /* The bytes of the longest sheet, 128 lines of 73: a sheet buffer of this length is always long enough. */
 #define ZOLKIRTA_SHEET 9344
@@ -74,7 +75,12 @@ enum zolkirta_number {
     /* in a cost model, file 1, at the byte of the cost */
     ZOLKIRTA_COST = 29,                 /* a cost is above 63 */
     /* in the certificate of a cost model, file 2 */
-    ZOLKIRTA_COST_EQUATION = 30         /* a flow's cost equation breaks */
+    ZOLKIRTA_COST_EQUATION = 30,        /* a flow's cost equation breaks */
+    /* in a text of PRISM, file 1, at the first byte of a line; 31 also at the text's end */
+    ZOLKIRTA_LINE = 31,                 /* a line breaks the form or a limit, or the head's counts are not the text's */
+    ZOLKIRTA_CHOICE_SUM = 32,           /* the probabilities of a choice do not add up to 1 */
+    /* of the call, no file and no place */
+    ZOLKIRTA_MODEL_BUFFER = 33          /* the text is sound, and the buffer is shorter than its model's file */
 };
 
 /* What a call answers.
@@ -92,8 +98,9 @@ enum zolkirta_number {
  *       divides it, the quotient is by how much the w onto u are too many. */
 typedef struct zolkirta_answer {
     uint32_t number;       /* 0, or the number of the refusal */
-    uint32_t file;         /* the file at fault: 1 model, 2 certificate, 3 the second model; 0 where none is */
-    size_t place;          /* the byte of that file where the record at fault begins; for bytes left, the first; for 29, the cost */
+    uint32_t file;         /* the file at fault: 1 model or text, 2 certificate, 3 the second model; 0 where none is */
+    size_t place;          /* the byte of that file where the record or line at fault begins; for bytes left, the first; for 29, the
+                              cost; for 31 where only the head's counts are wrong, the text's length */
     size_t stretch_start;  /* the stretch from that place to the file's end, or the run that was fetched: */
     size_t stretch_length; /* where it starts in its file and how long it is; both 0 where it is empty and has no file */
     size_t written;        /* bytes written into the lent buffer; 0 on refusal, and where none is lent */
@@ -166,6 +173,25 @@ zolkirta_answer zolkirta_join(const uint8_t *first, size_t first_length, const u
  * `second_state` is below it or not below the state count (no file, no place). */
 zolkirta_alike_answer zolkirta_alike(const uint8_t *model, size_t model_length, uint32_t first_count, const uint8_t *certificate,
                                      size_t certificate_length, uint32_t first_state, uint32_t second_state);
+
+/* Reads PRISM's transition file of a decision process, and writes the model. The text is ASCII, each line ended by the byte 0A, also the
+ * last one: a head, `states choices transitions`, then a line for each transition, `source choice target probability`, or these and a
+ * name, all parted by single spaces. Numbers have no leading zeros. The head has 1 to 128 states, up to 256 choices, those of all sources
+ * together, and up to 2,048 transitions; states lie below its count. Sources never descend, the choices of a source count up from 0, and
+ * targets strictly ascend within a choice. A probability is 1, or 0, a point and one to four digits, not all 0; those of a choice add up
+ * to 1. A name is one or more of the bytes 21 to 7E (hexadecimal), of any length; the lines of a choice have one name, or none of them has;
+ * there are up to 31.
+ *
+ * Each choice becomes a transition, in the text's order and in lowest terms. Names become the actions 1, 2, .. by first sight, and a
+ * choice without one is internal; the action count is one more than the names. All labels are 0: labels and rewards of the PRISM
+ * model stand in other files.
+ *
+ * Number 0: the first `written` bytes of `out` are the model's file; its later bytes stay. Else a refusal, which writes nothing. 31 for a
+ * line that breaks this form or a limit, at its first byte, or at the text's end where choices or transitions are not as many as the head
+ * says. 32 for a choice that does not add up to 1, at its first line; it is judged at the text's end, and before each line that does not
+ * begin with the choice's source, a space, its number and a space, and it comes ahead of 31 there. Both have file 1. Then 33, where `out`
+ * is shorter than the file (no file, no place). */
+zolkirta_answer zolkirta_read_prism(const uint8_t *text, size_t text_length, uint8_t *out, size_t out_length);
 
 #ifdef __cplusplus
 }

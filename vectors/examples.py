@@ -1,11 +1,11 @@
 #!/usr/bin/env python3
 """Writes the pairs small and repeats of examples/, with their merged models by hand: the small pair S, and a pair whose merged model drops
-repeated transitions, one of them in other terms, keeps an equal one of another block, joins two targets, and changes the order. And a certificate
-for S that is refused: 2 for D in its first flow.
+repeated transitions, one of them in other terms, keeps an equal one of another block, joins two targets, and changes the order. A certificate
+for S that is refused: 2 for D in its first flow. And the text relay, with its model and a certificate for it by hand.
 """
 import os
 
-from files import FIRST, S, S_CERTIFICATE, SECOND, STAYS, certificate, flow, model
+from files import FIRST, S, S_CERTIFICATE, SECOND, STAYS, certificate, flow, model, refutation
 
 HERE = os.path.dirname(os.path.abspath(__file__))
 
@@ -48,8 +48,47 @@ MERGED_S = model(2, 2, (0, 0), [(0, 1, 1, [(1, 1)]), (0, 0, 1, [(0, 1)])])
 
 BROKEN = certificate([FIRST, SECOND], (0, 0, 1), [flow(2, [(0, 1, 1), (1, 0, 1)], [(2, 2, 1)]), STAYS])
 
+RELAY_TEXT = b"""5 6 9
+0 0 1 0.5 send
+0 0 2 0.5 send
+0 1 0 1
+1 0 1 0.05
+1 0 3 0.95
+2 0 2 0.2
+2 0 3 0.8
+3 0 4 1 deliver
+4 0 0 1
+"""
+
+RELAY = model(5, 3, (0, 0, 0, 0, 0), [
+    (0, 1, 2, [(1, 1), (2, 1)]),
+    (0, 0, 1, [(0, 1)]),
+    (1, 0, 20, [(1, 1), (3, 19)]),
+    (2, 0, 5, [(2, 1), (3, 4)]),
+    (3, 2, 1, [(4, 1)]),
+    (4, 0, 1, [(0, 1)]),
+])
+
+AWAY, ALWAYS, AT_RELAY = (0, 1, 1, 1, 0), (1, 1, 1, 1, 1), (0, 0, 0, 1, 0)
+DELIVERS, COMES = [[refutation(q, t, *prices) for q, t in asked] for asked, prices in [
+    ([(4, 0), (4, 4)], (AWAY, ALWAYS, ALWAYS)),
+    ([(2, 0), (2, 4), (3, 0), (3, 4)], (AWAY, AT_RELAY)),
+]]
+MEETS_RELAY = certificate(DELIVERS + COMES, (0, 1, 1, 1, 0), [
+    flow(2, [(0, 5, 2), (1, 0, 1)], [(1, 1, 1), (2, 2, 1)]),
+    flow(1, [], [(4, 0, 1)]),
+    flow(20, [], [(2, 1, 1), (2, 3, 19)]),
+    flow(20, [], [(3, 1, 1), (3, 3, 19)]),
+    flow(5, [], [(1, 2, 1), (1, 3, 4)]),
+    flow(5, [], [(3, 2, 1), (3, 3, 4)]),
+    flow(19, [(0, 2, 1), (1, 4, 19)], [(4, 4, 19)]),
+    flow(4, [(0, 3, 1), (1, 4, 4)], [(4, 4, 4)]),
+    flow(1, [], [(0, 0, 1)]),
+])
+
 for name, data in [
         ('small.model', S), ('small.certificate', S_CERTIFICATE), ('small.merged', MERGED_S), ('broken.certificate', BROKEN),
-        ('repeats.model', REPEATS), ('repeats.certificate', MEETS_REPEATS), ('repeats.merged', MERGED)]:
+        ('repeats.model', REPEATS), ('repeats.certificate', MEETS_REPEATS), ('repeats.merged', MERGED),
+        ('relay.tra', RELAY_TEXT), ('relay.model', RELAY), ('relay.certificate', MEETS_RELAY)]:
     with open(os.path.join(HERE, '..', 'examples', name), 'wb') as f:
         f.write(data)

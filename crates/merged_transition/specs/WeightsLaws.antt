@@ -21,7 +21,7 @@ use Rattle.transition.specs.Known.{FieldsOf, entriesOf}
 use Rattle.transition.specs.KnownLaws.{entries-known}
 use Rattle.transition.specs.Entries.{EntryTaken}
 use Rattle.writer.specs.Appends.{Appends}
-use Rattle.writer.specs.AppendsLaws.{append-none, append-more}
+use Rattle.writer.specs.AppendsLaws.{append-none, append-more, entries-append}
 use Rattle.merged_transition.specs.MergedTransition.{NoWeights}
 use Rattle.merged_transition.specs.Weights.{weightIn, entryOf, weightEntries, CanAdd, WeightsOf, CanCount, CanWriteEntry, WroteEntry, CanWriteEntries, WroteEntries}
 
@@ -287,12 +287,6 @@ module _ {s blocks : List ℕ} {all : List Entry} where
   pub adding-few : {left at : ℕ} {weights : List ℕ} {count : ℕ} → Adding s blocks all weights count left at → count ≤ limits .states
   adding-few {weights = weights} h = omega (arith, h .counted, entries-few (weightIn weights) (limits .states))
 
--- the bytes of entries after entries
-entries-bytes : (xs ys : List Entry) → entriesBytes (xs ++ ys) ≡ entriesBytes xs ++ entriesBytes ys
-unfolding entriesBytes twoBytes
-entries-bytes [] ys = refl
-entries-bytes (e ∷ xs) ys = ap (λ (l : List ℕ). e .state ∷ (twoBytes (e .weight) ++ l)) (entries-bytes xs ys)
-
 -- the entry of one block
 module _ {weights : List ℕ} {b : ℕ} {out : List ℕ} {at : ℕ} (h : CanWriteEntry weights b out at) where
   pub entry-room : (weightIn weights b ≡ 0 → ⊥) → at + 3 ≤ length out
@@ -365,7 +359,7 @@ module _ {before : List ℕ} {k count : ℕ} {out : List ℕ} {at : ℕ} where
 
       bytes : entriesBytes (weightEntries (weightIn before) b) ++ entriesBytes (entryOf (weightIn weights b) b) ≡ entriesBytes (weightEntries (weightIn before) (b + 1))
       bytes =
-          sym (entries-bytes (weightEntries (weightIn before) b) (entryOf (weightIn weights b) b))
+          sym (entries-append (weightEntries (weightIn before) b) (entryOf (weightIn weights b) b))
           ∙ ap (λ (x : ℕ). entriesBytes (weightEntries (weightIn before) b ++ entryOf x b)) (h .done .kept b (omega arith))
           ∙ ap (λ (i : ℕ). entriesBytes (weightEntries (weightIn before) i)) one
 

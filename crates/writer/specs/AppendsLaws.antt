@@ -159,6 +159,12 @@ record-bytes {source} {action} {denominator} {count} {es} t from by over many e 
     let all = many ∙ ap length e in
     λ i. fixedBytes (from i) (by i) (over i) (all i) ++ entriesBytes (e i)
 
+-- entries after entries
+pub entries-append : (xs ys : List Entry) → entriesBytes (xs ++ ys) ≡ entriesBytes xs ++ entriesBytes ys
+unfolding entriesBytes twoBytes
+entries-append [] ys = refl
+entries-append (e ∷ xs) ys = ap (λ (l : List ℕ). e .state ∷ (twoBytes (e .weight) ++ l)) (entries-append xs ys)
+
 -- records one after the other
 pub transitions-append : (xs ys : List Transition) → transitionsBytes (xs ++ ys) ≡ transitionsBytes xs ++ transitionsBytes ys
 unfolding transitionsBytes

@@ -7,6 +7,7 @@ ghost use Rattle.reduce.specs.Reduce.{ReduceAnswered};
 ghost use Rattle.sheet.specs.Sheet.{SheetAnswered};
 ghost use Rattle.join.specs.Join.{JoinAnswered};
 ghost use Rattle.alike.specs.Alike.{named, AlikeAnswered};
+ghost use Rattle.read_prism.specs.Prism.{PrismAnswered};
 use alike::AlikeAnswer;
 use answer::Answer;
 
@@ -75,4 +76,12 @@ pub extern "C" fn zolkirta_alike(
     ensures { λ r. ⌜ AlikeAnswered (now (model .entry)) (now (certificate .entry)) (named «first_count» «first_state» «second_state») r ⌝ }
 {
     alike::alike_answer(model, first_count, certificate, first_state, second_state)
+}
+
+// Reads the text of a PRISM transition file of a decision process and writes the model that it holds.
+#[no_mangle]
+pub extern "C" fn zolkirta_read_prism(text: &[u8], out: &mut [u8]) -> Answer
+    ensures { λ r. ⌜ PrismAnswered (now (text .entry)) (now (out .entry)) (now (out .exit)) r ⌝ }
+{
+    read_prism::read_prism_answer(text, out)
 }

@@ -4,7 +4,8 @@
 //! the certificate and names the block of each state, [`reduce`] writes the model with each block merged into one state, [`fetch`]
 //! finds the transitions that leave a state. [`sheet`] writes the blocks as text for paper. [`join`] writes two models as one, and
 //! [`alike`] says whether a state of the one behaves as a state of the other. [`judge_costs`] judges where each transition has a cost.
-//! What is not accepted gets one numbered [`Refusal`]. The tool `zolkirta` makes these calls by file name: `zolkirta --help` tells how.
+//! [`read_prism`] makes a model of PRISM's transition file. What is not accepted gets one numbered [`Refusal`]. The tool `zolkirta` makes
+//! these calls by file name: `zolkirta --help` tells how.
 //!
 //! The small pair S of document 01: state 0 moves to state 2 by action 1, state 1 moves to state 0 internally.
 //!
@@ -37,7 +38,7 @@ mod readme {}
 /// The most states that a model has. A block buffer of this length is always long enough.
 pub const STATES: usize = 128;
 
-/// The bytes of the longest model. An output buffer of this length is always long enough for [`reduce`] and [`join`].
+/// The bytes of the longest model. An output buffer of this length is always long enough for [`reduce`], [`join`] and [`read_prism`].
 pub const MODEL: usize = 8072;
 
 /// The bytes of the longest sheet. A sheet buffer of this length is always long enough.
@@ -52,15 +53,17 @@ pub enum File {
     Certificate,
     /// The second of two models that are joined.
     SecondModel,
+    /// The text of PRISM that a model is read from.
+    Text,
     /// A file that this crate does not know, by the number that the library gives it.
     Unknown(u32),
 }
 
 impl File {
-    /// The library's number of the file: 1 model, 2 certificate, 3 the second model.
+    /// The library's number of the file: 1 model or text, no call taking both, 2 certificate, 3 the second model.
     pub fn number(self) -> u32 {
         match self {
-            File::Model => 1,
+            File::Model | File::Text => 1,
             File::Certificate => 2,
             File::SecondModel => 3,
             File::Unknown(number) => number,
@@ -74,6 +77,7 @@ impl fmt::Display for File {
             File::Model => out.write_str("model"),
             File::Certificate => out.write_str("certificate"),
             File::SecondModel => out.write_str("second model"),
+            File::Text => out.write_str("text"),
             File::Unknown(number) => write!(out, "unknown file {number}"),
         }
     }
@@ -112,12 +116,12 @@ impl fmt::Display for Difference {
 #[derive(Clone, Copy, PartialEq, Eq)]
 #[non_exhaustive]
 pub struct Refusal<'a> {
-    /// 1 to 30: [`meaning`](Refusal::meaning) says it in words.
+    /// 1 to 33: [`meaning`](Refusal::meaning) says it in words.
     pub number: u32,
     /// The file at fault, if one is.
     pub file: Option<File>,
-    /// The byte of that file where the record at fault begins; for bytes left (9 and 22), the first of them; for 29, the cost. 0 without
-    /// a file.
+    /// The byte of that file where the record or line at fault begins; for bytes left (9 and 22), the first of them; for 29, the cost; for
+    /// 31 where only the head's counts are wrong, the text's length. 0 without a file.
     pub place: usize,
     /// The caller's own bytes of that file from the place to its end. Empty without a file, and for one that this crate does not know.
     pub stretch: &'a [u8],
@@ -125,7 +129,7 @@ pub struct Refusal<'a> {
     pub difference: Option<Difference>,
 }
 
-const MEANINGS: [&str; 31] = [
+const MEANINGS: [&str; 34] = [
     "accepted",
     "the file ends inside a record",
     "a record has a wrong mark",
@@ -157,6 +161,9 @@ const MEANINGS: [&str; 31] = [
     "the certificate is accepted, and the buffer is shorter than the sheet",
     "a cost is above 63",
     "a flow's cost equation breaks",
+    "a line breaks the form or a limit, or the head's counts are not the text's",
+    "the probabilities of a choice do not add up to 1",
+    "the text is sound, and the buffer is shorter than its model's file",
 ];
 
 fn meaning_of(number: u32) -> &'static str {
@@ -468,6 +475,36 @@ pub fn alike<'a>(
     Ok(said.alike == 1)
 }
 
+/// Reads PRISM's transition file of a decision process (`prism model.nm -exporttrans model.tra`), and writes the model: each choice is a
+/// transition, in lowest terms. Names become the actions 1, 2, .. by first sight, and a choice without one is internal. All labels are 0:
+/// labels and rewards of the PRISM model stand in other files. On acceptance the first bytes of `buffer` are the model's file, and they are
+/// what is handed back; the buffer's later bytes stay. The C header says the text's form.
+///
+/// Refusals, in the text ([`File::Text`]): 31 at a line that breaks the form or a limit, or at the text's end where the head's counts are not
+/// the text's, and 32 at the first line of a choice that does not add up to 1. Then 33, where the buffer is shorter than the file ([`MODEL`]
+/// bytes are always enough).
+///
+/// ```
+/// // Three states: state 0 sends, which fails one time in four, and is done by itself; state 1 resets.
+/// let text = b"3 3 4\n0 0 1 0.75 send\n0 0 2 0.25 send\n0 1 2 1\n1 0 0 1 reset\n";
+/// let mut buffer = [0; zolkirta::MODEL];
+/// let model = zolkirta::read_prism(text, &mut buffer).unwrap();
+/// assert_eq!(model[..11], *b"PA\x03\x03\0\x03LB\0\0\0");
+/// assert_eq!(model[11..24], *b"TR\0\x01\0\x04\x02\x01\0\x03\x02\0\x01"); // 3/4 and 1/4, by action 1
+/// assert_eq!(model[24..34], *b"TR\0\0\0\x01\x01\x02\0\x01"); // internal
+/// assert_eq!(model[34..], *b"TR\x01\x02\0\x01\x01\0\0\x01");
+///
+/// let refusal = zolkirta::read_prism(b"2 1 1\n0 0 1 0.9\n", &mut buffer).unwrap_err();
+/// assert_eq!(refusal.to_string(), "refusal 32: the probabilities of a choice do not add up to 1 (text, byte 6)");
+/// assert_eq!(refusal.stretch, b"0 0 1 0.9\n");
+/// assert_eq!(zolkirta::read_prism(b"1 0 0\n", &mut [0; 8]).unwrap_err().number, 33);
+/// ```
+pub fn read_prism<'a, 'b>(text: &'a [u8], buffer: &'b mut [u8]) -> Result<&'b [u8], Refusal<'a>> {
+    // SAFETY: pointers and lengths are those of the slices, and a `&mut` overlaps no other slice.
+    let answer = unsafe { raw::zolkirta_read_prism(text.as_ptr(), text.len(), buffer.as_mut_ptr(), buffer.len()) };
+    Ok(&buffer[..accepted(answer, &[(File::Text, text)])?.written])
+}
+
 #[cfg(test)]
 mod tests {
     use super::*;
@@ -500,6 +537,14 @@ mod tests {
     }
 
     #[test]
+    fn a_text_is_file_1_of_its_call() {
+        let answer = raw::Answer { number: 31, file: 1, place: 6, ..raw::Answer::default() };
+        let refusal = accepted(answer, &[(File::Text, b"1 1 1\n0\n")]).unwrap_err();
+        assert_eq!((refusal.file, refusal.stretch, File::Text.number()), (Some(File::Text), &b"0\n"[..], 1));
+        assert!(refusal.to_string().ends_with(" (text, byte 6)"));
+    }
+
+    #[test]
     fn an_unknown_file_has_no_stretch() {
         let refusal = refusal(2, 4, 700);
         assert_eq!((refusal.place, refusal.stretch), (700, &[][..]));
@@ -508,10 +553,10 @@ mod tests {
 
     #[test]
     fn an_unknown_number_is_said() {
-        for number in [31, 32, u32::MAX] {
+        for number in [34, 35, u32::MAX] {
             assert_eq!(refusal(number, 0, 0).to_string(), format!("refusal {number}: unknown number"));
         }
-        assert_eq!(refusal(31, 2, 5).to_string(), "refusal 31: unknown number (certificate, byte 5)");
+        assert_eq!(refusal(34, 2, 5).to_string(), "refusal 34: unknown number (certificate, byte 5)");
     }
 
     #[test]
@@ -539,7 +584,7 @@ mod tests {
 
     #[test]
     fn only_16_20_and_21_have_a_difference() {
-        for number in (1..=32).chain([u32::MAX]) {
+        for number in (1..=34).chain([u32::MAX]) {
             let told = [16, 20, 21].contains(&number).then_some(Difference { state: 5, remainder: 9 });
             assert_eq!(off(number, 5, 9).difference, told, "{number}");
         }

@@ -13,9 +13,10 @@ use std::mem::{offset_of, size_of};
 pub struct Answer {
     /// 0, or the number of the refusal.
     pub number: u32,
-    /// The file at fault: 1 model, 2 certificate, 3 the second model; 0 where none is.
+    /// The file at fault: 1 model or text, 2 certificate, 3 the second model; 0 where none is.
     pub file: u32,
-    /// The byte of that file where the record at fault begins; for bytes left, the first of them; for 29, the cost.
+    /// The byte of that file where the record or line at fault begins; for bytes left, the first of them; for 29, the cost; for 31 where only
+    /// the head's counts are wrong, the text's length.
     pub place: usize,
     /// Where the stretch, or the run that was fetched, starts in its file; 0 where it is empty and has no file.
     pub stretch_start: usize,
@@ -108,4 +109,6 @@ extern "C" {
         first_state: u32,
         second_state: u32,
     ) -> AlikeAnswer;
+    /// [`read_prism`](crate::read_prism)
+    pub fn zolkirta_read_prism(text: *const u8, text_length: usize, out: *mut u8, out_length: usize) -> Answer;
 }

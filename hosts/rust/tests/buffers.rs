@@ -3,11 +3,12 @@ mod compare;
 mod maker;
 mod plain;
 
-use compare::{accepted, accepted_costs, alike, fetch, join, judge, judge_costs, lines, reduce, sheet, Counts};
+use compare::{accepted, accepted_costs, accepted_texts, alike, fetch, join, judge, judge_costs, lines, read_prism, reduce, sheet, Counts};
 use maker::families::{bytes, flow_heavy, half, largest, refutation_heavy, still};
 use plain::Answer;
 use std::ptr::{null, null_mut};
-use zolkirta::raw::{zolkirta_alike, zolkirta_fetch, zolkirta_join, zolkirta_judge, zolkirta_judge_costs, zolkirta_reduce, zolkirta_sheet, Lending};
+use zolkirta::raw::{zolkirta_alike, zolkirta_fetch, zolkirta_join, zolkirta_judge, zolkirta_judge_costs, Lending};
+use zolkirta::raw::{zolkirta_read_prism, zolkirta_reduce, zolkirta_sheet};
 use zolkirta::{MODEL, SHEET, STATES};
 
 /// Makes a call with buffers from none to one byte longer than what it writes, and with these: a shorter one is refused with a number.
@@ -38,6 +39,9 @@ fn buffers_of_every_length() {
     for (first, second) in small().zip(small().rev()).chain([(&half, &half)]) {
         assert_eq!(join(first, second, MODEL).1.len(), first.len() + second.len() - 8); // one head and one mark of labels less
         every_length(|length| join(first, second, length), 26, &[MODEL, MODEL + 1]);
+    }
+    for text in &accepted_texts() {
+        every_length(|length| read_prism(text, length), 33, &[MODEL, MODEL + 1]);
     }
 }
 
@@ -74,12 +78,21 @@ fn a_refusal_writes_nothing_whatever_the_length() {
         }
     }
     assert!(refused > 5_000);
+    let mut refused = 0;
+    for v in said(&["read_prism"], 1) {
+        for length in (0..=66).chain([MODEL]) {
+            assert_eq!(read_prism(&v.files[0], length).0, v.said.0);
+            refused += 1;
+        }
+    }
+    assert!(refused > 5_000);
 }
 
 #[test]
 fn null_pointers_at_length_0() {
     let (model, certificate) = &accepted()[0];
     let (costly, its_certificate) = &accepted_costs()[0];
+    let text = b"1 0 0\n";
     let (m, m_length, c, c_length) = (model.as_ptr(), model.len(), certificate.as_ptr(), certificate.len());
     let mut blocks = [7; STATES];
     let b = blocks.as_mut_ptr();
@@ -104,6 +117,9 @@ fn null_pointers_at_length_0() {
     }
     unsafe {
         assert_eq!(zolkirta_fetch(null(), 0, 0), fetch(&[], 0));
+        assert_eq!(zolkirta_read_prism(null(), 0, null_mut(), 0), read_prism(&[], 0).0);
+        assert_eq!(zolkirta_read_prism(null(), 0, b, STATES), read_prism(&[], STATES).0);
+        assert_eq!(zolkirta_read_prism(text.as_ptr(), text.len(), null_mut(), 0), read_prism(text, 0).0);
         assert_eq!(zolkirta_alike(null(), 0, 1, null(), 0, 0, 1), alike(&[], &[], [1, 0, 1]));
         assert_eq!(zolkirta_alike(m, m_length, 1, null(), 0, 0, 1), alike(model, &[], [1, 0, 1]));
         assert_eq!(zolkirta_alike(null(), 0, 1, c, c_length, 0, 1), alike(&[], certificate, [1, 0, 1]));
@@ -114,6 +130,8 @@ fn null_pointers_at_length_0() {
     let with_costs = [(costly, its_certificate, 0), (costly, &Vec::new(), STATES), (model, certificate, STATES)];
     let with_costs = with_costs.map(|(model, certificate, length)| judge_costs(model, certificate, length).0);
     assert_eq!(with_costs.map(|answer| (answer.number, answer.file)), [(10, 0), (11, 2), (1, 1)]);
+    let texts = [read_prism(text, 0).0, read_prism(&[], STATES).0];
+    assert_eq!(texts.map(|answer| (answer.number, answer.file)), [(33, 0), (31, 1)]);
     let joined = [join(model, model, 0).0, join(model, &[], STATES).0];
     assert_eq!(joined.map(|answer| (answer.number, answer.file)), [(26, 0), (1, 3)]);
 }

@@ -2,10 +2,10 @@
 mod compare;
 mod plain;
 
-use compare::{accepted, accepted_costs, lines, Answering, Both, Counts, Numbers};
+use compare::{accepted, accepted_costs, accepted_texts, lines, Answering, Both, Counts, Numbers};
 use plain::{AlikeAnswer, Answer};
 use std::collections::BTreeSet;
-use zolkirta::{Difference, File, Refusal, STATES};
+use zolkirta::{Difference, File, Refusal, MODEL, STATES};
 
 /// The slice lies in this file from this place on: the same bytes at the same address.
 fn same_bytes(slice: &[u8], file: &[u8], from: usize, length: usize) {
@@ -13,11 +13,12 @@ fn same_bytes(slice: &[u8], file: &[u8], from: usize, length: usize) {
     assert!(length == 0 || std::ptr::eq(slice, &file[from..from + length]));
 }
 
-/// The refusal of a call with a model and another file is what the answer says.
-fn same_refusal(refusal: Refusal, answer: Answer, model: &[u8], other: &[u8]) {
+/// The refusal of a call with a first file, which is this one, and another is what the answer says.
+fn same_refusal(refusal: Refusal, answer: Answer, first: File, one: &[u8], other: &[u8]) {
     let (file, name, bytes) = match answer.file {
         0 => (None, "", &[][..]),
-        1 => (Some(File::Model), "model", model),
+        1 if first == File::Text => (Some(first), "text", one),
+        1 => (Some(File::Model), "model", one),
         2 => (Some(File::Certificate), "certificate", other),
         _ => (Some(File::SecondModel), "second model", other),
     };
@@ -36,17 +37,17 @@ fn same_refusal(refusal: Refusal, answer: Answer, model: &[u8], other: &[u8]) {
 type Call = for<'a, 'b> fn(&'a [u8], &'a [u8], &'b mut [u8]) -> Result<&'b [u8], Refusal<'a>>;
 
 /// Makes a safe call that lends a buffer and compares it with the answer of the raw one, which it hands back.
-fn same_lent(call: Call, told: (Answer, Vec<u8>), model: &[u8], other: &[u8], length: usize) -> (Answer, Vec<u8>) {
+fn same_lent(call: Call, told: (Answer, Vec<u8>), first: File, [one, other]: [&[u8]; 2], length: usize) -> (Answer, Vec<u8>) {
     let mut buffer = vec![0x3c; length];
     let start = buffer.as_ptr();
-    match call(model, other, &mut buffer) {
+    match call(one, other, &mut buffer) {
         Ok(written) => {
             assert!(told.0.number == 0 && written == told.1 && written.as_ptr() == start);
             let size = written.len();
             assert!(buffer[size..].iter().all(|&byte| byte == 0x3c));
         }
         Err(refusal) => {
-            same_refusal(refusal, told.0, model, other);
+            same_refusal(refusal, told.0, first, one, other);
             assert!(buffer.iter().all(|&byte| byte == 0x3c));
         }
     }
@@ -55,6 +56,10 @@ fn same_lent(call: Call, told: (Answer, Vec<u8>), model: &[u8], other: &[u8], le
 
 fn sheet_bytes<'a, 'b>(model: &'a [u8], certificate: &'a [u8], buffer: &'b mut [u8]) -> Result<&'b [u8], Refusal<'a>> {
     zolkirta::sheet(model, certificate, buffer).map(str::as_bytes)
+}
+
+fn read_prism<'a, 'b>(text: &'a [u8], _: &'a [u8], buffer: &'b mut [u8]) -> Result<&'b [u8], Refusal<'a>> {
+    zolkirta::read_prism(text, buffer)
 }
 
 /// The safe calls, each compared with the raw one.
@@ -68,9 +73,13 @@ impl Answering for Safe {
                 assert_eq!(answer.number, 0);
                 same_bytes(run, model, answer.stretch_start, answer.stretch_length);
             }
-            Err(refusal) => same_refusal(refusal, answer, model, &[]),
+            Err(refusal) => same_refusal(refusal, answer, File::Model, model, &[]),
         }
         answer
+    }
+
+    fn read_prism(&self, text: &[u8], length: usize) -> (Answer, Vec<u8>) {
+        same_lent(read_prism, Both.read_prism(text, length), File::Text, [text, &[]], length)
     }
 
     fn lent(&self, call: &str, one: &[u8], other: &[u8], length: usize) -> (Answer, Vec<u8>) {
@@ -82,14 +91,14 @@ impl Answering for Safe {
             "join" => zolkirta::join,
             _ => panic!("no such call: {call}"),
         };
-        same_lent(safe, Both.lent(call, one, other, length), one, other, length)
+        same_lent(safe, Both.lent(call, one, other, length), File::Model, [one, other], length)
     }
 
     fn alike(&self, model: &[u8], certificate: &[u8], [count, s, t]: [u32; 3]) -> AlikeAnswer {
         let said = Both.alike(model, certificate, [count, s, t]);
         match zolkirta::alike(model, count, certificate, s, t) {
             Ok(yes) => assert_eq!((said.answer.number, said.alike), (0, yes.into())),
-            Err(refusal) => same_refusal(refusal, said.answer, model, certificate),
+            Err(refusal) => same_refusal(refusal, said.answer, File::Model, model, certificate),
         }
         said
     }
@@ -102,12 +111,16 @@ fn same(counts: &mut Counts, model: &[u8], certificate: &[u8], state: u32, block
     Safe.lent("sheet", model, certificate, out);
 }
 
+fn change_one_bit(file: &mut [u8], numbers: &mut Numbers) {
+    let at = numbers.below(file.len());
+    file[at] ^= 1 << numbers.below(8);
+}
+
 /// One of these pairs with a bit of one of its files changed.
 fn one_bit_changed(pairs: &[(Vec<u8>, Vec<u8>)], numbers: &mut Numbers) -> (Vec<u8>, Vec<u8>) {
     let (mut model, mut certificate) = numbers.of(pairs).clone();
     let file = if numbers.below(5) == 0 { &mut model } else { &mut certificate };
-    let at = numbers.below(file.len());
-    file[at] ^= 1 << numbers.below(8);
+    change_one_bit(file, numbers);
     (model, certificate)
 }
 
@@ -140,6 +153,20 @@ fn the_safe_call_for_cost_pairs_says_what_the_raw_one_says() {
         told.insert(Safe.lent("judge_costs", &model, &certificate, length).0.number);
     }
     assert!([0, 1, 2, 10, 16, 20, 21, 29, 30].iter().all(|number| told.contains(number)), "{told:?}");
+}
+
+#[test]
+fn the_safe_call_for_texts_says_what_the_raw_one_says() {
+    let mut numbers = Numbers::new(15);
+    let texts = accepted_texts();
+    let mut told = BTreeSet::new();
+    for _ in 0..20_000 {
+        let mut text = numbers.of(&texts).clone();
+        change_one_bit(&mut text, &mut numbers);
+        let length = if numbers.below(8) == 0 { numbers.below(40) } else { MODEL };
+        told.insert(Safe.read_prism(&text, length).0.number);
+    }
+    assert_eq!(told, BTreeSet::from([0, 31, 32, 33]));
 }
 
 #[test]

@@ -3,14 +3,14 @@ mod compare;
 mod maker;
 mod plain;
 
-use compare::{accepted, accepted_costs, judge_costs, Counts};
+use compare::{accepted, accepted_costs, accepted_texts, judge_costs, read_prism, Counts};
 use maker::families::{
     bytes, flow_heavy, flow_heavy_with_costs, half, internal_chain, largest, one_source, refutation_heavy, tolls, with_costs,
 };
+use maker::prism::largest_text;
 use std::arch::asm;
-use zolkirta::raw::{
-    zolkirta_alike, zolkirta_fetch, zolkirta_join, zolkirta_judge, zolkirta_judge_costs, zolkirta_reduce, zolkirta_sheet, AlikeAnswer,
-};
+use zolkirta::raw::{zolkirta_alike, zolkirta_fetch, zolkirta_join, zolkirta_judge, zolkirta_judge_costs, AlikeAnswer};
+use zolkirta::raw::{zolkirta_read_prism, zolkirta_reduce, zolkirta_sheet};
 use zolkirta::{MODEL, SHEET, STATES};
 
 /// Several times what a call uses.
@@ -78,6 +78,11 @@ fn calls_use_the_stack_that_the_header_states() {
     for (model, certificate) in &cost_pairs {
         assert_eq!(judge_costs(model, certificate, STATES).0.number, 0);
     }
+    let mut texts = accepted_texts();
+    texts.extend([true, false].map(largest_text));
+    for text in &texts {
+        assert_eq!(read_prism(text, MODEL).0.number, 0);
+    }
     let half = half().0.bytes();
     let joins = [(half.clone(), half)];
     let mut buffer = vec![0u8; MODEL.max(SHEET)];
@@ -93,8 +98,9 @@ fn calls_use_the_stack_that_the_header_states() {
         let last = usize::from(model[2]) - 1;
         [words(model).0, words(model).1, last, words(certificate).0, words(certificate).1, 0, last]
     };
+    let reading = |text: &Vec<u8>| -> Words { [words(text).0, words(text).1, lent, room, 0, 0, 0] };
     let several_states = pairs.iter().filter(|(model, _)| model[2] > 1);
-    let calls: [(&str, *const (), Vec<Words>); 7] = [
+    let calls: [(&str, *const (), Vec<Words>); 8] = [
         ("zolkirta_fetch", zolkirta_fetch as *const (), pairs.iter().map(fetching).collect()),
         ("zolkirta_judge", zolkirta_judge as *const (), pairs.iter().map(lending).collect()),
         ("zolkirta_judge_costs", zolkirta_judge_costs as *const (), cost_pairs.iter().map(lending).collect()),
@@ -102,6 +108,7 @@ fn calls_use_the_stack_that_the_header_states() {
         ("zolkirta_sheet", zolkirta_sheet as *const (), pairs.iter().map(lending).collect()),
         ("zolkirta_join", zolkirta_join as *const (), joins.iter().map(lending).collect()),
         ("zolkirta_alike", zolkirta_alike as *const (), several_states.map(comparing).collect()),
+        ("zolkirta_read_prism", zolkirta_read_prism as *const (), texts.iter().map(reading).collect()),
     ];
     for (name, call, asked) in calls {
         // A byte that is written in the colour of one paint shows in the other.

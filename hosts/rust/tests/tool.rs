@@ -30,6 +30,64 @@ fn each_call_accepts() {
     );
     assert_eq!(folder.read("out"), folder.read("joined.model"));
     said("alike first.model second.model joined.certificate 0 3", "yes: state 0 of first.model behaves as state 3 of second.model\n");
+    said(
+        "read-prism relay.tra -o out",
+        "accepted: 5 states, 6 transitions, 2 named actions\naction 1: send\naction 2: deliver\n\
+         written: out: 5 states, 6 transitions, 82 bytes\n",
+    );
+    assert_eq!(folder.read("out"), folder.read("relay.model"));
+    said("judge out relay.certificate", "accepted: 5 states in 2 blocks\nblock 0: 0 4\nblock 1: 1 2 3\n");
+}
+
+#[test]
+fn names_go_by_first_sight() {
+    let folder = Folder::new("names");
+    let said = |text: &str, lines: &str| {
+        folder.write("text", text.as_bytes());
+        folder.run("read-prism text -o out").is(0, lines, "");
+    };
+    said(
+        "2 4 5\n0 0 0 0.5 b\n0 0 1 0.5 b\n0 1 1 1 \"a\\\n0 2 1 1\n1 0 1 1 b\n",
+        "accepted: 2 states, 4 transitions, 2 named actions\naction 1: b\naction 2: \"a\\\nwritten: out: 2 states, 4 transitions, 53 bytes\n",
+    );
+    said(
+        "1 1 1\n0 0 0 1 1\n",
+        "accepted: 1 state, 1 transition, 1 named action\naction 1: 1\nwritten: out: 1 state, 1 transition, 19 bytes\n",
+    );
+    said("1 0 0\n", "accepted: 1 state, no transitions, no named actions\nwritten: out: 1 state, no transitions, 9 bytes\n");
+    let long = "n".repeat(100_000);
+    folder.write("text", format!("1 1 1\n0 0 0 1 {long}\n").as_bytes());
+    assert!(folder.run("read-prism text -o out").out.contains(&format!("\naction 1: {long}\n")));
+}
+
+#[test]
+fn a_line_at_fault_is_shown() {
+    let folder = Folder::new("lines");
+    let line = "31, a line breaks the form or a limit, or the head's counts are not the text's";
+    let sum = "32, the probabilities of a choice do not add up to 1";
+    let long = format!("line 2: \"{}\" and 40 more bytes, without a newline", "7".repeat(60));
+    let told = [
+        ("", line, 0, "which ends there"),
+        ("1 0 0", line, 0, "line 1: \"1 0 0\", without a newline"),
+        ("1 0 1\n", line, 6, "which ends there"),
+        ("2 1 2\n0 0 0 0.5\n0 0 1 0.5 \n", line, 16, "line 3: \"0 0 1 0.5 \""),
+        ("2 1 2\n0 0 0 0.5\n0 0 1 0.5\r\n", line, 16, "line 3: \"0 0 1 0.5\\r\""),
+        ("2 1 2\n0 0 0 0.5\n0 1 1 0.5\n", sum, 6, "line 2: \"0 0 0 0.5\""),
+        ("1 0 0\n\n", line, 6, "line 2: \"\""),
+        ("1 1 1\n0 0 0 1 \"\u{e9}\n", line, 6, r#"line 2: "0 0 0 1 \"\xc3\xa9""#),
+        (&format!("1 0 0\n{}", "7".repeat(100)), line, 6, &long),
+    ];
+    for (text, refused, byte, shown) in told {
+        folder.write("a.tra", text.as_bytes());
+        let lines = format!("refused: {refused}, text, byte {byte}\nin a.tra, {shown}\n");
+        folder.run("read-prism a.tra -o out").is(1, &lines, "");
+        assert!(!folder.path.join("out").exists());
+    }
+    folder.write("out", b"older");
+    let ran = folder.run_fed("read-prism - -o out", b"1 1 1\n0 0 0 0.5\n");
+    let lines = format!("refused: {sum}, text, byte 6\nin standard input, line 2: \"0 0 0 0.5\"\n");
+    ran.is(1, &lines, "zolkirta: out stays as it was\n");
+    assert_eq!(folder.read("out"), b"older");
 }
 
 #[test]
@@ -56,7 +114,7 @@ fn fetched_transitions_are_decoded() {
 }
 
 /// Calls that are refused, and what their lines say.
-const REFUSED: [(&str, &str, &str); 7] = [
+const REFUSED: [(&str, &str, &str); 8] = [
     (
         "judge small.model small.model",
         "refused: 12, a record has a wrong mark, certificate, byte 0\n",
@@ -87,6 +145,11 @@ const REFUSED: [(&str, &str, &str); 7] = [
         "alike small.sheet second.model joined.certificate 0 3",
         "refused: 2, a record has a wrong mark, first model, byte 0\n",
         "in small.sheet, from there on: 20 20 20 30 20 20 20 32 20 20 20 30 20 20 20 31 and 130 more bytes\n",
+    ),
+    (
+        "read-prism small.sheet -o out",
+        "refused: 31, a line breaks the form or a limit, or the head's counts are not the text's, text, byte 0\n",
+        "in small.sheet, line 1: \"   0   2   0   1                                            \" and 12 more bytes\n",
     ),
 ];
 
@@ -147,7 +210,7 @@ fn a_state_beyond_all_numbers_is_refused_and_never_another() {
 }
 
 /// The fields of the JSON object, in order.
-const FIELDS: &str = "call number meaning file name place state remainder blocks written output states transitions sheet run alike";
+const FIELDS: &str = "call number meaning file name place state remainder blocks written output states transitions names sheet run alike";
 
 /// The line with these fields, and null for all others.
 fn object(told: &[(&str, &str)]) -> String {
@@ -174,6 +237,8 @@ fn json_has_every_field() {
     accepted("sheet small.model small.certificate -o out", &[("blocks", "[0,0,1]"), ("written", "146"), ("output", "\"out\"")]);
     let joined = [("written", "47"), ("output", "\"out\""), ("states", "6"), ("transitions", "3")];
     accepted("join first.model second.model -o out", &joined);
+    let names = [("written", "82"), ("output", "\"out\""), ("states", "5"), ("transitions", "6"), ("names", r#"["send","deliver"]"#)];
+    accepted("read-prism relay.tra -o out", &names);
     let step = r#"{"number":1,"source":2,"action":0,"denominator":2,"targets":[{"state":1,"weight":1},{"state":2,"weight":1}]}"#;
     let other = r#"{"number":2,"source":2,"action":0,"denominator":1,"targets":[{"state":3,"weight":1}]}"#;
     accepted("fetch second.model 2", &[("run", &format!("[{step},{other}]"))]);
@@ -207,6 +272,16 @@ fn json_tells_refusals() {
         ("place", "0"),
     ];
     folder.run("join first.model small.sheet -o out --json").is(1, &object(&second), "");
+    folder.write("text", b"1 1 1\n0 0 0 0.5\n");
+    let text = [
+        ("call", "\"read-prism\""),
+        ("number", "32"),
+        ("meaning", "\"the probabilities of a choice do not add up to 1\""),
+        ("file", "1"),
+        ("name", "\"text\""),
+        ("place", "6"),
+    ];
+    folder.run("read-prism text -o out --json").is(1, &object(&text), "");
     let no_state = [("call", "\"fetch\""), ("number", "24"), ("meaning", "\"the state to fetch is not below the state count\"")];
     folder.run("fetch second.model 4 --json").is(1, &object(&no_state), "");
     folder.run("judge missing small.certificate --json").is(2, "", &format!("zolkirta: missing: {MISSING}\n"));
@@ -259,7 +334,7 @@ fn help_and_version_are_printed() {
     for field in FIELDS.split(' ') {
         assert!(told.contains(&format!(" {field}")), "{field}");
     }
-    for call in ["judge", "judge-costs", "reduce", "sheet", "join", "fetch", "alike"] {
+    for call in ["judge", "judge-costs", "reduce", "sheet", "join", "fetch", "alike", "read-prism"] {
         let help = folder.run(&format!("{call} --help"));
         assert_eq!((help.status, help.err.as_str()), (0, ""));
         let usage = help.out.lines().next().unwrap();
@@ -302,6 +377,9 @@ fn words_that_make_no_call_get_two_lines() {
         ("reduce small.model small.certificate -o --json", "reduce: -o needs the name of a file"),
         ("reduce small.model small.certificate -o out -o other", "reduce: -o stands twice"),
         ("join first.model second.model", "join: -o OUT is missing"),
+        ("read-prism -o out", "read-prism: TEXT is missing"),
+        ("read-prism relay.tra", "read-prism: -o OUT is missing"),
+        ("read-prism relay.tra relay.tra -o out", "read-prism: relay.tra is one word too many"),
         ("judge - -", "judge: - is standard input, and there is only one"),
         ("alike - second.model - 0 3", "alike: - is standard input, and there is only one"),
     ];

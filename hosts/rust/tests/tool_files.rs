@@ -5,6 +5,7 @@ mod plain;
 mod program;
 
 use maker::families::{bytes, copies, internal_chain, most_copies};
+use maker::prism::largest_text;
 use program::{finished, Folder, ACCEPTED, MISSING, NOBODY};
 use std::ffi::OsStr;
 use std::fs::{self, File, OpenOptions};
@@ -299,6 +300,21 @@ fn files_may_be_of_any_size() {
     let ran = folder.run("judge small.model small.certificate");
     ran.first_line_is(1, "refused: 9, bytes are left after the last record, model, byte 31");
     assert!(ran.out.ends_with(" 00 and 99999953 more bytes\n"));
+    let lines = folder.read("relay.tra").len();
+    lengthen(&folder.path.join("relay.tra"));
+    let ran = folder.run("read-prism relay.tra -o out");
+    assert!(ran.status == 1 && ran.out.starts_with("refused: 31, "));
+    assert!(ran.out.ends_with(&format!("\\x00\" and {} more bytes, without a newline\n", 99_999_940 - lines)), "{ran:?}");
+}
+
+#[test]
+fn the_largest_text_goes_through() {
+    let folder = Folder::new("text");
+    folder.write("text", &largest_text(true));
+    let ran = folder.run("read-prism text -o out");
+    ran.first_line_is(0, "accepted: 128 states, 256 transitions, 31 named actions");
+    assert!(ran.out.contains("\naction 1: action1\naction 2: action2\n") && ran.out.contains("\naction 31: action31\nwritten: out: "));
+    assert_eq!(folder.read("out"), zolkirta::read_prism(&largest_text(true), &mut [0; zolkirta::MODEL]).unwrap());
 }
 
 #[test]

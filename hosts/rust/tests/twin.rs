@@ -3,14 +3,13 @@ mod compare;
 mod plain;
 
 use compare::all_lines;
-use plain::{BEFORE_K7, TODAY};
+use plain::TODAY;
 
 /// Every line by the limits that it was written under.
 #[test]
 fn the_plain_judge_gives_the_answers() {
     let all = all_lines();
-    for v in &all {
-        v.holds_for(if v.name == "k7" { &TODAY } else { &BEFORE_K7 });
-    }
-    assert!(all.iter().filter(|v| v.name == "k7").count() > 800 && all.iter().filter(|v| v.name != "k7").count() > 2900);
+    all.iter().for_each(|v| v.holds_for(v.limits()));
+    let since_k7 = all.iter().filter(|v| v.limits() == &TODAY).count();
+    assert!(since_k7 > 1100 && all.len() - since_k7 > 2900);
 }

@@ -6,16 +6,16 @@ use compare::{all_lines, lines, Both, NAMES};
 use std::collections::BTreeMap;
 
 /// How many lines of each file are about the limits from before K7, in the order of the files.
-const ABOUT_THE_LIMITS: [usize; 7] = [46, 10, 13, 9, 0, 18, 0];
+const ABOUT_THE_LIMITS: [usize; 8] = [46, 10, 13, 9, 0, 18, 0, 0];
 
 #[test]
 fn lines_get_their_answers() {
     let all = lines();
     all.iter().for_each(|v| v.holds_for(&Both));
-    let calls = ["fetch", "judge", "reduce", "join", "alike", "sheet", "judge_costs"];
+    let calls = ["fetch", "judge", "reduce", "join", "alike", "sheet", "judge_costs", "read_prism"];
     let counts = calls.map(|call| all.iter().filter(|v| v.call == call).count());
     println!("lines by call: {calls:?} {counts:?}");
-    assert!(counts.iter().zip([190, 1100, 600, 250, 650, 130, 750]).all(|(count, least)| *count > least), "{counts:?}");
+    assert!(counts.iter().zip([190, 1100, 600, 250, 650, 130, 750, 249]).all(|(count, least)| *count > least), "{counts:?}");
     assert!([16, 20, 21].iter().all(|&number| all.iter().any(|v| v.number() == number && v.said.0.remainder != 0)));
 }
 

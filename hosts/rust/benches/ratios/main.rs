@@ -12,6 +12,7 @@ mod report;
 use compare::Numbers;
 use maker::families::{bytes, filled, flow_heavy, flow_heavy_with_costs, half, largest, one_source, refutation_heavy};
 use maker::files::{Certificate, Model};
+use maker::prism::largest_text;
 use maker::random::random_model;
 use plain::{Limits, TODAY};
 use std::hint::black_box;
@@ -95,6 +96,13 @@ fn on_paper(length: Duration, pairs: &[Files]) -> Times {
     lending(length, raw::zolkirta_sheet, Limits::sheet, pairs)
 }
 
+/// A text of PRISM, with a buffer that is long enough.
+fn reading(length: Duration, text: &[u8]) -> Times {
+    let (mut lent, mut lent_plain) = (vec![0; zolkirta::MODEL], vec![0; zolkirta::MODEL]);
+    let library = || unsafe { raw::zolkirta_read_prism(black_box(text).as_ptr(), text.len(), lent.as_mut_ptr(), lent.len()) }.number;
+    measured(length, library, || TODAY.read_prism(black_box(text), &mut lent_plain).number)
+}
+
 /// State 0 compared with the last one.
 fn comparing(length: Duration, (model, certificate): &Files) -> Times {
     let last = u32::from(model[2]) - 1;
@@ -165,6 +173,8 @@ fn cases(random: &[Files]) -> Vec<Case> {
         case("join, two models of 64 states, 128 transitions, 1,024 entries", joining(length, &[(half.clone(), half)]), no_slower, ""),
         case("alike, refutation-heavy, 64 states: no", comparing(length, &refutations[0]), by_a_third, ""),
         case("alike, flow-heavy, 64 states: yes", comparing(length, &flows[0]), by_a_third, ""),
+        case("read_prism, 128 states, 256 choices, 2,048 lines, 31 names", reading(length, &largest_text(true)), no_slower, ""),
+        case("read_prism, 128 states, 256 choices, 2,048 lines without names", reading(length, &largest_text(false)), no_slower, ""),
     ]
 }
 

@@ -47,24 +47,41 @@ fn lending(name: &str) -> (raw::Lending, PlainLending) {
     }
 }
 
-/// Calls both with two files and a lent buffer of this length and compares answers, buffers and guard bytes. Hands back what was written.
-fn lent(name: &str, one: &[u8], other: &[u8], length: usize) -> (Answer, Vec<u8>) {
-    let (call, plain_call) = lending(name);
+/// Calls both with a lent buffer of this length and compares answers, buffers and guard bytes. Hands back what was written.
+fn lent_to_both(
+    name: &str,
+    files: &[&[u8]],
+    length: usize,
+    call: impl FnOnce(*mut u8) -> Answer,
+    plain_call: impl FnOnce(&mut [u8]) -> Answer,
+) -> (Answer, Vec<u8>) {
     let before: Vec<u8> = (0..length + 2 * GUARD).map(|i| (i * 89 + 165) as u8).collect();
     let (mut left, mut right) = (before.clone(), before.clone());
-    let library = unsafe { call(one.as_ptr(), one.len(), other.as_ptr(), other.len(), left[GUARD..].as_mut_ptr(), length) };
-    let plain = plain_call(&TODAY, one, other, &mut right[GUARD..GUARD + length]);
+    let library = call(left[GUARD..].as_mut_ptr());
+    let plain = plain_call(&mut right[GUARD..GUARD + length]);
     let silent = plain.number == 0 || right == before;
     assert!(
         library == plain && left == right && silent,
-        "{name} with {length} bytes lent\nlibrary {library:?}\nplain   {plain:?}\nlibrary's buffer {}\nplain's buffer   {}\nfiles {} {}",
+        "{name} with {length} bytes lent\nlibrary {library:?}\nplain   {plain:?}\nlibrary's buffer {}\nplain's buffer   {}\nfiles {}",
         hex(&left),
         hex(&right),
-        hex(one),
-        hex(other)
+        files.iter().map(|file| hex(file)).collect::<Vec<_>>().join(" ")
     );
     right.truncate(GUARD + plain.written);
     (plain, right.split_off(GUARD))
+}
+
+/// Makes a call with two files by both and compares.
+fn lent(name: &str, one: &[u8], other: &[u8], length: usize) -> (Answer, Vec<u8>) {
+    let (call, plain_call) = lending(name);
+    let library = |out| unsafe { call(one.as_ptr(), one.len(), other.as_ptr(), other.len(), out, length) };
+    lent_to_both(name, &[one, other], length, library, |out| plain_call(&TODAY, one, other, out))
+}
+
+/// Reads a text of PRISM by both and compares.
+pub fn read_prism(text: &[u8], length: usize) -> (Answer, Vec<u8>) {
+    let library = |out| unsafe { raw::zolkirta_read_prism(text.as_ptr(), text.len(), out, length) };
+    lent_to_both("read_prism", &[text], length, library, |out| TODAY.read_prism(text, out))
 }
 
 /// Judges by both and compares.
@@ -239,9 +256,18 @@ pub type Said = (Answer, u32, Vec<u8>);
 /// Who answers a line: the plain judge at some limits, both, or the safe calls.
 pub trait Answering {
     fn fetch(&self, model: &[u8], state: u32) -> Answer;
+    fn read_prism(&self, text: &[u8], length: usize) -> (Answer, Vec<u8>);
     /// A call, by its name, with two files and a lent buffer of this length, and what it writes there.
     fn lent(&self, call: &str, one: &[u8], other: &[u8], length: usize) -> (Answer, Vec<u8>);
     fn alike(&self, model: &[u8], certificate: &[u8], named: [u32; 3]) -> AlikeAnswer;
+}
+
+/// What a call answers that is lent a buffer of this length, and what it writes there.
+fn written(length: usize, call: impl FnOnce(&mut [u8]) -> Answer) -> (Answer, Vec<u8>) {
+    let mut buffer = vec![0; length];
+    let answer = call(&mut buffer);
+    buffer.truncate(answer.written);
+    (answer, buffer)
 }
 
 /// The plain judge by itself.
@@ -250,11 +276,12 @@ impl Answering for Limits {
         self.fetch(model, state)
     }
 
+    fn read_prism(&self, text: &[u8], length: usize) -> (Answer, Vec<u8>) {
+        written(length, |buffer| self.read_prism(text, buffer))
+    }
+
     fn lent(&self, call: &str, one: &[u8], other: &[u8], length: usize) -> (Answer, Vec<u8>) {
-        let mut buffer = vec![0; length];
-        let answer = lending(call).1(self, one, other, &mut buffer);
-        buffer.truncate(answer.written);
-        (answer, buffer)
+        written(length, |buffer| lending(call).1(self, one, other, buffer))
     }
 
     fn alike(&self, model: &[u8], certificate: &[u8], [count, s, t]: [u32; 3]) -> AlikeAnswer {
@@ -268,6 +295,10 @@ pub struct Both;
 impl Answering for Both {
     fn fetch(&self, model: &[u8], state: u32) -> Answer {
         fetch(model, state)
+    }
+
+    fn read_prism(&self, text: &[u8], length: usize) -> (Answer, Vec<u8>) {
+        read_prism(text, length)
     }
 
     fn lent(&self, call: &str, one: &[u8], other: &[u8], length: usize) -> (Answer, Vec<u8>) {
@@ -306,12 +337,11 @@ impl Line {
 
     /// What is said to the line, as far as its file tells it: before K2 no state and no remainder.
     pub fn said_by(&self, calls: &impl Answering) -> Said {
+        let lent = |(answer, out)| (answer, 0, out);
         let (mut answer, yes, out) = match (&self.numbers[..], &self.files[..]) {
             (&[state], [model]) if self.call == "fetch" => (calls.fetch(model, state), 0, Vec::new()),
-            (&[length], [one, other]) => {
-                let (answer, out) = calls.lent(&self.call, one, other, length as usize);
-                (answer, 0, out)
-            }
+            (&[length], [text]) if self.call == "read_prism" => lent(calls.read_prism(text, length as usize)),
+            (&[length], [one, other]) => lent(calls.lent(&self.call, one, other, length as usize)),
             (&[count, s, t], [model, certificate]) if self.call == "alike" => {
                 let said = calls.alike(model, certificate, [count, s, t]);
                 (said.answer, said.alike, Vec::new())
@@ -324,10 +354,18 @@ impl Line {
         (answer, yes, out)
     }
 
+    /// The limits that the line was written under.
+    pub fn limits(&self) -> &'static Limits {
+        match self.name {
+            "k7" | "k9" => &TODAY,
+            _ => &BEFORE_K7,
+        }
+    }
+
     /// Whether the line is about the limits from before K7: one of the four numbers that go by them refuses it, and by today's limits the
     /// plain judge says something else. That it says the line's own answer by the older ones is a test of its own.
     pub fn about_the_limits(&self) -> bool {
-        self.name != "k7" && matches!(self.number(), 3 | 8 | 13 | 25) && self.said_by(&TODAY) != self.said
+        self.limits() == &BEFORE_K7 && matches!(self.number(), 3 | 8 | 13 | 25) && self.said_by(&TODAY) != self.said
     }
 
     /// Asks and compares with the line.
@@ -354,7 +392,7 @@ impl Line {
 }
 
 /// The files of vectors, in the order in which they came.
-pub const NAMES: [&str; 7] = ["base", "k1", "k2", "k3", "k4", "k6", "k7"];
+pub const NAMES: [&str; 8] = ["base", "k1", "k2", "k3", "k4", "k6", "k7", "k9"];
 
 /// The lines of a file of vectors.
 fn lines_of(name: &'static str) -> Vec<Line> {
@@ -399,6 +437,11 @@ pub fn accepted() -> Vec<(Vec<u8>, Vec<u8>)> {
 /// The accepted cost pairs of the vectors.
 pub fn accepted_costs() -> Vec<(Vec<u8>, Vec<u8>)> {
     pairs_of(|v| v.call == "judge_costs" && v.number() == 0)
+}
+
+/// The texts of the vectors that are read.
+pub fn accepted_texts() -> Vec<Vec<u8>> {
+    lines_of("k9").into_iter().filter(|v| v.number() == 0).map(|mut v| v.files.remove(0)).collect()
 }
 
 /// A seeded generator of numbers; a test that fails says its seed.

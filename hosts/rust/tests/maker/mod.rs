@@ -4,6 +4,7 @@
 
 pub mod families;
 pub mod files;
+pub mod prism;
 mod question;
 pub mod random;
 mod simplex;

@@ -1,11 +1,13 @@
 //! Document 01's judge, reduce and fetch, document 02's join and alike (K1), the state and the remainder of 16, 20 and 21 (K2), its merged
-//! transitions that are the same as fractions (K3), its block sheet (K4), its cost pairs (K6) and its limits (K7) in plain Rust, written from
-//! the documents alone: what the library is compared with. Every call is one of a set of limits, today's or older ones.
+//! transitions that are the same as fractions (K3), its block sheet (K4), its cost pairs (K6), its limits (K7) and its texts of PRISM (K9) in
+//! plain Rust, written from the documents alone: what the library is compared with. Every call is one of a set of limits, today's or older ones.
 //!
 //! Every sum fits an i64. Weights of a transition add up to at most 65,535, so weights times prices stay below 2^47 and a difference
 //! of two such sums below 2^48; L times cost times d is below 2^53. k times d is below 2^48, and a state's equation has at most 768 of
 //! them (each layer and transition once), 128 w and one D: below 2^58. d0 times the at most 128 w onto a state is below 2^55. k times d times
 //! cost is below 2^54, and at most 511 of them are paid: 256 transitions, of which all but the moves stand in two layers. That is below 2^63.
+
+mod prism;
 
 pub use zolkirta::raw::{AlikeAnswer, Answer};
 

@@ -1,6 +1,7 @@
 //! What the library answers to each call.
 
 use crate::automaton::{decoded, states, Transition};
+use crate::prism;
 use zolkirta::{OwnedRefusal, Refusal, MODEL, SHEET, STATES};
 
 /// What an accepted call found.
@@ -22,6 +23,11 @@ pub enum Found {
     },
     Fetched(Vec<Transition>),
     Alike(bool),
+    /// The model of a text, with the names of its actions from 1 on.
+    Read {
+        names: Vec<String>,
+        model: Vec<u8>,
+    },
 }
 
 pub type Answer = Result<Found, OwnedRefusal>;
@@ -29,12 +35,13 @@ pub type Answer = Result<Found, OwnedRefusal>;
 /// A call of the library that lends a buffer.
 type Lending = for<'a, 'b> fn(&'a [u8], &'a [u8], &'b mut [u8]) -> Result<&'b [u8], Refusal<'a>>;
 
+fn owned(written: Result<&[u8], Refusal>) -> Result<Vec<u8>, OwnedRefusal> {
+    written.map(<[u8]>::to_vec).map_err(Refusal::into_owned)
+}
+
 /// What a call writes into a buffer of so many bytes.
 fn lent(call: Lending, files: &[&[u8]], most: usize) -> Result<Vec<u8>, OwnedRefusal> {
-    let mut buffer = vec![0; most];
-    let written = call(files[0], files[1], &mut buffer).map_err(Refusal::into_owned)?.len();
-    buffer.truncate(written);
-    Ok(buffer)
+    owned(call(files[0], files[1], &mut vec![0; most]))
 }
 
 /// The block of each state.
@@ -86,4 +93,9 @@ pub fn alike(files: &[&[u8]], asked: &[u32]) -> Answer {
     // A number that would pass 32 bits stays the largest of them, which is no state of any model.
     let alike = zolkirta::alike(&joined, first_count, certificate, s, first_count.saturating_add(t));
     alike.map(Found::Alike).map_err(Refusal::into_owned)
+}
+
+pub fn read_prism(files: &[&[u8]], _: &[u32]) -> Answer {
+    let model = owned(zolkirta::read_prism(files[0], &mut [0; MODEL]))?;
+    Ok(Found::Read { names: prism::names(files[0]), model })
 }

@@ -1,6 +1,6 @@
 //! The calls: what each is named, what it takes, and what it is for.
 
-use crate::answer::{alike, fetch, join, judge, judge_costs, reduce, sheet, Answer};
+use crate::answer::{alike, fetch, join, judge, judge_costs, read_prism, reduce, sheet, Answer};
 use zolkirta::File;
 
 /// A file that a call takes: the word for it in usage lines, which file of the library it is, and its name in sentences.
@@ -14,6 +14,7 @@ const MODEL: Role = Role { word: "MODEL", file: File::Model, said: "model" };
 const CERTIFICATE: Role = Role { word: "CERTIFICATE", file: File::Certificate, said: "certificate" };
 const FIRST: Role = Role { word: "FIRST", file: File::Model, said: "first model" };
 const SECOND: Role = Role { word: "SECOND", file: File::SecondModel, said: "second model" };
+const TEXT: Role = Role { word: "TEXT", file: File::Text, said: "text" };
 
 /// Whether a call writes a file.
 pub enum Writes {
@@ -53,7 +54,7 @@ impl Call {
     }
 }
 
-pub const CALLS: [Call; 7] = [
+pub const CALLS: [Call; 8] = [
     Call {
         name: "judge",
         files: &[MODEL, CERTIFICATE],
@@ -124,5 +125,17 @@ pub const CALLS: [Call; 7] = [
                joined model, which join writes for solvers; alike joins the two itself. Where\n\
                it is refused, nothing is said of the states: neither yes nor no.",
         make: alike,
+    },
+    Call {
+        name: "read-prism",
+        files: &[TEXT],
+        states: &[],
+        writes: Writes::Always,
+        purpose: "writes the model of PRISM's transition file of a decision process",
+        more: "TEXT is what prism writes with -exporttrans. Each choice becomes a transition;\n\
+               one without a name is internal, and the lines after the first say which\n\
+               name has which action. Labels and rewards of the PRISM model stand in other\n\
+               files and are not read, so states that differ only there may be merged.",
+        make: read_prism,
     },
 ];

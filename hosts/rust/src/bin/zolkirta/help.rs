@@ -45,24 +45,26 @@ Status:
                         cannot be read or written; standard error says which
 
 A refusal has its number and meaning; then the file at fault, and the byte of it
-where the record at fault begins; then for 16, 20 and 21 a state, and by how
-much the left side of its condition or equation is off:
+where the record or line at fault begins; then for 16, 20 and 21 a state, and by
+how much the left side of its condition or equation is off:
   16                    how far d0 times A is above what it must be below
   20                    how many arrive that are too many, or too few
   21                    how many d0 times the w onto it is too many, or too few
-A second line has the file's name, and its bytes from there on.
+A second line has the file's name, and its bytes from there on, or the line of a
+text, by its number from 1 on.
 
 Fields of the JSON object, each there always, null where it does not apply; with
 status 2 there is no object:
   call                  its name
   number, meaning       0, or the refusal's number; what it means
-  file, name            the file at fault, 1 (first) model, 2 certificate,
-                        3 second model; its name
-  place                 the byte of it where the record at fault begins
+  file, name            the file at fault, 1 (first) model or text,
+                        2 certificate, 3 second model; its name
+  place                 the byte of it where the record or line at fault begins
   state, remainder      for 16, 20 and 21: the state; left side less right side
   blocks                the block of each state, from state 0 on
   written, output       how many bytes were written; the name of their file
   states, transitions   how many the model written has
+  names                 the names of its actions in the text, from action 1 on
   sheet                 the sheet, where no -o is given
   run                   the transitions fetched, each with number, source,
                         action (0 is internal), denominator, and targets, each

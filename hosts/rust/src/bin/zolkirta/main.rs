@@ -1,4 +1,4 @@
-//! `zolkirta`, the tool: judges, reduces, joins and compares models by file name. Its help says how.
+//! `zolkirta`, the tool: reads, judges, reduces, joins and compares models by file name. Its help says how.
 
 mod answer;
 mod automaton;
@@ -10,6 +10,7 @@ mod input;
 mod json;
 mod object;
 mod output;
+mod prism;
 mod text;
 mod verdict;
 

@@ -31,6 +31,7 @@ fn object(verdict: &Verdict) -> Value {
         ("output", output.filter(|_| product.is_some()).map(|output| output.name()).into()),
         ("states", model.map(states).into()),
         ("transitions", model.map(transitions).into()),
+        ("names", found.and_then(names).into()),
         ("sheet", found.filter(|_| output.is_none()).and_then(sheet).into()),
         ("run", found.and_then(run).into()),
         ("alike", found.and_then(alike).into()),
@@ -40,6 +41,13 @@ fn object(verdict: &Verdict) -> Value {
 fn blocks(found: &Found) -> Option<Value> {
     match found {
         Found::Judged(blocks) | Found::Reduced { blocks, .. } | Found::Sheet { blocks, .. } => Some(Value::list(blocks.iter().copied())),
+        _ => None,
+    }
+}
+
+fn names(found: &Found) -> Option<Value> {
+    match found {
+        Found::Read { names, .. } => Some(Value::list(names.iter().map(String::as_str))),
         _ => None,
     }
 }

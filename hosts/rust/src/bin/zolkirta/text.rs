@@ -3,6 +3,7 @@
 use crate::answer::Found;
 use crate::automaton::{states, transitions, Target, Transition};
 use crate::input::shown_input;
+use crate::prism::Line;
 use crate::verdict::{Place, Verdict};
 use std::fmt::Write;
 use zolkirta::{Difference, OwnedRefusal};
@@ -14,8 +15,9 @@ const NOT_IN_PARTS: u32 = 27;
 /// The refusal whose left side must be below the right one; others with a difference ask for equal sides.
 const LAST_PRICES: u32 = 16;
 
-/// How many bytes of a record at fault are shown.
+/// How many bytes of a record at fault are shown, and of a line.
 const SHOWN_BYTES: usize = 16;
+const SHOWN_OF_LINE: usize = 60;
 
 pub fn lines(verdict: &Verdict) -> String {
     match &verdict.answer {
@@ -41,6 +43,10 @@ fn first_line(verdict: &Verdict, found: &Found) -> String {
             let (word, behaves) = if *yes { ("yes", "behaves") } else { ("no", "does not behave") };
             format!("{word}: state {s} of {} {behaves} as state {t} of {}", verdict.shown(0), verdict.shown(1))
         }
+        Found::Read { names, model } => {
+            let [states, transitions] = [counted(states(model), "state"), counted(transitions(model), "transition")];
+            format!("accepted: {states}, {transitions}, {}", counted(names.len(), "named action"))
+        }
     }
 }
 
@@ -49,15 +55,21 @@ fn further_lines(verdict: &Verdict, found: &Found) -> String {
         Found::Judged(blocks) => block_lines(blocks),
         Found::Fetched(run) => run.iter().map(transition_line).collect(),
         Found::Alike(_) => String::new(),
-        Found::Reduced { merged: model, .. } | Found::Joined { joined: model, .. } => {
-            let sizes = [counted(states(model), "state"), counted(transitions(model), "transition"), counted(model.len(), "byte")];
-            written_line(verdict, &sizes.join(", "))
+        Found::Reduced { merged: model, .. } | Found::Joined { joined: model, .. } => model_line(verdict, model),
+        Found::Read { names, model } => {
+            let name_lines: String = names.iter().zip(1..).map(|(name, action)| format!("action {action}: {name}\n")).collect();
+            name_lines + &model_line(verdict, model)
         }
         Found::Sheet { sheet, .. } if verdict.command.output.is_none() => sheet.clone(),
         Found::Sheet { sheet, .. } => {
             written_line(verdict, &format!("{}, {}", counted(sheet.lines().count(), "line"), counted(sheet.len(), "byte")))
         }
     }
+}
+
+fn model_line(verdict: &Verdict, model: &[u8]) -> String {
+    let sizes = [counted(states(model), "state"), counted(transitions(model), "transition"), counted(model.len(), "byte")];
+    written_line(verdict, &sizes.join(", "))
 }
 
 fn written_line(verdict: &Verdict, sizes: &str) -> String {
@@ -124,14 +136,31 @@ fn off_by(number: u32, Difference { state, remainder }: Difference) -> String {
     format!(", state {state}, {words}")
 }
 
-/// The file by its own name, and its bytes from the place on.
+/// The file by its own name, and the line or the bytes from the place on.
 fn stretch_line(place: Place) -> String {
     let name = shown_input(place.name);
-    let bytes: String = place.stretch.iter().take(SHOWN_BYTES).map(|byte| format!(" {byte:02x}")).collect();
-    match place.stretch.len() {
-        0 => format!("in {name}, which ends there\n"),
-        length if length > SHOWN_BYTES => format!("in {name}, from there on:{bytes} and {}\n", counted(length - SHOWN_BYTES, "more byte")),
-        _ => format!("in {name}, from there on:{bytes}\n"),
+    match place.line {
+        _ if place.stretch.is_empty() => format!("in {name}, which ends there\n"),
+        Some(line) => format!("in {name}, {}\n", shown_line(line)),
+        None => {
+            let bytes: String = place.stretch.iter().take(SHOWN_BYTES).map(|byte| format!(" {byte:02x}")).collect();
+            format!("in {name}, from there on:{bytes}{}\n", more_bytes(place.stretch, SHOWN_BYTES))
+        }
+    }
+}
+
+/// A line by its number and its text, in quotes, so that spaces at its end are seen.
+fn shown_line(Line { number, bytes, has_newline }: Line) -> String {
+    let text = bytes[..bytes.len().min(SHOWN_OF_LINE)].escape_ascii();
+    let end = if has_newline { "" } else { ", without a newline" };
+    format!("line {number}: \"{text}\"{}{end}", more_bytes(bytes, SHOWN_OF_LINE))
+}
+
+/// How many bytes there are beyond those that are shown.
+fn more_bytes(bytes: &[u8], shown: usize) -> String {
+    match bytes.len() {
+        length if length > shown => format!(" and {}", counted(length - shown, "more byte")),
+        _ => String::new(),
     }
 }
 

@@ -3,6 +3,7 @@
 use crate::answer::{Answer, Found};
 use crate::command::Command;
 use crate::input::shown_input;
+use crate::prism::{line_at, Line};
 use std::ffi::OsString;
 use zolkirta::{File, OwnedRefusal};
 
@@ -22,6 +23,8 @@ pub struct Place<'a> {
     pub byte: usize,
     /// Its bytes from there on.
     pub stretch: &'a [u8],
+    /// Where it is a text, the line that begins there, if one does.
+    pub line: Option<Line<'a>>,
 }
 
 impl Verdict<'_> {
@@ -35,6 +38,7 @@ impl Verdict<'_> {
         match &self.answer {
             Ok(Found::Reduced { merged, .. }) => Some(merged),
             Ok(Found::Joined { joined, .. }) => Some(joined),
+            Ok(Found::Read { model, .. }) => Some(model),
             Ok(Found::Sheet { sheet, .. }) => Some(sheet.as_bytes()),
             _ => None,
         }
@@ -44,14 +48,17 @@ impl Verdict<'_> {
     pub fn place(&self, refusal: &OwnedRefusal) -> Option<Place<'_>> {
         let roles = self.command.call.files;
         let at = roles.iter().position(|role| Some(role.file) == refusal.file)?;
-        let stretch = self.files[at].get(refusal.place..).unwrap_or_default();
-        Some(Place { said: roles[at].said, name: &self.command.files[at], byte: refusal.place, stretch })
+        let (file, byte) = (&self.files[at], refusal.place);
+        let stretch = file.get(byte..).unwrap_or_default();
+        let line = if refusal.file == Some(File::Text) { line_at(file, byte) } else { None };
+        Some(Place { said: roles[at].said, name: &self.command.files[at], byte, stretch, line })
     }
 
     /// The call's models, each with its name as it is shown.
     pub fn models(&self) -> impl Iterator<Item = (String, &[u8])> {
         let roles = self.command.call.files.iter().enumerate();
-        roles.filter(|(_, role)| role.file != File::Certificate).map(|(at, _)| (self.shown(at), self.files[at].as_slice()))
+        let models = roles.filter(|(_, role)| matches!(role.file, File::Model | File::SecondModel));
+        models.map(|(at, _)| (self.shown(at), self.files[at].as_slice()))
     }
 
     /// The name of a file of the call, as it is shown.

@@ -1,0 +1,1 @@
+// Numbers in decimal, and the greatest common divisor: no code.

@@ -1,0 +1,3 @@
+pub mod LineRead
+pub mod LineParts
+pub mod LineLaws

@@ -1,0 +1,2 @@
+pub mod Prism
+pub mod PrismLaws

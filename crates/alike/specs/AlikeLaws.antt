@@ -18,6 +18,7 @@ use Rattle.rules.specs.argument.JudgedFirst.{Found}
 use Rattle.rules.specs.argument.PlainRules.{plainRules}
 use Rattle.joined.specs.definitions.AlikeAnswer.{Named, partsNumber, testsParts, alikeSays, AlikeNumber, SaysAlike}
 use Rattle.joined.specs.argument.AlikeAnswerLaws.{parts-named, parts-follow, alike-numbered, says-alike, alike-refused, found-parts, found-parted, found-said}
+use Rattle.limits.specs.TermsBy.{currentTerms}
 use Rattle.rule_kind.specs.declared.Kind.the-variants.{Plain}
 use Rattle.answer.specs.declared.Answer.{Answer}
 use Rattle.answer.specs.Answered.{OutcomeIs}
@@ -44,17 +45,17 @@ module _ {M C : List ℕ} (b : Bytes M) (c : Bytes C) (x : Named) where
         answers =
             record {
               outcome = o;
-              demands = demands-hold plainRules (testsParts x) (parts-follow x) M C [] [] (r .number) b c number (o .gives .buffers) AlikeNumber (subst AlikeNumber (sym number) (alike-numbered x M C));
+              demands = demands-hold plainRules (testsParts x) (parts-follow (plainRules .limits) (plainRules .widths) (plainRules .refutations) x) M C [] [] (r .number) b c number (o .gives .buffers) AlikeNumber (subst AlikeNumber (sym number) (alike-numbered x M C));
             };
         says = subst (SaysAlike plainPairs x M C (r .number)) (sym s) (says-alike plainRules M C b c x (r .number) number);
       }
 
-  pub pair-refused : {r : Answer} {said : ℕ} → RefusedAs Plain M C (limits .states) r → said ≡ 0 → AlikeAnswered M C x (record { answer = r; alike = said })
+  pub pair-refused : {r : Answer} {said : ℕ} → RefusedAs Plain currentTerms M C (limits .states) r → said ≡ 0 → AlikeAnswered M C x (record { answer = r; alike = said })
   pair-refused {r} {said} a e =
       let o = a .refuses (testsParts x) [] (room x) in
       told r said o (e ∙ alike-refused plainRules M C x (λ z. a .some (ap (λ (y : rules.Answer). y .number) (o .gives .answer) ∙ z)))
 
-  module _ {n count at : ℕ} (a : AcceptedAt Plain M C (limits .states) n count at) where
+  module _ {n count at : ℕ} (a : AcceptedAt Plain currentTerms M C (limits .states) n count at) where
     abbrev blocks : List ℕ
     blocks = take (at + n - at) (drop at C)
 

@@ -8,6 +8,7 @@ ghost use Rattle.alike.specs.Alike.{named, Compares, AlikeAnswered};
 use answer::Answer;
 use judgement::Verdict;
 use limits::STATES;
+use limits::Terms;
 use rule_kind::Kind;
 
 // What the call answers, and what it says: 1 for yes, 0 for no.
@@ -78,7 +79,7 @@ pub fn alike_answer(
             alike: 0,
         };
     }
-    let found = judgement::judge_files(Kind::Plain, model, certificate, STATES);
+    let found = judgement::judge_files(Kind::Plain, Terms::Any, model, certificate, STATES);
     match found {
         Verdict::Accepted {
             states,

@@ -1,5 +1,5 @@
 -- What the judges of the head and of the blocks hand up, in document 01's terms.
-use Prim.Native.Nat.{ℕ}
+use Prim.Native.Nat.{ℕ, _+_}
 use mathlib.Core.Path.{_≡_}
 use mathlib.Core.List.{List}
 use Rattle.bisimulation.specs.definitions.Pairs.{Pairs}
@@ -22,4 +22,4 @@ pub record HeadJudged (kind : Kind) (C : List ℕ) (r : Fault) : Type 0 where
 -- the blocks record at a place and what follows, judged for the pairs that the rows hold
 pub record JudgesBlocks (rule : FileRule) (s C : List ℕ) (n : ℕ) (rows : List ℕ) (at : ℕ) (r : Judged) : Type 0 where
   pub answer : (R : Pairs) → HoldsPairs n R rows → judgementOf C n r ≡ judgeBlocks limits rule (automatonIn s) C R at
-  pub inside : InFile C n r
+  pub inside : InFile C n (at + 2) r

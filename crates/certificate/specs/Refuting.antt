@@ -11,6 +11,7 @@ use Rattle.rules.specs.definitions.Limits.{limits}
 use Rattle.rules.specs.definitions.Faults as rules
 use Rattle.rules.specs.definitions.Faults.{certificateRecord}
 use Rattle.rules.specs.definitions.Certificate.{FileRule, refutationCount, certificateHeadFault, challengerAt, defenderAt, afterRefutation, refutationFault, pairsAfter, blocksAt}
+use Rattle.rules.specs.definitions.CertificateAt.{afterRefutations, blocksPlace}
 use Rattle.rules.specs.definitions.Judging.{Judgement, refusedIn, refuseRecordAt, questions, judgeFlows, judgeBlocks, judgeRefutations, judgeCertificate}
 use Rattle.rules.specs.argument.FaultLaws.{none-first, certificate-refuses, opened}
 use Rattle.field.specs.declared.Cursor.{Cursor}
@@ -26,7 +27,7 @@ use Rattle.refutation.specs.declared.Refuted.{Refuted}
 use Rattle.refutation.specs.RefutationJudged.{RefutationJudged}
 use Rattle.flows.specs.declared.Judged.{Judged}
 use Rattle.flows.specs.declared.Judged.the-variants.{Refused}
-use Rattle.flows.specs.FlowsJudged.{Judges, judges, JudgesFlows}
+use Rattle.flows.specs.FlowsJudged.{InFile, Judges, judges, JudgesFlows}
 use Rattle.rules.specs.argument.JudgingLaws.{record-stops, record-passes}
 use Rattle.certificate.specs.declared.Passed.{Passed}
 use Rattle.certificate.specs.CertificateJudged.{JudgesBlocks}
@@ -58,16 +59,21 @@ module _ (rule : FileRule) {s C table : List ℕ} {n count : ℕ} (k : Known s n
         inside = flows .inside;
       }
 
--- before a refutation, with so many left: the rows hold the pairs left, and the rest is judged as all is
+-- the whole file is judged; accepted blocks stand past the two bytes that begin their record
+abbrev pub JudgesFile : FileRule → (s C : List ℕ) → ℕ → Judged → Type 0
+JudgesFile rule s C n = Judges C n (blocksPlace rule (automatonIn s) C + 2) (judgeCertificate limits rule (automatonIn s) C)
+
+-- before a refutation, with so many left: the rows hold the pairs left, the rest is judged as all is, and the blocks record stands after it
 pub record Refuting (rule : FileRule) (s C : List ℕ) (n : ℕ) (rows : List ℕ) (left at : ℕ) : Type 0 where
   pub pairs : Pairs
   pub held : HoldsPairs n pairs rows
   pub judged : judgeRefutations limits rule (automatonIn s) C left pairs at ≡ judgeCertificate limits rule (automatonIn s) C
   pub inside : at ≤ length C
+  pub ends : afterRefutations rule (automatonIn s) C left at ≡ blocksPlace rule (automatonIn s) C
 
 -- one of the refutations is refused, or none is: then none is left
 pub record RefutationsJudged (rule : FileRule) (s C : List ℕ) (n : ℕ) (rows : List ℕ) (r : Passed) : Type 0 where
-  pub stops : (r .fault .number ≡ 0 → ⊥) → Judges C n (judgeCertificate limits rule (automatonIn s) C) (Refused (r .fault))
+  pub stops : (r .fault .number ≡ 0 → ⊥) → JudgesFile rule s C n (Refused (r .fault))
   pub passes : r .fault .number ≡ 0 → Refuting rule s C n rows 0 (r .next .at)
 
 module _ (rule : FileRule) (A : Automaton) (C : List ℕ) (R : Pairs) where
@@ -83,14 +89,27 @@ module _ (rule : FileRule) (A : Automaton) (C : List ℕ) (R : Pairs) where
   none-left zero at none = refl
   none-left (suc left) at none = absurd (omega arith)
 
+module _ (rule : FileRule) (A : Automaton) (C : List ℕ) where
+  after-some : (left at : ℕ) → 0 < left → afterRefutations rule A C left at ≡ afterRefutations rule A C (left - 1) (afterRefutation rule A C at)
+  unfolding afterRefutations
+  after-some zero at some = absurd (omega arith)
+  after-some (suc left) at some =
+      let one : left ≡ suc left - 1 = omega arith in
+      ap (λ (m : ℕ). afterRefutations rule A C m (afterRefutation rule A C at)) one
+
+  after-none : (left at : ℕ) → left ≤ 0 → afterRefutations rule A C left at ≡ at
+  unfolding afterRefutations
+  after-none zero at none = refl
+  after-none (suc left) at none = absurd (omega arith)
+
 module _ (rule : FileRule) (s C : List ℕ) (n : ℕ) where
   -- the head
-  pub head-stops : (f : Fault) → Placed (certificateHeadFault limits rule C) 0 f → (f .number ≡ 0 → ⊥) → Judges C n (judgeCertificate limits rule (automatonIn s) C) (Refused f)
+  pub head-stops : (f : Fault) → Placed (certificateHeadFault limits rule C) 0 f → (f .number ≡ 0 → ⊥) → JudgesFile rule s C n (Refused f)
   unfolding judgeCertificate
   head-stops f p some = judges (Refused f) (record-refused f _ (p .is) (p .at) some) (omega (arith, p .at))
 
   pub refuting-start : (f : Fault) {rows : List ℕ} {left at : ℕ} → Placed (certificateHeadFault limits rule C) 0 f → f .number ≡ 0 → left ≡ refutationCount C → at ≡ 4 → HoldsPairs n (equalLabels (automatonIn s)) rows → Refuting rule s C n rows left at
-  unfolding judgeCertificate
+  unfolding judgeCertificate blocksPlace
   refuting-start f {left = left} {at = at} p good many place held =
       record {
         pairs = equalLabels (automatonIn s);
@@ -99,12 +118,13 @@ module _ (rule : FileRule) (s C : List ℕ) (n : ℕ) where
             ap₂ (λ (m k : ℕ). judgeRefutations limits rule (automatonIn s) C m (equalLabels (automatonIn s)) k) many place
             ∙ record-passes 0 (p .is) good refl;
         inside = omega (arith, place, head-whole rule C f (p .is) good);
+        ends = ap₂ (afterRefutations rule (automatonIn s) C) many place;
       }
 
   module _ {rows : List ℕ} {left at : ℕ} (going : Refuting rule s C n rows left at) where
     module _ {x y g : List ℤ} {r : Refuted} (j : RefutationJudged rule s C n rows at x y g r) (some : 0 < left) where
       -- a refutation that is refused
-      pub refuting-stops : (r .fault .number ≡ 0 → ⊥) → Judges C n (judgeCertificate limits rule (automatonIn s) C) (Refused (r .fault))
+      pub refuting-stops : (r .fault .number ≡ 0 → ⊥) → JudgesFile rule s C n (Refused (r .fault))
       refuting-stops bad =
           judges (Refused (r .fault))
           (record-refused (r .fault) _ (j .is (going .pairs) (going .held)) (j .place) bad ∙ sym (some-left rule (automatonIn s) C (going .pairs) left at some) ∙ going .judged)
@@ -125,22 +145,24 @@ module _ (rule : FileRule) (s C : List ℕ) (n : ℕ) where
                 ∙ sym (some-left rule (automatonIn s) C (going .pairs) left at some)
                 ∙ going .judged;
             inside = p .inside;
+            ends = ap (afterRefutations rule (automatonIn s) C (left - 1)) (p .next) ∙ sym (after-some rule (automatonIn s) C left at some) ∙ going .ends;
           }
         where
           rest : (v u place : ℕ) → Judgement
           rest v u place = judgeRefutations limits rule (automatonIn s) C (left - 1) (removed v u (going .pairs)) place
 
     -- after the last one
-    pub refuting-ends : left ≤ 0 → {r : Judged} → JudgesBlocks rule s C n rows at r → Judges C n (judgeCertificate limits rule (automatonIn s) C) r
+    pub refuting-ends : left ≤ 0 → {r : Judged} → JudgesBlocks rule s C n rows at r → JudgesFile rule s C n r
     refuting-ends none {r} b =
-        judges r (b .answer (going .pairs) (going .held) ∙ sym (none-left rule (automatonIn s) C (going .pairs) left at none) ∙ going .judged) (b .inside)
+        judges r (b .answer (going .pairs) (going .held) ∙ sym (none-left rule (automatonIn s) C (going .pairs) left at none) ∙ going .judged)
+        (subst (λ (place : ℕ). InFile C n (place + 2) r) (sym (after-none rule (automatonIn s) C left at none) ∙ going .ends) (b .inside))
 
 -- what the judge of all refutations hands up, where one is refused and where none is
 module _ {rule : FileRule} {s C : List ℕ} {n : ℕ} {rows : List ℕ} where
   pub refuting-from : {left at first : ℕ} → Refuting rule s C n rows left first → at ≡ first → Refuting rule s C n rows left at
   refuting-from {left} going e = subst (Refuting rule s C n rows left) (sym e) going
 
-  pub refutations-stop : {r : Passed} → ((r .fault .number ≡ 0 → ⊥) → Judges C n (judgeCertificate limits rule (automatonIn s) C) (Refused (r .fault))) → (r .fault .number ≡ 0 → ⊥) → RefutationsJudged rule s C n rows r
+  pub refutations-stop : {r : Passed} → ((r .fault .number ≡ 0 → ⊥) → JudgesFile rule s C n (Refused (r .fault))) → (r .fault .number ≡ 0 → ⊥) → RefutationsJudged rule s C n rows r
   refutations-stop j some = record { stops = j; passes = λ good. absurd (some good) }
 
   pub refutations-pass : (f : Fault) {left : ℕ} {next : Cursor} → faultOf f ≡ rules.noFault → Refuting rule s C n rows left (next .at) → left ≤ 0 → RefutationsJudged rule s C n rows (record { fault = f; next = next })

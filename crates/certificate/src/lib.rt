@@ -3,6 +3,7 @@ ghost use Prim.Native.Nat.{_+_, _≤_, _<_};
 ghost use mathlib.Core.Path.{_≡_};
 ghost use lib.ListN.{length};
 ghost use Rattle.rules.specs.definitions.Limits.{limits};
+ghost use Rattle.rules.specs.definitions.CertificateAt.{blocksPlace};
 ghost use Rattle.rule_kind.specs.Kinds.{ruleOf, KindStands};
 ghost use Rattle.rules.specs.definitions.Judging.{judgeCertificate};
 ghost use Rattle.transition.specs.Known.{automatonIn, Known};
@@ -125,7 +126,7 @@ pub fn judge_certificate(
     cert: &[u8],
 ) -> Judged
     requires { ⌜ Known (now s) n count (now places) × KindStands kind (now s) ⌝ }
-    ensures { λ r. ⌜ Judges (now (cert .entry)) n (judgeCertificate limits (ruleOf kind (now (s .entry))) (automatonIn (now (s .entry))) (now (cert .entry))) r ⌝ }
+    ensures { λ r. ⌜ Judges (now (cert .entry)) n (blocksPlace (ruleOf kind (now (s .entry))) (automatonIn (now (s .entry))) (now (cert .entry)) + 2) (judgeCertificate limits (ruleOf kind (now (s .entry))) (automatonIn (now (s .entry))) (now (cert .entry))) r ⌝ }
 {
     let head = head_fault(kind, cert);
     if head.number != 0 {

@@ -10,7 +10,7 @@ use Rattle.rules.specs.definitions.Faults as rules
 use Rattle.rules.specs.definitions.Faults.{modelRecord, openFault, Passes}
 use Rattle.rules.specs.definitions.Reading.{Scan, sound, refused, scanModel, refuseBytesLeft}
 use Rattle.rules.specs.argument.ReadingLaws.{refuse-stops, refuse-passes, refuse-cases, Sound, Tells, scan-tells}
-use Rattle.rules.specs.definitions.Limits.{limits}
+use Rattle.rules.specs.definitions.Limits.{Limits}
 use Rattle.fault.specs.declared.Fault.{Fault}
 use Rattle.model.specs.Scanned.{scanOf, PlacesHeld, PlacesOf, Scans, scans, left-held}
 use Rattle.model.specs.declared.Model.{Model}
@@ -85,20 +85,20 @@ module _ (s table : List ℕ) where
   record-held (refused f place) h = tt
 
 -- the model read, and what its costs make of it
-module _ {s table : List ℕ} {r : Scanned} (g : Scans s (scanModel limits s) r table) where
-  pub sound-fits : {m : Model} → r ≡ IsSound m → (m .end ≤ length s) × (m .transitions ≤ limits .transitions)
+module _ (L : Limits) {s table : List ℕ} {r : Scanned} (g : Scans s (scanModel L s) r table) where
+  pub sound-fits : {m : Model} → r ≡ IsSound m → (m .end ≤ length s) × (m .transitions ≤ L .transitions)
   sound-fits {m} e =
-      let told : Sound limits s (m .states) (m .actions) (m .transitions) (m .end) = subst (Tells limits s) (sym (g .answer) ∙ ap scanOf e) (scan-tells limits s) in
+      let told : Sound L s (m .states) (m .actions) (m .transitions) (m .end) = subst (Tells L s) (sym (g .answer) ∙ ap scanOf e) (scan-tells L s) in
       (told .inside, omega (arith, told .transitions, told .head .transitions))
 
-  pub cost-scans : {m : Model} (x : Scanned) → r ≡ IsSound m → scanOf x ≡ refuseBytesLeft s (scanCostRecord s (scanOf (IsSound m))) → Scans s (scanCostModel limits s) x table
+  pub cost-scans : {m : Model} (x : Scanned) → r ≡ IsSound m → scanOf x ≡ refuseBytesLeft s (scanCostRecord s (scanOf (IsSound m))) → Scans s (scanCostModel L s) x table
   unfolding scanCostModel
   cost-scans {m} x e q =
       scans x (q ∙ ap (λ (k : Scan). refuseBytesLeft s (scanCostRecord s k)) (sym (ap scanOf e) ∙ g .answer))
       (subst (PlacesOf s table) (sym q) (left-held s table _ (record-held s table (scanOf (IsSound m)) (subst (λ (y : Scanned). PlacesOf s table (scanOf y)) e (g .places)))))
       (g .size)
 
-  pub cost-refused : {f : Fault} → r ≡ Refused f → Scans s (scanCostModel limits s) (Refused f) table
+  pub cost-refused : {f : Fault} → r ≡ Refused f → Scans s (scanCostModel L s) (Refused f) table
   unfolding scanCostModel scanCostRecord refuseBytesLeft
   cost-refused {f} e =
       scans (Refused f) (ap (λ (k : Scan). refuseBytesLeft s (scanCostRecord s k)) (sym (ap scanOf e) ∙ g .answer)) tt (g .size)

@@ -5,10 +5,12 @@ ghost use Prim.Native.Nat.{_≤_};
 ghost use Rattle.rules.specs.definitions.Limits.{limits};
 ghost use Rattle.rules.specs.definitions.Reading.{headFault, sound, refuseBytesLeft};
 ghost use Rattle.limits.specs.Sizes as sizes;
+ghost use Rattle.limits.specs.TermsBy.{limitsBy};
 ghost use Rattle.cost_files.specs.definitions.CostReading.{scanCostRecord, scanCostModel};
 ghost use Rattle.model.specs.Scanned.{scanOf, Scans};
 use field::Cursor;
 use limits::COST;
+use limits::Terms;
 use model::Model;
 use model::Places;
 use model::Scanned;
@@ -46,12 +48,12 @@ fn scan_costs(s: &[u8], m: Model) -> Scanned
     )
 }
 
-// Refusals 1 to 9 and 29 from the labels on, or a sound model with costs that fills the file.
-pub fn scan_cost_model(s: &[u8], places: &mut Places) -> Scanned
+// Refusals 1 to 9, 34 and 29 from the labels on, or a sound model with costs that fills the file.
+pub fn scan_cost_model(s: &[u8], terms: Terms, places: &mut Places) -> Scanned
     requires { ⌜ (length (now places) ≡ sizes.places) × (headFault limits (now s) .number ≡ 0) ⌝ }
-    ensures { λ r. ⌜ Scans (now (s .entry)) (scanCostModel limits (now (s .entry))) r (now (places .exit)) ⌝ }
+    ensures { λ r. ⌜ Scans (now (s .entry)) (scanCostModel (limitsBy terms) (now (s .entry))) r (now (places .exit)) ⌝ }
 {
-    let scanned = model::scan_model(s, places);
+    let scanned = model::scan_model(s, terms, places);
     match scanned {
         Scanned::Sound(m) => scan_costs(s, m),
         Scanned::Refused(wrong) => Scanned::Refused(wrong),

@@ -5,12 +5,12 @@ use mathlib.Core.List.{List, [], _∷_}
 use lib.ListN.{length, getD}
 use lib.IntN.{ℤ}
 use native.Mathlib.Omega.{arith}
-use Rattle.rules.specs.definitions.Limits.{limits}
+use Rattle.rules.specs.definitions.Limits.{current}
 use Rattle.rules.specs.definitions.Reading.{runStart, runEnd}
 use Rattle.rules.specs.definitions.Answers.{Answer, refusalIn, answerWithoutPlace, fileOf, runAnswer, fetchAnswer, fetchOutcome}
 use Rattle.rules.specs.definitions.SoundModel.{Bytes}
 use Rattle.rules.specs.definitions.FetchDemands.{FetchDemands}
-use Rattle.rules.specs.argument.SoundModelLaws.{limits-fit}
+use Rattle.rules.specs.argument.SoundModelLaws.{current-fit}
 use Rattle.rules.specs.argument.AnswerLaws.{fetch-file, fetch-inside}
 use Rattle.rules.specs.argument.FetchHolds.{fetch-demands}
 use Rattle.fault.specs.Faults.{faultOf}
@@ -35,18 +35,18 @@ answerOf s (Unsound f) = refusalIn (faultOf f) 1 (f .place) (length s)
 
 -- the call promises what document 01 says of a fetch, and its demands; it lends no buffer
 abbrev pub FetchAnswered : (model : List ℕ) (state : ℕ) → declared.Answer → Type 0
-FetchAnswered model state r = CallAnswered (fetchOutcome limits model state) (model ∷ []) [] (FetchDemands limits model state) r
+FetchAnswered model state r = CallAnswered (fetchOutcome current model state) (model ∷ []) [] (FetchDemands current model state) r
 
 -- the same with the run or stretch as a part of the model. The slice is where the model lies, `lying` where the part does
 abbrev pub FetchHandedBack : (model : List ℕ) (slice : ℕ × ℕ) (fetched : ℕ) (number file place state : ℕ) (remainder : ℤ) (part : List ℕ) (lying : ℕ × ℕ) → Type 0
 FetchHandedBack model slice fetched number file place state remainder part lying =
-    CallHandedBack (fetchOutcome limits model fetched) (model ∷ []) (slice ∷ []) [] (FetchDemands limits model fetched) number file place state remainder [] part lying
+    CallHandedBack (fetchOutcome current model fetched) (model ∷ []) (slice ∷ []) [] (FetchDemands current model fetched) number file place state remainder [] part lying
 
-pub fetch-answered : (model : List ℕ) (state : ℕ) {r : declared.Answer} → Bytes model → Says (fetchAnswer limits model state) 0 r → FetchAnswered model state r
+pub fetch-answered : (model : List ℕ) (state : ℕ) {r : declared.Answer} → Bytes model → Says (fetchAnswer current model state) 0 r → FetchAnswered model state r
 unfolding fileOf
 fetch-answered model state {r} b s =
     let e = s .answer in
-    let name : r .file ≤ 1 = omega (arith, ap (λ (a : Answer). a .file) e, fetch-file limits model state) in
+    let name : r .file ≤ 1 = omega (arith, ap (λ (a : Answer). a .file) e, fetch-file current model state) in
     let here : r .file - 1 ≡ 0 = omega arith in
     record {
       outcome =
@@ -55,10 +55,10 @@ fetch-answered model state {r} b s =
             inside =
                 record {
                   named = name;
-                  fits = omega (arith, ap (λ (a : Answer). a .stretchStart) e, ap (λ (a : Answer). a .stretchLength) e, fetch-inside limits model state, ap (λ (k : ℕ). length (getD (model ∷ []) k [])) here);
+                  fits = omega (arith, ap (λ (a : Answer). a .stretchStart) e, ap (λ (a : Answer). a .stretchLength) e, fetch-inside current model state, ap (λ (k : ℕ). length (getD (model ∷ []) k [])) here);
                 };
           };
-      demands = fetch-demands limits limits-fit model state b (r .number) (ap (λ (a : Answer). a .number) e);
+      demands = fetch-demands current current-fit model state b (r .number) (ap (λ (a : Answer). a .number) e);
     }
 
 -- a run or stretch lies in the model, and is handed back

@@ -2,7 +2,7 @@
 ghost use Prim.Native.Nat.{_-_, _≤_, _<_};
 ghost use mathlib.Core.Path.{_≡_};
 ghost use denote.Ref.{ptr};
-ghost use Rattle.rules.specs.definitions.Limits.{limits};
+ghost use Rattle.rules.specs.definitions.Limits.{limits, current};
 ghost use Rattle.rules.specs.definitions.Reading.{statesOf, firstNotBelow};
 ghost use Rattle.rules.specs.definitions.Answers.{runAnswer, fetchAnswer};
 ghost use Rattle.transition.specs.Known.{Known};
@@ -10,6 +10,7 @@ ghost use Rattle.answer.specs.Answered.{Says};
 ghost use Rattle.fetch.specs.Fetched.{IsRun, answerOf, FetchAnswered, FetchHandedBack};
 use answer::Answer;
 use fault::Fault;
+use limits::Terms;
 use model::Places;
 use model::Scanned;
 
@@ -56,14 +57,14 @@ enum Fetched {
 
 // The run of the model's bytes that holds the transitions of a state, or why there is none.
 fn fetch_run(s: &[u8], state: usize) -> Fetched
-    ensures { λ r. ⌜ answerOf (now (s .entry)) r ≡ fetchAnswer limits (now (s .entry)) state ⌝ }
+    ensures { λ r. ⌜ answerOf (now (s .entry)) r ≡ fetchAnswer current (now (s .entry)) state ⌝ }
 {
     let wrong = model_head::head_fault(s);
     if wrong.number != 0 {
         return Fetched::Unsound(wrong);
     }
     let mut places = model::no_places();
-    let scanned = model::scan_whole(s, &mut places);
+    let scanned = model::scan_whole(s, Terms::Any, &mut places);
     match scanned {
         Scanned::Sound(m) => {
             let n = m.states;

@@ -24,19 +24,19 @@ abbrev pub judgedAnswer : ℕ → Judged → Answer
 judgedAnswer size (Accepted at) = answerWithoutPlace 0
 judgedAnswer size (Refused f) = refusalIn (faultOf f) 2 (f .place) size
 
--- the blocks, or the place of the refusal, lie in the file
-abbrev pub InFile : List ℕ → ℕ → Judged → Type 0
-InFile C n (Accepted at) = at + n ≤ length C
-InFile C n (Refused f) = f .place ≤ length C
+-- the blocks stand at this place; they, or the place of the refusal, lie in the file
+abbrev pub InFile : List ℕ → ℕ → ℕ → Judged → Type 0
+InFile C n blocks (Accepted at) = (at ≡ blocks) × (at + n ≤ length C)
+InFile C n blocks (Refused f) = f .place ≤ length C
 
--- the answer is this judgement, of a model file and this certificate file
-pub record Judges (C : List ℕ) (n : ℕ) (judgement : Judgement) (r : Judged) : Type 0 where
+-- the answer is this judgement, of a model file and this certificate file; accepted blocks stand at this place
+pub record Judges (C : List ℕ) (n blocks : ℕ) (judgement : Judgement) (r : Judged) : Type 0 where
   pub answer : judgementOf C n r ≡ judgement
   pub says : (M : List ℕ) → judgedAnswer (length C) r ≡ judgementAnswer (M ∷ C ∷ []) judgement
-  pub inside : InFile C n r
+  pub inside : InFile C n blocks r
 
 -- what the judgement is, the answer says
-pub judges : {C : List ℕ} {n : ℕ} {judgement : Judgement} (r : Judged) → judgementOf C n r ≡ judgement → InFile C n r → Judges C n judgement r
+pub judges : {C : List ℕ} {n blocks : ℕ} {judgement : Judgement} (r : Judged) → judgementOf C n r ≡ judgement → InFile C n blocks r → Judges C n blocks judgement r
 judges {C} {n} r e inside = record { answer = e; says = λ M. cases M r ∙ ap (judgementAnswer (M ∷ C ∷ [])) e; inside = inside }
   where
     cases : (M : List ℕ) (x : Judged) → judgedAnswer (length C) x ≡ judgementAnswer (M ∷ C ∷ []) (judgementOf C n x)
@@ -46,4 +46,4 @@ judges {C} {n} r e inside = record { answer = e; says = λ M. cases M r ∙ ap (
 -- the flows after n blocks, judged for the pairs that the rows hold
 pub record JudgesFlows (rule : FileRule) (s C : List ℕ) (n : ℕ) (rows : List ℕ) (blocks : ℕ) (r : Judged) : Type 0 where
   pub answer : (R : Pairs) → HoldsPairs n R rows → judgementOf C n r ≡ judgeFlows limits rule (automatonIn s) C R (take n (drop blocks C)) (questions (automatonIn s) (take n (drop blocks C))) (blocks + n)
-  pub inside : InFile C n r
+  pub inside : InFile C n blocks r

@@ -98,7 +98,7 @@ module _ (rule : FileRule) (s C : List ℕ) (n : ℕ) (rows : List ℕ) (blocks 
 
     pub going-ends : {at number : ℕ} → Going [] remainders target at number → blocks + n ≤ length C → length C ≤ at → JudgesFlows rule s C n rows blocks (Accepted blocks)
     unfolding judgeFlows
-    going-ends {at} g whole l = record { answer = λ R h. notLess _ l refl ∙ g .judged R h; inside = whole }
+    going-ends {at} g whole l = record { answer = λ R h. notLess _ l refl ∙ g .judged R h; inside = (refl, whole) }
 
   -- the same fault, and the same place
   pub unaccepted-as : {f g : Fault} → f ≡ g → JudgesFlows rule s C n rows blocks (Refused g) → JudgesFlows rule s C n rows blocks (Refused f)

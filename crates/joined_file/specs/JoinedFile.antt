@@ -2,7 +2,7 @@
 use Prim.Native.Nat.{ℕ, _+_, _-_, _≤_}
 use mathlib.Core.List.{List}
 use lib.ListN.{length, take, drop}
-use Rattle.rules.specs.definitions.Limits.{limits}
+use Rattle.rules.specs.definitions.Limits.{current}
 use Rattle.rules.specs.definitions.Model.{Model}
 use Rattle.rules.specs.definitions.Reading.{statesOf, modelAt}
 use Rattle.joined.specs.definitions.Joined.{joined, joinedFile}
@@ -29,10 +29,10 @@ pub record CanWriteRecords (first : List ℕ) (start : ℕ) (second : List ℕ) 
 -- two sound models whose joined model is within the limits
 pub record CanJoin (first : List ℕ) (m : Found) (second : List ℕ) (n : Found) (table : List ℕ) : Type 0 where
   pub models : BothSound first m second n table
-  pub within : Within limits (joinedIn first second)
+  pub within : Within current (joinedIn first second)
 
 -- and there is room for its file
 pub record CanWriteJoined (first : List ℕ) (m : Found) (second : List ℕ) (n : Found) (table out : List ℕ) : Type 0 where
   pub models : BothSound first m second n table
-  pub within : Within limits (joinedIn first second)
+  pub within : Within current (joinedIn first second)
   pub room : length (joinedFile (modelAt first) (modelAt second)) ≤ length out

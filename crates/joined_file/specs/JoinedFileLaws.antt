@@ -6,7 +6,7 @@ use lib.ListN.{length, take, drop, length-drop}
 use lib.Seq.{take-all}
 use native.Mathlib.Nat.{add-sub-cancel-left}
 use native.Mathlib.Omega.{arith}
-use Rattle.rules.specs.definitions.Limits.{limits}
+use Rattle.rules.specs.definitions.Limits.{current}
 use Rattle.rules.specs.definitions.Bytes.{twoBytes}
 use Rattle.rules.specs.definitions.Model.{transitionsBytes, modelBytes}
 use Rattle.rules.specs.definitions.Reading.{modelAt}
@@ -80,7 +80,7 @@ module _ {first second table out : List ℕ} {m n : Found} (p : CanWriteJoined f
 
   first-records : drop (8 + m .states) first ≡ transitionsBytes (modelAt first .transitions)
   unfolding modelAt
-  first-records = ap (λ (k : ℕ). drop (8 + k) first) (f .head) ∙ before-records limits first (f .sound) (omega (arith, f .head, sums (p .models) .one)) (f .bytes)
+  first-records = ap (λ (k : ℕ). drop (8 + k) first) (f .head) ∙ before-records current first (f .sound) (omega (arith, f .head, sums (p .models) .one)) (f .bytes)
 
   records-are : drop (8 + m .states) first ++ raisedTransitions (m .states) (modelAt second .transitions) ≡ transitionsBytes (joinedIn first second .transitions)
   unfolding joined
@@ -97,7 +97,7 @@ module _ {first second table out : List ℕ} {m n : Found} (p : CanWriteJoined f
     pub head-fits : (8 ≤ length out) × (m .states + n .states < 256) × (actions < 256) × (m .transitions + n .transitions < 65536)
     head-fits =
         let q = sums (p .models) in
-        let j = joined-sound limits (modelAt first) (modelAt second) (f .sound) (g .sound) (p .within) in (
+        let j = joined-sound current (modelAt first) (modelAt second) (f .sound) (g .sound) (p .within) in (
           omega (arith, p .room, q .bytes),
           omega (arith, q .states, p .within .states),
           omega (arith, is-larger, j .actions),

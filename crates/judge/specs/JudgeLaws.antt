@@ -6,6 +6,7 @@ use lib.ListN.{length, take, drop}
 use lib.Seq.{take-all}
 use native.Mathlib.Omega.{arith}
 use Rattle.rules.specs.definitions.SoundModel.{Bytes}
+use Rattle.rules.specs.definitions.Limits.{current}
 use Rattle.rules.specs.definitions.JudgedBy.{plainPairs}
 use Rattle.rules.specs.definitions.Answers as rules
 use Rattle.rules.specs.definitions.Answers.{answerWithoutPlace, filled, writesBlocks, JudgeNumber}
@@ -13,6 +14,7 @@ use Rattle.rules.specs.definitions.Demands.{outcomeBy}
 use Rattle.rules.specs.argument.PlainRules.{plainRules}
 use Rattle.rules.specs.argument.DemandsHold.{demands-hold, blocks-follow, judge-numbered}
 use Rattle.cost_files.specs.argument.CostAnswerLaws.{cost-demands-hold}
+use Rattle.limits.specs.TermsBy.{currentTerms}
 use Rattle.rule_kind.specs.Kinds.{pairsBy}
 use Rattle.rule_kind.specs.declared.Kind.{Kind}
 use Rattle.rule_kind.specs.declared.Kind.the-variants.{Plain, Costs}
@@ -34,19 +36,19 @@ room before N few = (λ h. h, λ h. h)
 
 module _ (kind : Kind) {M C : List ℕ} (b : Bytes M) (c : Bytes C) (before : List ℕ) where
   -- the outcome, with its demands
-  with-demands : {after : List ℕ} {r : Answer} → OutcomeIs (outcomeBy (pairsBy kind) writesBlocks M C (before ∷ [])) (M ∷ C ∷ []) (after ∷ []) r → JudgeAnswered kind M C before after r
+  with-demands : {after : List ℕ} {r : Answer} → OutcomeIs (outcomeBy (pairsBy kind currentTerms) writesBlocks M C (before ∷ [])) (M ∷ C ∷ []) (after ∷ []) r → JudgeAnswered kind M C before after r
   with-demands {after} {r} o = record { outcome = o; demands = go kind o }
     where
-      go : (k : Kind) → OutcomeIs (outcomeBy (pairsBy k) writesBlocks M C (before ∷ [])) (M ∷ C ∷ []) (after ∷ []) r → judgeDemands k M C (before ∷ []) (after ∷ []) (r .number)
+      go : (k : Kind) → OutcomeIs (outcomeBy (pairsBy k currentTerms) writesBlocks M C (before ∷ [])) (M ∷ C ∷ []) (after ∷ []) r → judgeDemands k M C (before ∷ []) (after ∷ []) (r .number)
       go Plain o =
           let e = ap (λ (x : rules.Answer). x .number) (o .gives .answer) in
-          demands-hold plainRules writesBlocks blocks-follow M C (before ∷ []) (after ∷ []) (r .number) b c e (o .gives .buffers) JudgeNumber (subst JudgeNumber (sym e) (judge-numbered M C (before ∷ [])))
+          demands-hold plainRules writesBlocks blocks-follow M C (before ∷ []) (after ∷ []) (r .number) b c e (o .gives .buffers) (JudgeNumber (current .terms)) (subst (JudgeNumber (current .terms)) (sym e) (judge-numbered M C (before ∷ [])))
       go Costs o = cost-demands-hold M C (before ∷ []) (after ∷ []) (r .number) b c (ap (λ (x : rules.Answer). x .number) (o .gives .answer)) (o .gives .buffers)
 
-  pub pair-refused : {r : Answer} → RefusedAs kind M C (length before) r → JudgeAnswered kind M C before before r
+  pub pair-refused : {r : Answer} → RefusedAs kind currentTerms M C (length before) r → JudgeAnswered kind M C before before r
   pair-refused a = with-demands (a .refuses writesBlocks (before ∷ []) (room before))
 
-  module _ {n count at : ℕ} (a : AcceptedAt kind M C (length before) n count at) where
+  module _ {n count at : ℕ} (a : AcceptedAt kind currentTerms M C (length before) n count at) where
     pub blocks-fit : length (take (at + n - at) (drop at C)) ≤ length before
     blocks-fit = omega (arith, part-size a, a .fits)
 

@@ -12,6 +12,7 @@ ghost use Rattle.answer.specs.Answered.{Gives};
 ghost use Rattle.judge.specs.Judge.{JudgeAnswered, JudgeHandedBack};
 use answer::Answer;
 use judgement::Verdict;
+use limits::Terms;
 use rule_kind::Kind;
 
 // The blocks written into a buffer that has room for them.
@@ -28,7 +29,7 @@ fn judge_headed(kind: Kind, model: &[u8], certificate: &[u8], blocks: &mut [u8])
     requires { ⌜ headFault limits (now model) .number ≡ 0 ⌝ }
     ensures { λ r. ⌜ JudgeAnswered kind (now (model .entry)) (now (certificate .entry)) (now (blocks .entry)) (now (blocks .exit)) r ⌝ }
 {
-    let found = judgement::judge_files(kind, model, certificate, blocks.len());
+    let found = judgement::judge_files(kind, Terms::Any, model, certificate, blocks.len());
     match found {
         Verdict::Accepted {
             states,

@@ -9,7 +9,10 @@ use Rattle.rules.specs.definitions.Bytes.{byteAt}
 use Rattle.rules.specs.definitions.Faults as rules-faults
 use Rattle.rules.specs.definitions.SoundModel.{Bytes}
 use Rattle.rules.specs.definitions.Reading.{Scan, refused, modelAt, headFault, scanWhole, readWhole, readingOf, noModel, countOf, placeOf}
-use Rattle.rules.specs.argument.ReadingLaws.{head-stops, Tells, whole-tells}
+use Rattle.rules.specs.argument.ReadingLaws.{head-terms, head-stops, Tells, whole-tells}
+use Rattle.rules.specs.argument.SoundModelLaws.{sound-any}
+use Rattle.limits.specs.TermsBy.{termsOf, limitsBy}
+use Rattle.limits.specs.declared.Terms.{Terms}
 use Rattle.fault.specs.Faults.{faultOf, Placed}
 use Rattle.fault.specs.declared.Fault.{Fault}
 use Rattle.model.specs.Scanned.{scanOf, Scans}
@@ -28,62 +31,65 @@ use Rattle.rule_kind.specs.declared.Kind.the-variants.{Plain, Costs}
 use Rattle.judgement.specs.Verdicts.{scanBy, ReadsBy}
 
 -- reading is what the scan says
-read-by : (kind : Kind) (M : List ℕ) → readingOf M (scanBy kind M) ≡ pairsBy kind .read M
+read-by : (kind : Kind) (terms : Terms) (M : List ℕ) → readingOf M (scanBy kind terms M) ≡ pairsBy kind terms .read M
 unfolding readWhole readCosts
-read-by Plain M = refl
-read-by Costs M = refl
+read-by Plain terms M = refl
+read-by Costs terms M = refl
 
 -- the scan of a kind that is known
-pub scans-by : (kind known : Kind) {M table : List ℕ} {r : Scanned} → kind ≡ known → Scans M (scanBy known M) r table → Scans M (scanBy kind M) r table
-scans-by kind known {M} {table} {r} e h = subst (λ (k : Kind). Scans M (scanBy k M) r table) (sym e) h
+pub scans-by : (kind known : Kind) (terms : Terms) {M table : List ℕ} {r : Scanned} → kind ≡ known → Scans M (scanBy known terms M) r table → Scans M (scanBy kind terms M) r table
+scans-by kind known terms {M} {table} {r} e h = subst (λ (k : Kind). Scans M (scanBy k terms M) r table) (sym e) h
 
 -- a sound model
-module _ (M : List ℕ) {table : List ℕ} {m : Model} where
-  costs-known : Bytes M → Scans M (scanCostModel limits M) (Sound m) table → Known M (m .states) (m .transitions) table × CostsThere M
+module _ (terms : Terms) (M : List ℕ) {table : List ℕ} {m : Model} where
+  costs-known : Bytes M → Scans M (scanCostModel (limitsBy terms) M) (Sound m) table → Known M (m .states) (m .transitions) table × CostsThere M
   unfolding transitionsEnd
   costs-known b told =
-      let c = cost-scan limits M (m .states) (m .actions) (m .transitions) (m .end) (told .answer) in
-      let t = scan-told limits M c in
+      let c = cost-scan (limitsBy terms) M (m .states) (m .actions) (m .transitions) (m .end) (told .answer) in
+      let t = scan-told (limitsBy terms) M c in
       let end : c .end ≡ placeOf M (countOf M) = t .last ∙ ap (placeOf M) (t .transitions) in (
-        known-told t (scan-sound limits M c b .rules) (told .places) (told .size),
+        known-told (limitsBy terms) t (sound-any (limitsBy terms) (modelAt M) (scan-sound (limitsBy terms) M c b .rules)) (told .places) (told .size),
         record {
           inside = omega (arith, c .after, c .whole, end, t .transitions);
-          low = λ r l. subst (λ (p : ℕ). byteAt M (p + 2 + r) ≤ highestCost) end (scan-low limits M c r (omega (arith, l, t .transitions)));
+          low = λ r l. subst (λ (p : ℕ). byteAt M (p + 2 + r) ≤ highestCost) end (scan-low (limitsBy terms) M c r (omega (arith, l, t .transitions)));
         },
       )
 
-  pub sound-by : (kind : Kind) {r : Scanned} → Scans M (scanBy kind M) r table → r ≡ Sound m → Bytes M → Known M (m .states) (m .transitions) table × ReadsBy kind M
+  pub sound-by : (kind : Kind) {r : Scanned} → Scans M (scanBy kind terms M) r table → r ≡ Sound m → Bytes M → Known M (m .states) (m .transitions) table × ReadsBy kind terms M
   unfolding readingOf
   sound-by kind {r} g e b =
-      let told = subst (λ (x : Scanned). Scans M (scanBy kind M) x table) e g in
-      go kind told (sym (read-by kind M) ∙ ap (readingOf M) (sym (told .answer)))
+      let told = subst (λ (x : Scanned). Scans M (scanBy kind terms M) x table) e g in
+      go kind told (sym (read-by kind terms M) ∙ ap (readingOf M) (sym (told .answer)))
     where
-      go : (k : Kind) → Scans M (scanBy k M) (Sound m) table → pairsBy k .read M ≡ readingOf M (scanOf (Sound m)) → Known M (m .states) (m .transitions) table × ReadsBy k M
-      go Plain told q = (sound-known M told refl b .0, record { end = m .end; reads = q; stands = tt })
+      go : (k : Kind) → Scans M (scanBy k terms M) (Sound m) table → pairsBy k terms .read M ≡ readingOf M (scanOf (Sound m)) → Known M (m .states) (m .transitions) table × ReadsBy k terms M
+      go Plain told q = (sound-known terms M told refl b .0, record { end = m .end; reads = q; stands = tt })
       go Costs told q = let k = costs-known b told in (k .0, record { end = m .end; reads = q; stands = k .1 })
 
 -- a model refused, at a place of the file
-module _ (M : List ℕ) (f : Fault) where
-  inside-by : (kind : Kind) → pairsBy kind .read M ≡ noModel (faultOf f) (f .place) → refused (faultOf f) (f .place) ≡ scanBy kind M → f .place ≤ length M
-  inside-by Plain q e = subst (Tells limits M) (sym e) (whole-tells limits M) .inside
-  inside-by Costs q e = cost-refusal-told limits M (faultOf f) (f .place) q .2
+module _ (terms : Terms) (M : List ℕ) (f : Fault) where
+  inside-by : (kind : Kind) → pairsBy kind terms .read M ≡ noModel (faultOf f) (f .place) → refused (faultOf f) (f .place) ≡ scanBy kind terms M → f .place ≤ length M
+  inside-by Plain q e = subst (Tells (limitsBy terms) M) (sym e) (whole-tells (limitsBy terms) M) .inside
+  inside-by Costs q e = cost-refusal-told (limitsBy terms) M (faultOf f) (f .place) q .2
 
-  scan-told-by : (kind : Kind) → refused (faultOf f) (f .place) ≡ scanBy kind M → (pairsBy kind .read M ≡ noModel (faultOf f) (f .place)) × (f .place ≤ length M)
+  scan-told-by : (kind : Kind) → refused (faultOf f) (f .place) ≡ scanBy kind terms M → (pairsBy kind terms .read M ≡ noModel (faultOf f) (f .place)) × (f .place ≤ length M)
   unfolding readingOf
   scan-told-by kind e =
-      let q = sym (read-by kind M) ∙ ap (readingOf M) (sym e) in
+      let q = sym (read-by kind terms M) ∙ ap (readingOf M) (sym e) in
       (q, inside-by kind q e)
 
-  pub refused-by : (kind : Kind) {r : Scanned} {table : List ℕ} → Scans M (scanBy kind M) r table → r ≡ Refused f → (pairsBy kind .read M ≡ noModel (faultOf f) (f .place)) × (f .place ≤ length M)
-  refused-by kind {table = table} g e = scan-told-by kind (subst (λ (x : Scanned). Scans M (scanBy kind M) x table) e g .answer)
+  pub refused-by : (kind : Kind) {r : Scanned} {table : List ℕ} → Scans M (scanBy kind terms M) r table → r ≡ Refused f → (pairsBy kind terms .read M ≡ noModel (faultOf f) (f .place)) × (f .place ≤ length M)
+  refused-by kind {table = table} g e = scan-told-by kind (subst (λ (x : Scanned). Scans M (scanBy kind terms M) x table) e g .answer)
 
   -- and by the fault of its head
-  pub head-by : (kind : Kind) → Placed (headFault limits M) 0 f → (f .number ≡ 0 → ⊥) → (pairsBy kind .read M ≡ noModel (faultOf f) (f .place)) × (f .place ≤ length M)
+  pub head-by : (kind : Kind) → Placed (headFault limits M) 0 f → (f .number ≡ 0 → ⊥) → (pairsBy kind terms .read M ≡ noModel (faultOf f) (f .place)) × (f .place ≤ length M)
   head-by kind p n = scan-told-by kind (ap (refused (faultOf f)) (p .at) ∙ go kind)
     where
-      go : (k : Kind) → refused (faultOf f) 0 ≡ scanBy k M
-      go Plain = head-stops limits M (p .is) n
-      go Costs = cost-head-stops limits M (p .is) n
+      headed : faultOf f ≡ headFault (limitsBy terms) M
+      headed = p .is ∙ sym (head-terms (termsOf terms) limits M)
+
+      go : (k : Kind) → refused (faultOf f) 0 ≡ scanBy k terms M
+      go Plain = head-stops (limitsBy terms) M headed n
+      go Costs = cost-head-stops (limitsBy terms) M headed n
 
 -- and it is good
 pub head-passed : (M : List ℕ) (f : Fault) → Placed (headFault limits M) 0 f → f .number ≡ 0 → headFault limits M .number ≡ 0

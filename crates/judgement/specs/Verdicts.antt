@@ -12,8 +12,11 @@ use Rattle.rules.specs.definitions.Answers.{answerWithoutPlace, unwritten, Foll
 use Rattle.rules.specs.definitions.JudgedBy.{JudgedBy, AcceptedBy}
 use Rattle.rules.specs.definitions.Demands.{PairDemands, outcomeBy}
 use Rattle.cost_files.specs.definitions.CostReading.{scanCostModel}
-use Rattle.transition.specs.Known.{KnownModel}
-use Rattle.rule_kind.specs.Kinds.{pairsBy, KindStands}
+use Rattle.transition.specs.Known.{automatonIn, KnownModel}
+use Rattle.rules.specs.definitions.CertificateAt.{blocksPlace}
+use Rattle.limits.specs.TermsBy.{limitsBy}
+use Rattle.limits.specs.declared.Terms.{Terms}
+use Rattle.rule_kind.specs.Kinds.{ruleOf, pairsBy, KindStands}
 use Rattle.rule_kind.specs.declared.Kind.{Kind}
 use Rattle.rule_kind.specs.declared.Kind.the-variants.{Plain, Costs}
 use Rattle.answer.specs.declared.Answer.{Answer}
@@ -22,21 +25,22 @@ use Rattle.judgement.specs.declared.Verdict.the-variants.{Accepted, Refu
 use Rattle.answer.specs.Answered.{answered, OutcomeIs, CallAnswered}
 
 -- how a model file is scanned
-abbrev pub scanBy : Kind → List ℕ → Scan
-scanBy Plain = scanWhole limits
-scanBy Costs = scanCostModel limits
+abbrev pub scanBy : Kind → Terms → List ℕ → Scan
+scanBy Plain terms = scanWhole (limitsBy terms)
+scanBy Costs terms = scanCostModel (limitsBy terms)
 
 -- the model file is read as sound, and has what the rule asks of it
-pub record ReadsBy (kind : Kind) (M : List ℕ) : Type 0 where
+pub record ReadsBy (kind : Kind) (terms : Terms) (M : List ℕ) : Type 0 where
   pub end : ℕ
-  pub reads : pairsBy kind .read M ≡ model (modelAt M) end
+  pub reads : pairsBy kind terms .read M ≡ model (modelAt M) end
   pub stands : KindStands kind M
 
--- an accepted certificate: the blocks are the n bytes at a place of it, and there is room for them
-pub record AcceptedAt (kind : Kind) (M C : List ℕ) (room n count at : ℕ) : Type 0 where
+-- an accepted certificate: the blocks are the n bytes at a place of it, behind the mark of their record, and there is room for them
+pub record AcceptedAt (kind : Kind) (terms : Terms) (M C : List ℕ) (room n count at : ℕ) : Type 0 where
   pub known : KnownModel M n count
-  pub model : ReadsBy kind M
-  pub judged : AcceptedBy (pairsBy kind) M C (take n (drop at C))
+  pub model : ReadsBy kind terms M
+  pub judged : AcceptedBy (pairsBy kind terms) M C (take n (drop at C))
+  pub stands : at ≡ blocksPlace (ruleOf kind M) (automatonIn M) C + 2
   pub inside : at + n ≤ length C
   pub fits : n ≤ room
 
@@ -45,13 +49,13 @@ abbrev pub RoomFor : Follows → (before : List (List ℕ)) → (room : ℕ) →
 RoomFor follows before room = (N : Model) → length (N .labels) ≤ limits .states → (length (firstLent before) < follows .blockRoom N) ↔ (room < length (N .labels))
 
 -- a refusal, in document 01's terms, whatever would follow acceptance
-pub record RefusedAs (kind : Kind) (M C : List ℕ) (room : ℕ) (r : Answer) : Type 0 where
+pub record RefusedAs (kind : Kind) (terms : Terms) (M C : List ℕ) (room : ℕ) (r : Answer) : Type 0 where
   pub some : r .number ≡ 0 → ⊥
-  pub refuses : (follows : Follows) (before : List (List ℕ)) → RoomFor follows before room → OutcomeIs (outcomeBy (pairsBy kind) follows M C before) (M ∷ C ∷ []) before r
+  pub refuses : (follows : Follows) (before : List (List ℕ)) → RoomFor follows before room → OutcomeIs (outcomeBy (pairsBy kind terms) follows M C before) (M ∷ C ∷ []) before r
 
-abbrev pub VerdictSays : (kind : Kind) (M C : List ℕ) (room : ℕ) → Verdict → Type 0
-VerdictSays kind M C room (Accepted n count at) = AcceptedAt kind M C room n count at
-VerdictSays kind M C room (Refused r) = RefusedAs kind M C room r
+abbrev pub VerdictSays : (kind : Kind) (terms : Terms) (M C : List ℕ) (room : ℕ) → Verdict → Type 0
+VerdictSays kind terms M C room (Accepted n count at) = AcceptedAt kind terms M C room n count at
+VerdictSays kind terms M C room (Refused r) = RefusedAs kind terms M C room r
 
 -- document 01's number, file and place for each case: 0, 0 and 0 where the certificate is accepted
 abbrev pub verdictAnswer : Verdict → rules.Answer
@@ -60,16 +64,16 @@ verdictAnswer (Refused r) = answered r
 
 -- a call with a block buffer that writes nothing
 abbrev pub judgesOnly : Follows
-judgesOnly = record { blockRoom = λ N. length (N .labels); outcome = λ N blocks before. unwritten (answerWithoutPlace 0) before; late = 0 }
+judgesOnly = record { blockRoom = λ N. length (N .labels); outcome = λ N blocks before. unwritten (answerWithoutPlace 0) before; late = [] }
 
-pub record VerdictIs (kind : Kind) (M C : List ℕ) (room : ℕ) (r : Verdict) : Type 0 where
-  pub says : VerdictSays kind M C room r
-  pub answers : (before : List ℕ) → length before ≡ room → verdictAnswer r ≡ outcomeBy (pairsBy kind) judgesOnly M C (before ∷ []) .answer
+pub record VerdictIs (kind : Kind) (terms : Terms) (M C : List ℕ) (room : ℕ) (r : Verdict) : Type 0 where
+  pub says : VerdictSays kind terms M C room r
+  pub answers : (before : List ℕ) → length before ≡ room → verdictAnswer r ≡ outcomeBy (pairsBy kind terms) judgesOnly M C (before ∷ []) .answer
 
 -- the head of a model is good, or refused, whatever its pair is judged by
 pub record HeadIs (M : List ℕ) (r : Answer) : Type 0 where
   pub good : r .number ≡ 0 → headFault limits M .number ≡ 0
-  pub refused : (r .number ≡ 0 → ⊥) → (kind : Kind) (C : List ℕ) (room : ℕ) → RefusedAs kind M C room r
+  pub refused : (r .number ≡ 0 → ⊥) → (kind : Kind) (terms : Terms) (C : List ℕ) (room : ℕ) → RefusedAs kind terms M C room r
 
 -- what a call on a pair of files promises: judged by these rules, with what follows acceptance, and with these demands
 abbrev pub PairAnswered : (by : JudgedBy) (follows : Follows) (demands : PairDemands) (M C : List ℕ) (before after : List (List ℕ)) → Answer → Type 0

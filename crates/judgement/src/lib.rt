@@ -9,6 +9,7 @@ ghost use Rattle.model.specs.Scanned.{Scans};
 ghost use Rattle.judgement.specs.Verdicts.{scanBy, ReadsBy, HeadIs, VerdictIs};
 use answer::Answer;
 use flows::Judged;
+use limits::Terms;
 use model::Places;
 use model::Scanned;
 use rule_kind::Kind;
@@ -26,6 +27,7 @@ pub enum Verdict {
 // A sound model's certificate judged, for a buffer with room for so many blocks.
 fn judge_sound(
     kind: Kind,
+    terms: Terms,
     model: &[u8],
     n: usize,
     count: usize,
@@ -33,8 +35,8 @@ fn judge_sound(
     certificate: &[u8],
     room: usize,
 ) -> Verdict
-    requires { ⌜ Known (now model) n count (now places) × ReadsBy kind (now model) ⌝ }
-    ensures { λ r. ⌜ VerdictIs kind (now (model .entry)) (now (certificate .entry)) room r ⌝ }
+    requires { ⌜ Known (now model) n count (now places) × ReadsBy kind terms (now model) ⌝ }
+    ensures { λ r. ⌜ VerdictIs kind terms (now (model .entry)) (now (certificate .entry)) room r ⌝ }
 {
     if room < n {
         return Verdict::Refused(answer::without_place(10, 0));
@@ -50,14 +52,14 @@ fn judge_sound(
     }
 }
 
-// The model read from its labels on, as the kind of its pair asks.
-fn scan(kind: Kind, model: &[u8], places: &mut Places) -> Scanned
+// The model read from its labels on, as the kind of its pair asks, in these terms.
+fn scan(kind: Kind, terms: Terms, model: &[u8], places: &mut Places) -> Scanned
     requires { ⌜ (length (now places) ≡ sizes.places) × (headFault limits (now model) .number ≡ 0) ⌝ }
-    ensures { λ r. ⌜ Scans (now (model .entry)) (scanBy kind (now (model .entry))) r (now (places .exit)) ⌝ }
+    ensures { λ r. ⌜ Scans (now (model .entry)) (scanBy kind terms (now (model .entry))) r (now (places .exit)) ⌝ }
 {
     match kind {
-        Kind::Plain => model::scan_whole(model, places),
-        Kind::Costs => cost_model::scan_cost_model(model, places),
+        Kind::Plain => model::scan_whole(model, terms, places),
+        Kind::Costs => cost_model::scan_cost_model(model, terms, places),
     }
 }
 
@@ -75,15 +77,22 @@ pub fn head_answer(model: &[u8]) -> Answer
 
 // A pair whose model has a good head: its table of places, the model read, then its certificate judged, for a block buffer with so much room. A
 // call that lends none gives the most states that a model has.
-pub fn judge_files(kind: Kind, model: &[u8], certificate: &[u8], room: usize) -> Verdict
+pub fn judge_files(
+    kind: Kind,
+    terms: Terms,
+    model: &[u8],
+    certificate: &[u8],
+    room: usize,
+) -> Verdict
     requires { ⌜ headFault limits (now model) .number ≡ 0 ⌝ }
-    ensures { λ r. ⌜ VerdictIs kind (now (model .entry)) (now (certificate .entry)) room r ⌝ }
+    ensures { λ r. ⌜ VerdictIs kind terms (now (model .entry)) (now (certificate .entry)) room r ⌝ }
 {
     let mut places = model::no_places();
-    let scanned = scan(kind, model, &mut places);
+    let scanned = scan(kind, terms, model, &mut places);
     match scanned {
         Scanned::Sound(m) => judge_sound(
             kind,
+            terms,
             model,
             m.states,
             m.transitions,

@@ -25,3 +25,9 @@ pub const ROW_WORDS: usize = 2 * STATES;
 
 // The bytes of the transition records of a sound model, at most.
 pub const RECORDS: usize = 7 * TRANSITIONS + 3 * ENTRIES;
+
+// Which terms a model's transitions may be written in (document 02, K10).
+pub enum Terms {
+    Any,
+    Lowest,
+}

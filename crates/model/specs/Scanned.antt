@@ -1,17 +1,19 @@
 -- What the functions of the model reader hand back.
 use Prim.Native.Nat.{ℕ, _+_, _<_}
-use mathlib.Core.Path.{_≡_, refl, _∙_, ap}
+use mathlib.Core.Path.{_≡_, refl, sym, _∙_, ap}
 use mathlib.Core.List.{List}
 use lib.ListN.{length, getD}
 use Rattle.rules.specs.definitions.Limits.{limits}
 use Rattle.bisimulation.specs.argument.ChoiceLaws.{eitherLess}
 use Rattle.rules.specs.definitions.Faults.{fault}
 use Rattle.rules.specs.definitions.Reading.{headFault, Scan, sound, refused, refuseBytesLeft, scanWhole, placeOf}
-use Rattle.rules.specs.argument.ReadingLaws.{head-stops}
+use Rattle.rules.specs.argument.ReadingLaws.{head-terms, head-stops}
 use Rattle.rules.specs.definitions.Answers.{Answer, refusalIn, answerWithoutPlace, scanAnswer}
 use Rattle.fault.specs.Faults.{faultOf, Placed}
 use Rattle.fault.specs.declared.Fault.{Fault}
 use Rattle.limits.specs.Sizes as sizes
+use Rattle.limits.specs.TermsBy.{termsOf, limitsBy}
+use Rattle.limits.specs.declared.Terms.{Terms}
 use Rattle.model.specs.declared.Scanned.{Scanned}
 use Rattle.model.specs.declared.Scanned.the-variants.{Sound, Refused}
 
@@ -56,5 +58,5 @@ left-held s table (sound n m count end) h = eitherLess (PlacesOf s table) end (l
 left-held s table (refused f place) h = tt
 
 -- a fault of the head is the file's
-pub head-refused : (s : List ℕ) (f : Fault) → Placed (headFault limits s) 0 f → (f .number ≡ 0 → ⊥) → refused (faultOf f) (f .place) ≡ scanWhole limits s
-head-refused s f p n = ap (refused (faultOf f)) (p .at) ∙ head-stops limits s (p .is) n
+pub head-refused : (terms : Terms) (s : List ℕ) (f : Fault) → Placed (headFault limits s) 0 f → (f .number ≡ 0 → ⊥) → refused (faultOf f) (f .place) ≡ scanWhole (limitsBy terms) s
+head-refused terms s f p n = ap (refused (faultOf f)) (p .at) ∙ head-stops (limitsBy terms) s (p .is ∙ sym (head-terms (termsOf terms) limits s)) n

@@ -4,7 +4,7 @@ use mathlib.Core.Path.{_≡_, sym, ap, subst}
 use mathlib.Core.List.{List, [], _∷_}
 use lib.ListN.{length, take, drop}
 use native.Mathlib.Omega.{arith}
-use Rattle.rules.specs.definitions.Limits.{limits}
+use Rattle.rules.specs.definitions.Limits.{limits, current}
 use Rattle.rules.specs.definitions.Reading.{modelAt}
 use Rattle.rules.specs.definitions.SoundModel.{Bytes}
 use Rattle.rules.specs.definitions.JudgedBy.{plainPairs}
@@ -17,9 +17,10 @@ use Rattle.rules.specs.argument.AnswerLaws.{files-without}
 use Rattle.rules.specs.argument.PlainRules.{plainRules}
 use Rattle.rules.specs.argument.Demand3Holds.{holds-read}
 use Rattle.rules.specs.argument.DemandsHold.{demands-hold}
-use Rattle.quotient.specs.argument.ReduceAnswerLaws.{merged-follow, reduce-numbered}
+use Rattle.quotient.specs.argument.ReduceAnswerLaws.{merged-follow-today, reduce-numbered}
 use Rattle.rules.specs.argument.NumberedBlocks.{NumberedBlocks, accepted-numbered}
 use Rattle.replacement.specs.argument.ReplacementLaws.{reduce-demands}
+use Rattle.limits.specs.TermsBy.{currentTerms}
 use Rattle.rule_kind.specs.declared.Kind.the-variants.{Plain}
 use Rattle.answer.specs.declared.Answer.{Answer}
 use Rattle.answer.specs.Answered.{answered, StretchInside, Gives, OutcomeIs}
@@ -41,13 +42,13 @@ module _ {M C : List ℕ} (b : Bytes M) (c : Bytes C) (before : List ℕ) where
         outcome = o;
         demands =
             reduce-demands M C before (after ∷ []) (r .number) b c e
-            (demands-hold plainRules writesMerged merged-follow M C (before ∷ []) (after ∷ []) (r .number) b c e (o .gives .buffers) ReduceNumber (subst ReduceNumber (sym e) (reduce-numbered M C (before ∷ []))));
+            (demands-hold plainRules writesMerged merged-follow-today M C (before ∷ []) (after ∷ []) (r .number) b c e (o .gives .buffers) (ReduceNumber (current .terms)) (subst (ReduceNumber (current .terms)) (sym e) (reduce-numbered M C (before ∷ []))));
       }
 
-  pub pair-refused : {r : Answer} → RefusedAs Plain M C (limits .states) r → ReduceAnswered M C before before r
+  pub pair-refused : {r : Answer} → RefusedAs Plain currentTerms M C (limits .states) r → ReduceAnswered M C before before r
   pair-refused a = with-demands (a .refuses writesMerged (before ∷ []) (room before))
 
-  module _ {n count at : ℕ} (a : AcceptedAt Plain M C (limits .states) n count at) where
+  module _ {n count at : ℕ} (a : AcceptedAt Plain currentTerms M C (limits .states) n count at) where
     pub blocks-numbered : NumberedBlocks (modelAt M) (take (at + n - at) (drop at C))
     blocks-numbered = subst (NumberedBlocks (modelAt M)) (sym (part-is a)) (accepted-numbered plainRules M C (take n (drop at C)) b c (a .judged) (holds-read plainRules M b (a .model .reads)))
 

@@ -10,6 +10,7 @@ ghost use Rattle.reduce.specs.Reduce.{ReduceAnswered};
 use answer::Answer;
 use judgement::Verdict;
 use limits::STATES;
+use limits::Terms;
 use rule_kind::Kind;
 
 // The merged model of accepted blocks, written if there is room for it.
@@ -31,7 +32,7 @@ pub fn reduce_answer(model: &[u8], certificate: &[u8], out: &mut [u8]) -> Answer
     if head.number != 0 {
         return head;
     }
-    let found = judgement::judge_files(Kind::Plain, model, certificate, STATES);
+    let found = judgement::judge_files(Kind::Plain, Terms::Any, model, certificate, STATES);
     match found {
         Verdict::Accepted {
             states,

@@ -6,21 +6,40 @@ use lib.ListN.{length}
 use Rattle.rules.specs.definitions.Bytes.{byteAt}
 use Rattle.rules.specs.definitions.Reading.{statesOf, countOf}
 use Rattle.rules.specs.definitions.Certificate.{FileRule}
-use Rattle.rules.specs.definitions.JudgedBy.{JudgedBy, plainPairs}
+use Rattle.rules.specs.definitions.Limits.{Limits}
+use Rattle.rules.specs.definitions.PlainRule.{plainRule}
+use Rattle.rules.specs.definitions.JudgedBy.{JudgedBy, plainPairsAt}
 use Rattle.cost_files.specs.definitions.CostModel.{highestCost, costOf, transitionsEnd, costsIn}
-use Rattle.cost_files.specs.definitions.CostPairs.{costPairs}
+use Rattle.cost_files.specs.definitions.CostFile.{costFile}
+use Rattle.cost_files.specs.definitions.CostPairs.{costPairsAt}
+use Rattle.limits.specs.TermsBy.{limitsBy}
+use Rattle.limits.specs.declared.Terms.{Terms}
 use Rattle.transition.specs.Known.{Known}
 use Rattle.rule_kind.specs.declared.Kind.{Kind}
 use Rattle.rule_kind.specs.declared.Kind.the-variants.{Plain, Costs}
 
--- what pairs are judged by
-abbrev pub pairsBy : Kind → JudgedBy
-pairsBy Plain = plainPairs
-pairsBy Costs = costPairs
+-- what pairs are judged by within limits
+abbrev pub pairsAt : Kind → Limits → JudgedBy
+pairsAt Plain = plainPairsAt
+pairsAt Costs = costPairsAt
 
 -- what the rule of a model file decides of a certificate file
 abbrev pub ruleOf : Kind → (model : List ℕ) → FileRule
-ruleOf kind model = pairsBy kind .file model
+ruleOf Plain model = plainRule
+ruleOf Costs model = costFile (costsIn model)
+
+-- what pairs are judged by, with these terms
+abbrev pub pairsBy : Kind → Terms → JudgedBy
+pairsBy kind terms =
+    record {
+      limits = limitsBy terms;
+      read = pairsAt kind (limitsBy terms) .read;
+      isFile = pairsAt kind (limitsBy terms) .isFile;
+      file = ruleOf kind;
+      says = pairsAt kind (limitsBy terms) .says;
+      met = pairsAt kind (limitsBy terms) .met;
+      oneAutomaton = pairsAt kind (limitsBy terms) .oneAutomaton;
+    }
 
 -- the mark of a certificate's head, whatever the model
 abbrev pub markOf : Kind → ℕ

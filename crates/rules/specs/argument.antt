@@ -7,6 +7,9 @@ pub mod Standing
 pub mod ReadingLaws
 pub mod BytesLaws
 pub mod SoundModelLaws
+pub mod MappedLists
+pub mod TermsLaws
+pub mod TwoReadings
 pub mod ReadBack
 pub mod ReadSound
 pub mod LengthLaws
@@ -16,6 +19,7 @@ pub mod RefutationRecords
 pub mod EntryFaults
 pub mod BlocksRecord
 pub mod FlowRecords
+pub mod CertificateStands
 pub mod CertificateKept
 pub mod AcceptedExactly
 pub mod Numbers

@@ -3,6 +3,7 @@ pub mod Limits
 pub mod Bytes
 pub mod Model
 pub mod SoundModel
+pub mod LowestTerms
 pub mod Faults
 pub mod Reading
 pub mod Certificate
@@ -10,6 +11,7 @@ pub mod PlainRule
 pub mod Judging
 pub mod BlockCount
 pub mod Encoding
+pub mod CertificateAt
 pub mod Accepted
 pub mod PlainSays
 pub mod Answers

@@ -18,6 +18,7 @@ use Rattle.rules.specs.argument.JudgedFirst.{Found}
 use Rattle.rules.specs.argument.PlainRules.{plainRules}
 use Rattle.block_sheet.specs.definitions.SheetAnswer.{writesSheet, SheetNumber}
 use Rattle.block_sheet.specs.argument.SheetJudgedLaws.{sheet-follow, sheet-numbered, found-whole, found-sheeted}
+use Rattle.limits.specs.TermsBy.{currentTerms}
 use Rattle.rule_kind.specs.declared.Kind.the-variants.{Plain}
 use Rattle.answer.specs.declared.Answer.{Answer}
 use Rattle.answer.specs.Answered.{answered, StretchInside, Gives, OutcomeIs}
@@ -38,13 +39,13 @@ module _ {M C : List ℕ} (b : Bytes M) (c : Bytes C) (before : List ℕ) where
       let e = ap (λ (x : rules.Answer). x .number) (o .gives .answer) in
       record {
         outcome = o;
-        demands = demands-hold plainRules (writesSheet plainRule C) (sheet-follow C) M C (before ∷ []) (after ∷ []) (r .number) b c e (o .gives .buffers) SheetNumber (subst SheetNumber (sym e) (sheet-numbered M C (before ∷ [])));
+        demands = demands-hold plainRules (writesSheet plainRule C) (sheet-follow (plainRules .limits) (plainRules .widths) (plainRules .refutations) C) M C (before ∷ []) (after ∷ []) (r .number) b c e (o .gives .buffers) SheetNumber (subst SheetNumber (sym e) (sheet-numbered M C (before ∷ [])));
       }
 
-  pub pair-refused : {r : Answer} → RefusedAs Plain M C (limits .states) r → SheetAnswered M C before before r
+  pub pair-refused : {r : Answer} → RefusedAs Plain currentTerms M C (limits .states) r → SheetAnswered M C before before r
   pair-refused a = with-demands (a .refuses (writesSheet plainRule C) (before ∷ []) (room C before))
 
-  module _ {n count at : ℕ} (a : AcceptedAt Plain M C (limits .states) n count at) where
+  module _ {n count at : ℕ} (a : AcceptedAt Plain currentTerms M C (limits .states) n count at) where
     abbrev blocks : List ℕ
     blocks = take (at + n - at) (drop at C)
 

@@ -7,6 +7,7 @@ ghost use Rattle.sheet.specs.Sheet.{SheetAnswered};
 use answer::Answer;
 use judgement::Verdict;
 use limits::STATES;
+use limits::Terms;
 use rule_kind::Kind;
 
 // The sheet of accepted blocks, written if there is room for it. The pairs still related are those that share a block, so their rows are made
@@ -30,7 +31,7 @@ pub fn sheet_answer(model: &[u8], certificate: &[u8], out: &mut [u8]) -> Answer
     if head.number != 0 {
         return head;
     }
-    let found = judgement::judge_files(Kind::Plain, model, certificate, STATES);
+    let found = judgement::judge_files(Kind::Plain, Terms::Any, model, certificate, STATES);
     match found {
         Verdict::Accepted {
             states,

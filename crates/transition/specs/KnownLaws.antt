@@ -7,13 +7,15 @@ use native.Mathlib.Omega.{arith}
 use Rattle.bisimulation.specs.definitions.Prices.{priceOfTargets}
 use Rattle.bisimulation.specs.argument.SumLaws.{sumℤCong}
 use lib.IntN.{ℤ, pos, _*ℤ_}
-use Rattle.rules.specs.definitions.Limits.{limits}
+use Rattle.rules.specs.definitions.Limits.{Limits, limits}
 use Rattle.limits.specs.Sizes as sizes
+use Rattle.limits.specs.TermsBy.{limitsBy}
+use Rattle.limits.specs.declared.Terms.{Terms}
 use Rattle.rules.specs.definitions.Model.{Entry, noTransition, automatonOf}
 use Rattle.rules.specs.definitions.Reading.{sound, scanWhole, readWhole, statesOf, countOf, entryCountAt, afterTransition, transitionAt, modelAt, placeOf, readingOf}
 use Rattle.rules.specs.argument.ReadingLaws.{Sound, Tells, whole-tells}
 use Rattle.rules.specs.definitions.SoundModel.{Bytes, SoundModel, TransitionRules}
-use Rattle.rules.specs.argument.SoundModelLaws.{each-at, from-along}
+use Rattle.rules.specs.argument.SoundModelLaws.{each-at, from-along, sound-any}
 use Rattle.rules.specs.argument.ReadSound.{read-whole-sound}
 use Rattle.rules.specs.argument.AnswerLaws.{labels-length}
 use Rattle.rules.specs.argument.ModelAutomaton.{length-transitionsAt, automaton-states, automaton-transitions, automaton-source, automaton-action, automaton-denominator, automaton-weight, transition-is}
@@ -25,8 +27,8 @@ use Rattle.transition_record.specs.declared.Fields.{Fields}
 use Rattle.transition.specs.Known.{automatonIn, Known, KnownTransition, FieldsOf, entriesOf, EntriesKnown}
 
 -- what a scan tells of a sound model
-pub known-told : {s : List ℕ} {n m count end : ℕ} {table : List ℕ} → Sound limits s n m count end → SoundModel limits (modelAt s) → PlacesHeld s (count + 1) table → length table ≡ sizes.places → Known s n count table
-known-told told rules held size =
+pub known-told : (L : Limits) {s : List ℕ} {n m count end : ℕ} {table : List ℕ} → Sound L s n m count end → SoundModel limits (modelAt s) → PlacesHeld s (count + 1) table → length table ≡ sizes.places → Known s n count table
+known-told L told rules held size =
     record {
       sound = rules;
       states = told .states;
@@ -38,10 +40,11 @@ known-told told rules held size =
     }
 
 -- what the reader's answer tells
-pub known : (s : List ℕ) (n m count end : ℕ) (table : List ℕ) → Bytes s → sound n m count end ≡ scanWhole limits s → PlacesHeld s (count + 1) table → length table ≡ sizes.places → Known s n count table
+pub known : (terms : Terms) (s : List ℕ) (n m count end : ℕ) (table : List ℕ) → Bytes s → sound n m count end ≡ scanWhole (limitsBy terms) s → PlacesHeld s (count + 1) table → length table ≡ sizes.places → Known s n count table
 unfolding readWhole readingOf
-known s n m count end table bytes e held size =
-    known-told (subst (Tells limits s) (sym e) (whole-tells limits s)) (read-whole-sound limits s (modelAt s) end bytes (ap (readingOf s) (sym e)) .0) held size
+known terms s n m count end table bytes e held size =
+    known-told (limitsBy terms) (subst (Tells (limitsBy terms) s) (sym e) (whole-tells (limitsBy terms) s))
+    (sound-any (limitsBy terms) (modelAt s) (read-whole-sound (limitsBy terms) s (modelAt s) end bytes (ap (readingOf s) (sym e)) .0)) held size
 
 module _ {s table : List ℕ} {n count : ℕ} (k : Known s n count table) where
   -- the places in another table

@@ -3,7 +3,8 @@ use Prim.Native.Nat.{ℕ, _+_, _<_}
 use mathlib.Core.Path.{_≡_}
 use mathlib.Core.List.{List}
 use Rattle.rules.specs.definitions.Reading.{sourceAt, actionAt, denominatorAt, entryCountAt, afterTransition, transitionFault}
-use Rattle.rules.specs.definitions.Limits.{limits}
+use Rattle.limits.specs.TermsBy.{limitsBy}
+use Rattle.limits.specs.declared.Terms.{Terms}
 use Rattle.fault.specs.Faults.{Placed}
 use Rattle.transition_record.specs.declared.Transition.{Transition}
 use Rattle.transition_record.specs.declared.Fields.{Fields}
@@ -18,9 +19,9 @@ pub record FieldsAt (s : List ℕ) (at : ℕ) (r : Fields) : Type 0 where
   pub small : r .count < 256
   pub entries : r .entries .at ≡ at + 7
 
--- a transition record: its fault, at its place; and where there is none its source and entry count, and the cursor is past it
-pub record TransitionRead (s : List ℕ) (n m last entries at : ℕ) (r : Transition) : Type 0 where
-  pub fault : Placed (transitionFault limits s n m last entries at) at (r .fault)
+-- a transition record in these terms: its fault, at its place; and where there is none its source and entry count, and the cursor is past it
+pub record TransitionRead (terms : Terms) (s : List ℕ) (n m last entries at : ℕ) (r : Transition) : Type 0 where
+  pub fault : Placed (transitionFault (limitsBy terms) s n m last entries at) at (r .fault)
   pub source : r .fault .number ≡ 0 → r .source ≡ sourceAt s at
   pub count : r .fault .number ≡ 0 → r .count ≡ entryCountAt s at
   pub next : r .fault .number ≡ 0 → r .next .at ≡ afterTransition s at

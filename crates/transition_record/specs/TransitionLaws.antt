@@ -4,15 +4,19 @@ use mathlib.Core.Path.{_≡_, refl, sym, _∙_, ap}
 use mathlib.Core.List.{List}
 use lib.ListN.{length}
 use native.Mathlib.Omega.{arith}
+use Rattle.bisimulation.specs.definitions.Choice.{ifLess}
 use Rattle.bisimulation.specs.argument.ChoiceLaws.{less, notLess}
 use Rattle.rules.specs.definitions.Limits.{limits}
 use Rattle.rules.specs.definitions.Faults as rules
-use Rattle.rules.specs.definitions.Faults.{fault, modelRecord, openFault}
-use Rattle.rules.specs.definitions.Reading.{denominatorAt, entryCountAt, afterTransition, fixedFaultAt, entriesFault, transitionFault}
+use Rattle.rules.specs.definitions.Faults.{fault, firstOf, modelRecord, openFault}
+use Rattle.rules.specs.definitions.Reading.{denominatorAt, entryCountAt, afterTransition, fixedFault, fixedFaultAt, entriesFault, transitionAt, transitionFault}
 use Rattle.rules.specs.argument.FaultLaws.{first-stops, first-passes, model-refuses, opened}
 use Rattle.fault.specs.Faults.{faultOf, Placed}
 use Rattle.fault.specs.FaultsLaws.{none-is, placed-some, placed-as}
 use Rattle.fault.specs.declared.Fault.{Fault}
+use Rattle.limits.specs.TermsBy.{termsOf, limitsBy}
+use Rattle.limits.specs.declared.Terms.{Terms}
+use Rattle.transition_terms.specs.Divisors.{TermsJudged}
 use Rattle.transition_record.specs.declared.Fields.{Fields}
 use Rattle.transition_entries.specs.declared.Entries.{Entries}
 use Rattle.transition_entries.specs.EntriesRead.{EntriesRead}
@@ -23,38 +27,53 @@ use Rattle.transition_record.specs.Fields.{FieldsAt, TransitionRead}
 pub fixed-whole : (s : List ℕ) (at : ℕ) (o : Fault) → faultOf o ≡ openFault modelRecord 0x5452 7 s at → o .number ≡ 0 → at + 7 ≤ length s
 fixed-whole s at o opens z = opened modelRecord 0x5452 7 s at model-refuses (none-is o opens z) .whole
 
-module _ (s : List ℕ) (n m last entries at : ℕ) where
+module _ (terms : Terms) (s : List ℕ) (n m last entries at : ℕ) where
   -- a refusal says nothing of the fields
-  refused : (f : Fault) (r : Transition) → Placed (faultOf f) at (r .fault) → (f .number ≡ 0 → ⊥) → faultOf f ≡ transitionFault limits s n m last entries at → TransitionRead s n m last entries at r
+  refused : (f : Fault) (r : Transition) → Placed (faultOf f) at (r .fault) → (f .number ≡ 0 → ⊥) → faultOf f ≡ transitionFault (limitsBy terms) s n m last entries at → TransitionRead terms s n m last entries at r
   refused f r p some e =
       record { fault = placed-as p e; source = λ z. absurd (placed-some f p some z); count = λ z. absurd (placed-some f p some z); next = λ z. absurd (placed-some f p some z) }
 
   module _ (o : Fault) (opens : faultOf o ≡ openFault modelRecord 0x5452 7 s at) where
-    pub not-opened : (r : Transition) → Placed (faultOf o) at (r .fault) → (o .number ≡ 0 → ⊥) → TransitionRead s n m last entries at r
+    pub not-opened : (r : Transition) → Placed (faultOf o) at (r .fault) → (o .number ≡ 0 → ⊥) → TransitionRead terms s n m last entries at r
     unfolding transitionFault
     not-opened r p some = refused o r p some (first-stops _ _ opens some)
 
     module _ (z : o .number ≡ 0) where
-      module _ (x : Fault) (fixed : faultOf x ≡ fixedFaultAt limits s n m last entries at) where
-        pub not-fixed : (r : Transition) → Placed (faultOf x) at (r .fault) → (x .number ≡ 0 → ⊥) → TransitionRead s n m last entries at r
+      module _ (x : Fault) (given : faultOf x ≡ fixedFaultAt limits s n m last entries at) where
+        -- the fixed fields have no terms
+        fixed : faultOf x ≡ fixedFaultAt (limitsBy terms) s n m last entries at
+        unfolding fixedFaultAt fixedFault
+        fixed = given
+
+        pub not-fixed : (r : Transition) → Placed (faultOf x) at (r .fault) → (x .number ≡ 0 → ⊥) → TransitionRead terms s n m last entries at r
         unfolding transitionFault
         not-fixed r p some = refused x r p some (first-passes _ _ opens z (first-stops _ _ fixed some))
 
         module _ (y : x .number ≡ 0) (t : Fields) (fields : FieldsAt s at t) where
-          pub cut : (f : Fault) (r : Transition) → Placed (faultOf f) at (r .fault) → faultOf f ≡ fault 1 → length s < at + 7 + 3 * t .count → TransitionRead s n m last entries at r
+          pub cut : (f : Fault) (r : Transition) → Placed (faultOf f) at (r .fault) → faultOf f ≡ fault 1 → length s < at + 7 + 3 * t .count → TransitionRead terms s n m last entries at r
           unfolding transitionFault afterTransition
           cut f r p e short =
               refused f r p (omega (arith, ap (λ (g : rules.Fault). g .number) e))
               (first-passes _ _ opens z (first-passes _ _ fixed y (less _ (omega (arith, fields .count)) e)))
 
-          pub stands : (e : Entries) (g : Fault) → EntriesRead s n (t .denominator) (t .count) (t .entries .at) e → Placed (faultOf (e .fault)) at g → at + 7 + 3 * t .count ≤ length s → TransitionRead s n m last entries at (record { fault = g; source = t .source; count = t .count; next = e .next })
-          unfolding transitionFault afterTransition
-          stands e g read p whole =
-              let entries-are : faultOf (e .fault) ≡ entriesFault s n (denominatorAt s at) (entryCountAt s at) (at + 7) 0 0 =
-              rw (sym (fields .denominator), sym (fields .count), sym (fields .entries)) (read .fault) in
-              record {
-                fault = placed-as p (first-passes _ _ opens z (first-passes _ _ fixed y (notLess _ (omega (arith, fields .count)) entries-are)));
-                source = λ _. fields .source;
-                count = λ _. fields .count;
-                next = λ w. omega (arith, read .next (ap (λ (k : rules.Fault). k .number) (sym (p .is)) ∙ w), fields .entries, fields .count);
-              }
+          module _ (e : Entries) (read : EntriesRead s n (t .denominator) (t .count) (t .entries .at) e) (whole : at + 7 + 3 * t .count ≤ length s) where
+            entries-are : faultOf (e .fault) ≡ entriesFault s n (denominatorAt s at) (entryCountAt s at) (at + 7) 0 0
+            entries-are = rw (sym (fields .denominator), sym (fields .count), sym (fields .entries)) (read .fault)
+
+            past-fixed : {f g : rules.Fault} → f ≡ g → f ≡ firstOf (openFault modelRecord 0x5452 7 s at) (firstOf (fixedFaultAt (limitsBy terms) s n m last entries at) (ifLess (length s) (afterTransition s at) (fault 1) g))
+            unfolding afterTransition
+            past-fixed q = first-passes _ _ opens z (first-passes _ _ fixed y (notLess _ (omega (arith, fields .count)) q))
+
+            pub not-entries : (r : Transition) → Placed (faultOf (e .fault)) at (r .fault) → (e .fault .number ≡ 0 → ⊥) → TransitionRead terms s n m last entries at r
+            unfolding transitionFault
+            not-entries r p some = refused (e .fault) r p some (past-fixed (first-stops _ _ entries-are some))
+
+            pub stands : e .fault .number ≡ 0 → (f g : Fault) → TermsJudged (termsOf terms) s (t .count) (t .entries .at) f → Placed (faultOf f) at g → TransitionRead terms s n m last entries at (record { fault = g; source = t .source; count = t .count; next = e .next })
+            unfolding transitionFault afterTransition transitionAt
+            stands none f g judged p =
+                record {
+                  fault = placed-as p (past-fixed (first-passes _ _ entries-are none (judged .is (transitionAt s at) (rw (fields .count, fields .entries) refl))));
+                  source = λ _. fields .source;
+                  count = λ _. fields .count;
+                  next = λ w. omega (arith, read .next none, fields .entries, fields .count);
+                }

@@ -9,6 +9,7 @@ ghost use Rattle.transition_record.specs.Fields.{FieldsAt, TransitionRea
 use fault::Fault;
 use field::Cursor;
 use limits::ENTRIES;
+use limits::Terms;
 
 const TRANSITION_MARK: usize = 0x5452;
 
@@ -97,9 +98,10 @@ fn refused(fault: Fault, place: Cursor) -> Transition
     }
 }
 
-// The transition record at a place, of n states and m actions, after the last source and so many entries.
+// The transition record at a place, of n states and m actions, after the last source and so many entries, in these terms.
 pub fn transition_at(
     s: &[u8],
+    terms: Terms,
     n: usize,
     m: usize,
     last: usize,
@@ -107,7 +109,7 @@ pub fn transition_at(
     place: Cursor,
 ) -> Transition
     requires { ⌜ (place .at ≤ length (now s)) × (entries ≤ limits .entries) ⌝ }
-    ensures { λ r. ⌜ TransitionRead (now (s .entry)) n m last entries (place .at) r ⌝ }
+    ensures { λ r. ⌜ TransitionRead terms (now (s .entry)) n m last entries (place .at) r ⌝ }
 {
     let opened = record::open_model(s, place.at, TRANSITION_MARK, 7);
     if opened.number != 0 {
@@ -125,8 +127,12 @@ pub fn transition_at(
     let read = transition_entries::entries_at(s, n, t.denominator, t.count, t.entries);
     let wrong = read.fault;
     let next = read.next;
+    if wrong.number != 0 {
+        return refused(wrong, place);
+    }
+    let spelled = transition_terms::terms_fault(s, terms, t.count, t.entries);
     Transition {
-        fault: wrong.at(place.at),
+        fault: spelled.at(place.at),
         source: t.source,
         count: t.count,
         next,

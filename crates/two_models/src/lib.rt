@@ -4,6 +4,7 @@ ghost use lib.ListN.{length};
 ghost use Rattle.limits.specs.Sizes as sizes;
 ghost use Rattle.two_models.specs.TwoModels.{SoundFile, TwoReadIs};
 use answer::Answer;
+use limits::Terms;
 use model::Model;
 use model::Places;
 use model::Scanned;
@@ -19,7 +20,7 @@ fn read_second(first: &[u8], m: Model, second: &[u8], places: &mut Places) -> Tw
     requires { ⌜ SoundFile (now first) m × (length (now places) ≡ sizes.places) ⌝ }
     ensures { λ r. ⌜ TwoReadIs (now (first .entry)) (now (second .entry)) (now (places .exit)) r ⌝ }
 {
-    let read = model::scan_file(second, places);
+    let read = model::scan_file(second, Terms::Any, places);
     match read {
         Scanned::Sound(n) => TwoRead::Sound {
             first: m,
@@ -34,7 +35,7 @@ pub fn read_two(first: &[u8], second: &[u8], places: &mut Places) -> TwoRead
     requires { ⌜ length (now places) ≡ sizes.places ⌝ }
     ensures { λ r. ⌜ TwoReadIs (now (first .entry)) (now (second .entry)) (now (places .exit)) r ⌝ }
 {
-    let scanned = model::scan_file(first, places);
+    let scanned = model::scan_file(first, Terms::Any, places);
     match scanned {
         Scanned::Sound(m) => read_second(first, m, second, places),
         Scanned::Refused(wrong) => TwoRead::Refused(answer::refusal_in(wrong, 1, first.len())),

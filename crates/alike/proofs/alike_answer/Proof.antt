@@ -17,7 +17,7 @@ unfolding Bytes byteAt
 returns c =
     let files = c .before .before in
     pair-refused (λ i h. omega (arith, files .before .before .shared-slice-known .given i)) (λ i h. omega (arith, files .before .shared-slice-known2 .given i)) _
-    (files .head-answer .ensures .refused (c .if1 .taken) _ _ _) refl
+    (files .head-answer .ensures .refused (c .if1 .taken) _ _ _ _) refl
 
 judge-files-requires : tie.Need-judge-files-requires
 judge-files-requires c κs = c .before .before .head-answer .ensures .good (c .if1 .left)

@@ -31,7 +31,7 @@ use Rattle.rules.specs.argument.LargestBlocks.{Numbered}
 use Rattle.rules.specs.argument.Demand3Holds.{holds-read, facts-of}
 use Rattle.rules.specs.argument.PairOutcome.{FollowsLaws}
 use Rattle.rules.specs.argument.JudgedFirst.{Found, found-outcome}
-use Rattle.rules.specs.argument.DemandsHold.{file-follow, follow-at, file-late, late-numbered}
+use Rattle.rules.specs.argument.DemandsHold.{file-follow, file-late, late-numbered}
 use Rattle.rules.specs.argument.PlainRules.{plainRulesAt, plainRules}
 use Rattle.block_sheet.specs.definitions.Sheet.{members, sizeColumn, sheet}
 use Rattle.block_sheet.specs.argument.SheetLaws.{SharedAsRelated, size-members, some-member, sheet-same, sheet-most}
@@ -71,11 +71,11 @@ good-shared A R blocks good = record { pair = λ v u h l. go v u h l (R v u) ref
         q ∙ sym (ne-eqb _ _ (λ e. false-not (sym q ∙ good .asRelated v u (omega (arith, good .whole)) (omega (arith, good .whole)) .0 e)))
 
 -- what follows acceptance, and its numbers
-pub sheet-follow : (C : List ℕ) → FollowsLaws plainRules (writesSheet plainRule C)
-sheet-follow C = file-follow 28 (sheetFile plainRule C) (omega arith)
+pub sheet-follow : (L : Limits) (widths : FitsWidths L) (few : L .refutations < 65536) (C : List ℕ) → FollowsLaws (plainRulesAt L widths few) (writesSheet plainRule C)
+sheet-follow L widths few C = file-follow L widths few 28 (sheetFile plainRule C) (omega arith) (λ z. omega (arith, z))
 
 pub sheet-numbered : (M C : List ℕ) (before : List (List ℕ)) → SheetNumber (outcomeBy plainPairs (writesSheet plainRule C) M C before .answer .number)
-sheet-numbered M C before = late-numbered M C before (writesSheet plainRule C) (sheet-follow C) (λ N. refl)
+sheet-numbered M C before = late-numbered M C before (writesSheet plainRule C) (sheet-follow (plainRules .limits) (plainRules .widths) (plainRules .refutations) C) (λ N. refl)
 
 module _ (by : PairRules) (M C : List ℕ) (b : Bytes M) (c : Bytes C) where
   -- an accepted pair
@@ -130,7 +130,7 @@ pub sheet-short : (L : Limits) (widths : FitsWidths L) (few : L .refutations < 6
 unfolding sheetFile
 sheet-short L widths few M C buffer b c =
     let by = plainRulesAt L widths few in
-    file-late by 28 (sheetFile plainRule C) (follow-at L widths few (sheet-follow C)) (λ z. omega (arith, z)) M C buffer (73 * L .states)
+    file-late by 28 (sheetFile plainRule C) (sheet-follow L widths few C) (λ z. omega (arith, z)) M C buffer (73 * L .states)
     (λ a. omega (arith, sheet-most (stillRelated plainRule (automatonOf (a .N)) C) (a .blocks), found-whole by M C b c a .few))
 
 -- of less than 9,344 bytes

@@ -1,8 +1,9 @@
 -- Document 02, K4: the call that writes the sheet of an accepted certificate.
 use Prim.Native.Nat.{ℕ, zero, suc}
-use mathlib.Core.List.{List}
+use mathlib.Core.List.{List, [], _∷_}
 use Rattle.bisimulation.specs.definitions.Automaton.{Automaton}
 use Rattle.bisimulation.specs.definitions.Pairs.{Pairs, equalLabels}
+use Rattle.rules.specs.definitions.Limits.{current}
 use Rattle.rules.specs.definitions.Model.{Model, automatonOf}
 use Rattle.rules.specs.definitions.Certificate.{FileRule, refutationCount, pairsAfter, afterRefutation}
 use Rattle.rules.specs.definitions.Answers.{Follows, writesFile, LateNumber}
@@ -27,4 +28,4 @@ writesSheet rule C = writesFile 28 (sheetFile rule C)
 
 -- its numbers
 abbrev pub SheetNumber : ℕ → Type 0
-SheetNumber = LateNumber 28
+SheetNumber = LateNumber (current .terms) (28 ∷ [])

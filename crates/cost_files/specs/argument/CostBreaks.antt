@@ -4,6 +4,7 @@ use mathlib.Core.Logic.{inl, inr, ⊎-elim}
 use mathlib.Core.List.{List}
 use native.Mathlib.Omega.{arith}
 use Rattle.bisimulation.specs.argument.ChoiceLaws.{eitherSame}
+use Rattle.rules.specs.definitions.Limits.{current}
 use Rattle.rules.specs.definitions.Faults.{Fault}
 use Rattle.rules.specs.definitions.PlainRule.{byKind}
 use Rattle.rules.specs.definitions.Answers.{Follows}
@@ -13,7 +14,7 @@ use Rattle.rules.specs.argument.FaultLaws.{either-first}
 use Rattle.rules.specs.argument.PlainRules.{PlainNumber, ModelNumber}
 use Rattle.rules.specs.argument.PairOutcome.{FollowsLaws}
 use Rattle.rules.specs.argument.BreakOrder.{InOrder, equationKinds, plain-order}
-use Rattle.rules.specs.argument.BreakJudged.{Broken, Unbroken, TellsBreaks, unbroken, AnswerBreaks, break-answered, internal-unbroken, external-unbroken}
+use Rattle.rules.specs.argument.BreakJudged.{read-unbroken, Broken, Unbroken, TellsBreaks, unbroken, AnswerBreaks, break-answered, internal-unbroken, external-unbroken}
 use Rattle.costs.specs.definitions.CostPrices.{priceWithCost}
 use Rattle.cost_files.specs.definitions.CostModel.{costOf}
 use Rattle.cost_files.specs.definitions.CostFile.{costPricesFault, costEquationFault, costEquationsFault, costFile}
@@ -38,5 +39,5 @@ pub cost-break-answered : (M C : List ℕ) (follows : Follows) → FollowsLaws c
 unfolding RefusalOf PlainNumber ModelNumber CostNumber CostModelNumber
 cost-break-answered M C =
     break-answered costRules equationKinds M C (cost-breaks _)
-    (λ k h. unbroken k (λ z. ⊎-elim (λ x. omega (arith, x, z)) (λ x. omega (arith, x, z)) h) (λ z. ⊎-elim (λ x. omega (arith, x, z)) (λ x. omega (arith, x, z)) h))
+    (λ k h. ⊎-elim (λ x. read-unbroken (current .terms) k (x .1)) (λ x. unbroken k (λ z. omega (arith, x, z)) (λ z. omega (arith, x, z))) h)
     (inr (inr (inl (inr (omega arith, omega arith))))) (inr (inr (inl (inr (omega arith, omega arith)))))

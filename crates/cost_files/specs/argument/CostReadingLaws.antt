@@ -7,7 +7,7 @@ use lib.ListN.{length, take, drop, length-append, length-drop, take-append-drop}
 use lib.Seq.{getD-take, getD-drop, take-all, take-append-seam, length-take-le}
 use native.Mathlib.Omega.{arith}
 use Rattle.bisimulation.specs.argument.ChoiceLaws.{less, notLess, eitherLess}
-use Rattle.rules.specs.definitions.Limits.{Limits, longestModel}
+use Rattle.rules.specs.definitions.Limits.{Terms, Limits, longestModel}
 use Rattle.rules.specs.definitions.Bytes.{byteAt, twoAt, twoBytes}
 use Rattle.rules.specs.argument.BytesLaws.{past, past-all, first-byte, first-two, byte-then, two-then}
 use Rattle.rules.specs.definitions.Model.{Model, modelBytes}
@@ -15,8 +15,8 @@ use Rattle.rules.specs.definitions.SoundModel.{Each, Bytes, FitsWidths}
 use Rattle.rules.specs.argument.SoundModelLaws.{each-at}
 use Rattle.rules.specs.definitions.Faults.{Fault, fault, noFault, modelRecord, openFault}
 use Rattle.rules.specs.argument.FaultLaws.{Told, told-fault, model-refuses, opened, opens, either-open, pass-ifLess}
-use Rattle.rules.specs.definitions.Reading.{countOf, headFault, Scan, sound, refused, scanModel, refuseBytesLeft, scanWhole, transitionsAt, modelAt, model, noModel, readingOf, readModel, readWhole, afterTransition, placeOf}
-use Rattle.rules.specs.argument.ReadingLaws.{refuse-stops, refuse-passes, refuse-cases, Sound, Tells, scan-tells}
+use Rattle.rules.specs.definitions.Reading.{ReadNumber, countOf, headFault, Scan, sound, refused, scanModel, refuseBytesLeft, scanWhole, transitionsAt, modelAt, model, noModel, readingOf, readModel, readWhole, afterTransition, placeOf}
+use Rattle.rules.specs.argument.ReadingLaws.{read-low, refuse-stops, refuse-passes, refuse-cases, Sound, Tells, scan-tells}
 use Rattle.rules.specs.argument.ReadBack.{ModelBack, model-back}
 use Rattle.rules.specs.argument.ReadSound.{refuse-past, none-left, read-scan, SoundRead, read-sound}
 use Rattle.rules.specs.argument.LengthLaws.{sound-within, longest-file, longer-refused}
@@ -212,70 +212,70 @@ module _ (L : Limits) (fits : FitsWidths L) (s : List ℕ) (M : Model) (f : Cost
       ap (λ (k : Scan). readingOf s (refuseBytesLeft s k)) (sym (back .scan))
       ∙ ap (readingOf s) (sym (less _ (omega (arith, ap length (f .encoded), length-append (modelBytes M) (costsBytes (f .costs)))) refl))
 
--- the numbers of reading a cost model: 1 to 9, and 29
-unfoldable pub CostModelNumber : ℕ → Type 0
-CostModelNumber k = ModelNumber k ⊎ (k ≡ 29)
+-- the refusals of reading a cost model: those of reading a model, and 29
+unfoldable pub CostModelNumber : Terms → ℕ → Type 0
+CostModelNumber terms k = ModelNumber terms k ⊎ (k ≡ 29)
 
-abbrev Listed : Fault → Type 0
-Listed f = NoneOr CostModelNumber f
+module _ (L : Limits) where
+  abbrev Listed : Fault → Type 0
+  Listed f = NoneOr (CostModelNumber (L .terms)) f
 
-listed : (k : ℕ) → ModelNumber k → Listed (fault k)
-unfolding CostModelNumber ModelNumber
-listed k h = record { number = inr (inl h); told = told-fault k (omega (arith, h)) }
+  listed : (k : ℕ) → 1 ≤ k → k ≤ 9 → Listed (fault k)
+  unfolding CostModelNumber ModelNumber
+  listed k some few = record { number = inr (inl (some, read-low (L .terms) k few)); told = told-fault k (omega arith) }
 
-none-listed : Listed noFault
-none-listed = record { number = inl refl; told = told-fault 0 (omega arith) }
+  none-listed : Listed noFault
+  none-listed = record { number = inl refl; told = told-fault 0 (omega arith) }
 
-cost-listed : (cost : ℕ) → Listed (costFault cost)
-unfolding costFault CostModelNumber
-cost-listed cost = eitherLess Listed _ _ (record { number = inr (inr refl); told = told-fault 29 (omega arith) }) none-listed
+  cost-listed : (cost : ℕ) → Listed (costFault cost)
+  unfolding costFault CostModelNumber
+  cost-listed cost = eitherLess Listed _ _ (record { number = inr (inr refl); told = told-fault 29 (omega arith) }) none-listed
 
-open-listed : (mark size : ℕ) (s : List ℕ) (at : ℕ) → Listed (openFault modelRecord mark size s at)
-unfolding ModelNumber
-open-listed mark size s at = either-open modelRecord mark size s at Listed (listed 1 (omega arith, omega arith)) (listed 2 (omega arith, omega arith)) none-listed
+  open-listed : (mark size : ℕ) (s : List ℕ) (at : ℕ) → Listed (openFault modelRecord mark size s at)
+  open-listed mark size s at = either-open modelRecord mark size s at Listed (listed 1 (omega arith) (omega arith)) (listed 2 (omega arith) (omega arith)) none-listed
 
--- what a refusal of reading tells, and where a sound scan ends
-abbrev Refusal : List ℕ → Fault → (place : ℕ) → Type 0
-Refusal s f place = (f .number ≡ 0 → ⊥) × CostModelNumber (f .number) × (place ≤ length s) × Told f
+  module _ (s : List ℕ) where
+    -- what a refusal of reading tells, and where a sound scan ends
+    abbrev Refusal : Fault → (place : ℕ) → Type 0
+    Refusal f place = (f .number ≡ 0 → ⊥) × CostModelNumber (L .terms) (f .number) × (place ≤ length s) × Told f
 
-abbrev CostTells : List ℕ → Scan → Type 0
-CostTells s (sound n m count end) = end ≤ length s
-CostTells s (refused f place) = Refusal s f place
+    abbrev CostTells : Scan → Type 0
+    CostTells (sound n m count end) = end ≤ length s
+    CostTells (refused f place) = Refusal f place
 
-module _ (s : List ℕ) where
-  refused-tells : (f : Fault) (place : ℕ) → Listed f → place ≤ length s → (f .number ≡ 0 → ⊥) → Refusal s f place
-  refused-tells f place l inside n = (n, ⊎-elim (λ z. absurd (n z)) (λ z. z) (l .number), inside, l .told)
+    refused-tells : (f : Fault) (place : ℕ) → Listed f → place ≤ length s → (f .number ≡ 0 → ⊥) → Refusal f place
+    refused-tells f place l inside n = (n, ⊎-elim (λ z. absurd (n z)) (λ z. z) (l .number), inside, l .told)
 
-  costs-tell : (left at : ℕ) (next : Scan) → at + left ≤ length s → CostTells s next → CostTells s (scanCosts s left at next)
-  unfolding scanCosts
-  costs-tell zero at next inside t = t
-  costs-tell (suc left) at next inside t =
-      refuse-cases (CostTells s) _ at _ (refused-tells _ at (cost-listed _) (omega arith)) (λ p. costs-tell left (at + 1) next (omega arith) t)
+    costs-tell : (left at : ℕ) (next : Scan) → at + left ≤ length s → CostTells next → CostTells (scanCosts s left at next)
+    unfolding scanCosts
+    costs-tell zero at next inside t = t
+    costs-tell (suc left) at next inside t =
+        refuse-cases CostTells _ at _ (refused-tells _ at (cost-listed _) (omega arith)) (λ p. costs-tell left (at + 1) next (omega arith) t)
 
-  record-tells : (L : Limits) (scan : Scan) → Tells L s scan → CostTells s (scanCostRecord s scan)
-  unfolding scanCostRecord CostModelNumber ModelNumber
-  record-tells L (sound n m count end) t =
-      refuse-cases (CostTells s) _ end _ (refused-tells _ end (open-listed 0x434F (2 + count) s end) (t .inside))
-      (λ p.
-      let o = opened modelRecord 0x434F (2 + count) s end model-refuses p in
-      costs-tell count (end + 2) _ (omega (arith, o .whole)) (omega (arith, o .whole)))
-  record-tells L (refused f place) t = (λ z. omega (arith, t .some), inl (t .some, t .known), t .inside, t .told)
+    record-tells : (scan : Scan) → Tells L s scan → CostTells (scanCostRecord s scan)
+    unfolding scanCostRecord CostModelNumber ModelNumber
+    record-tells (sound n m count end) t =
+        refuse-cases CostTells _ end _ (refused-tells _ end (open-listed 0x434F (2 + count) s end) (t .inside))
+        (λ p.
+        let o = opened modelRecord 0x434F (2 + count) s end model-refuses p in
+        costs-tell count (end + 2) _ (omega (arith, o .whole)) (omega (arith, o .whole)))
+    record-tells (refused f place) t = (λ z. omega (arith, t .some), inl (t .some, t .known), t .inside, t .told)
 
-  left-tells : (scan : Scan) → CostTells s scan → CostTells s (refuseBytesLeft s scan)
-  unfolding refuseBytesLeft ModelNumber
-  left-tells (sound n m count end) t = eitherLess (CostTells s) end (length s) (refused-tells (fault 9) end (listed 9 (omega arith, omega arith)) t (λ z. omega (arith, z))) t
-  left-tells (refused f place) t = t
+    left-tells : (scan : Scan) → CostTells scan → CostTells (refuseBytesLeft s scan)
+    unfolding refuseBytesLeft
+    left-tells (sound n m count end) t = eitherLess CostTells end (length s) (refused-tells (fault 9) end (listed 9 (omega arith) (omega arith)) t (λ z. omega (arith, z))) t
+    left-tells (refused f place) t = t
 
-pub cost-refusal-told : (L : Limits) (s : List ℕ) (f : Fault) (place : ℕ) → readCosts L s ≡ noModel f place → (f .number ≡ 0 → ⊥) × CostModelNumber (f .number) × (place ≤ length s) × Told f
-unfolding readCosts scanCostModel readingOf
-cost-refusal-told L s f place e = go (scanCostModel L s) (left-tells s _ (record-tells s L _ (scan-tells L s))) e
-  where
-    go : (scan : Scan) → CostTells s scan → readingOf s scan ≡ noModel f place → Refusal s f place
-    go (sound n m count end) t q = let z : _≡_ {A = ℕ} 0 1 = cc in absurd (omega arith)
-    go (refused g at) t q =
-        let same : g ≡ f = cc in
-        let there : at ≡ place = cc in
-        subst (λ (x : Fault). Refusal s x place) same (subst (Refusal s g) there t)
+    pub cost-refusal-told : (f : Fault) (place : ℕ) → readCosts L s ≡ noModel f place → (f .number ≡ 0 → ⊥) × CostModelNumber (L .terms) (f .number) × (place ≤ length s) × Told f
+    unfolding readCosts scanCostModel readingOf
+    cost-refusal-told f place e = go (scanCostModel L s) (left-tells _ (record-tells _ (scan-tells L s))) e
+      where
+        go : (scan : Scan) → CostTells scan → readingOf s scan ≡ noModel f place → Refusal f place
+        go (sound n m count end) t q = let z : _≡_ {A = ℕ} 0 1 = cc in absurd (omega arith)
+        go (refused g at) t q =
+            let same : g ≡ f = cc in
+            let there : at ≡ place = cc in
+            subst (λ (x : Fault). Refusal x place) same (subst (Refusal g) there t)
 
 -- files of cost models, within the limits
 abbrev pub costFiles : (L : Limits) → FitsWidths L → ModelFiles L
@@ -286,7 +286,7 @@ costFiles L fits =
       exactly = λ s M b. (λ r. cost-read-sound L s b M (length s) r .0, cost-read-back L fits s M);
       whole = λ s M end b r. cost-read-sound L s b M end r .1;
       sound = λ s M f. f .sound;
-      numbers = CostModelNumber;
+      numbers = CostModelNumber (L .terms);
       answers = cost-refusal-told L;
     }
 

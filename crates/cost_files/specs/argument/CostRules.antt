@@ -4,10 +4,10 @@ use mathlib.Core.Path.{sym, ap, subst}
 use mathlib.Core.Logic.{_↔_}
 use mathlib.Core.List.{List}
 use native.Mathlib.Omega.{arith}
-use Rattle.rules.specs.definitions.Limits.{Limits, limits}
+use Rattle.rules.specs.definitions.Limits.{Limits, limits, current}
 use Rattle.rules.specs.definitions.Model.{Model, automatonOf}
 use Rattle.rules.specs.definitions.SoundModel.{Bytes, FitsWidths}
-use Rattle.rules.specs.argument.SoundModelLaws.{limits-fit, sound-bytes}
+use Rattle.rules.specs.argument.SoundModelLaws.{limits-fit, current-fit, sound-bytes}
 use Rattle.rules.specs.definitions.Reading.{readWhole}
 use Rattle.rules.specs.argument.ReadBack.{read-back-whole}
 use Rattle.rules.specs.definitions.Accepted.{Kept}
@@ -40,9 +40,13 @@ costRulesAt L widths few =
       oneRule = λ model other M N one. ap costCertificates (one .costs);
     }
 
--- within today's
+-- as the calls judge them
 abbrev pub costRules : PairRules
-costRules = costRulesAt limits limits-fit (omega arith)
+costRules = costRulesAt current current-fit (omega arith)
+
+-- with whatever terms
+abbrev pub storedCostRules : PairRules
+storedCostRules = costRulesAt limits limits-fit (omega arith)
 
 module _ (bytes C blocks : List ℕ) (b : Bytes bytes) (c : Bytes C) where
   as-kept : AcceptedAs costRules bytes C blocks → KeptWithCosts bytes C blocks
@@ -50,7 +54,7 @@ module _ (bytes C blocks : List ℕ) (b : Bytes bytes) (c : Bytes C) where
       record {
         M = a .M;
         file = a .file;
-        kept = subst (λ (costs : List ℕ). Kept limits (costSays costs) (costFile costs .mark) (automatonOf (a .M)) C blocks) (costs-in limits limits-fit bytes (a .M) (a .file)) (a .kept);
+        kept = subst (λ (costs : List ℕ). Kept current (costSays costs) (costFile costs .mark) (automatonOf (a .M)) C blocks) (costs-in current current-fit bytes (a .M) (a .file)) (a .kept);
       }
 
   kept-as : KeptWithCosts bytes C blocks → AcceptedAs costRules bytes C blocks
@@ -58,7 +62,7 @@ module _ (bytes C blocks : List ℕ) (b : Bytes bytes) (c : Bytes C) where
       record {
         M = k .M;
         file = k .file;
-        kept = subst (λ (costs : List ℕ). Kept limits (costSays costs) (costFile costs .mark) (automatonOf (k .M)) C blocks) (sym (costs-in limits limits-fit bytes (k .M) (k .file))) (k .kept);
+        kept = subst (λ (costs : List ℕ). Kept current (costSays costs) (costFile costs .mark) (automatonOf (k .M)) C blocks) (sym (costs-in current current-fit bytes (k .M) (k .file))) (k .kept);
       }
 
   -- demand 2: accepted exactly when the rules are kept with the model's costs
@@ -72,10 +76,10 @@ pub cost-demand3 : Demand3 costPairs
 cost-demand3 = demand3 costRules
 
 -- the bytes without the cost record hold the same model
-holds-without : (bytes : List ℕ) (M : Model) → CostFileOf limits bytes M → Bytes (withoutCosts bytes) × HoldsModel (readWhole limits) (withoutCosts bytes) M
+holds-without : (bytes : List ℕ) (M : Model) → CostFileOf current bytes M → Bytes (withoutCosts bytes) × HoldsModel (readWhole current) (withoutCosts bytes) M
 holds-without bytes M f =
-    subst (λ (s : List ℕ). Bytes s × HoldsModel (readWhole limits) s M) (sym (without-costs limits limits-fit bytes M f))
-    (sound-bytes limits M limits-fit (f .sound), record { reads = read-back-whole limits M limits-fit (f .sound) })
+    subst (λ (s : List ℕ). Bytes s × HoldsModel (readWhole current) s M) (sym (without-costs current current-fit bytes M f))
+    (sound-bytes current M current-fit (f .sound), record { reads = read-back-whole current M current-fit (f .sound) })
 
 -- 'accepted cost blocks must lie inside the accepted blocks of the same model without costs'
 pub cost-blocks-inside : CostBlocksInside

@@ -9,11 +9,13 @@ use Rattle.bisimulation.specs.definitions.Sum.{sum, sumℤ}
 use Rattle.bisimulation.specs.definitions.StepRule.{arriving, leaving, overTargets, overSources, beforeMove, afterMove, internalMove, atTarget}
 use Rattle.bisimulation.specs.definitions.Prices.{priceAt, priceOfTargets}
 use Rattle.bisimulation.specs.definitions.Pairs.{equalLabels, isPair, removed}
+use Rattle.numbers.specs.definitions.Divisor.{divisorWithin, divisor, divisorOf}
+use Rattle.rules.specs.definitions.LowestTerms.{divisorIn}
 use Rattle.rules.specs.definitions.Limits.{limits}
 use Rattle.rules.specs.definitions.Bytes.{byteAt, twoAt, threeAt, fourAt, signedAt, twoBytes}
 use Rattle.rules.specs.definitions.Model.{Model, headBytes, labelsBytes, entriesBytes, transitionBytes, transitionsBytes, modelBytes, weightOf, automatonOf}
 use Rattle.rules.specs.definitions.SoundModel.{Each}
-use Rattle.rules.specs.definitions.Reading.{statesOf, actionsOf, countOf, rangeFault, headFault, labelFault, labelsFault, sourceAt, actionAt, denominatorAt, entryCountAt, afterTransition, fixedFault, fixedFaultAt, entriesFault, transitionFault, refuseAt, scanTransitions, scanModel, refuseBytesLeft, scanWhole, entriesAt, transitionAt, transitionsAt, modelAt, model, readingOf, readWhole, placeOf}
+use Rattle.rules.specs.definitions.Reading.{statesOf, actionsOf, countOf, rangeFault, headFault, labelFault, labelsFault, sourceAt, actionAt, denominatorAt, entryCountAt, afterTransition, fixedFault, fixedFaultAt, entriesFault, termsFault, transitionFault, refuseAt, scanTransitions, scanModel, refuseBytesLeft, scanWhole, entriesAt, transitionAt, transitionsAt, modelAt, model, readingOf, readWhole, placeOf}
 use Rattle.rules.specs.definitions.Certificate.{refutationCount, certificateHeadFault, challengerAt, defenderAt, pricesAt, afterRefutation, pairFault, refutationFault, pairsAfter, blocksAt, numberedFault, sameBlock, agree, pairsFault, blocksFault, kCountAt, afterK, wCountAt, afterFlow, kOf, wOf, flowAt, kFault, wFault, flowFault}
 use Rattle.rules.specs.definitions.Encoding.{fourBytes, complement, priceBytes}
 use Rattle.rules.specs.definitions.Faults.{faultBy, fault, firstOf, openFault}
@@ -191,12 +193,12 @@ costOutcomeCases =
 
 -- the bytes of a cost model, its reading, also with a cost of 63, its costs and the file without them
 pub cost-model-cases : (costModelBytes senders (1 ∷ 5 ∷ 1 ∷ []) ≡ sendersFile) × (readCosts limits sendersFile ≡ model senders 46) × (readCosts limits (set sendersFile 44 63) ≡ model senders 46) × (costsIn sendersFile ≡ 1 ∷ 5 ∷ 1 ∷ []) × (withoutCosts sendersFile ≡ modelBytes senders) × (costsIn stillFile ≡ [])
-unfolding ifLess ifSame byteAt twoAt twoBytes headBytes labelsBytes entriesBytes transitionBytes transitionsBytes modelBytes openFault firstOf statesOf actionsOf countOf rangeFault headFault labelFault labelsFault sourceAt actionAt denominatorAt entryCountAt afterTransition fixedFault fixedFaultAt entriesFault transitionFault refuseAt scanTransitions scanModel refuseBytesLeft entriesAt transitionAt transitionsAt modelAt readingOf placeOf costsBytes costModelBytes transitionsEnd costsIn withoutCosts costFault scanCosts scanCostRecord scanCostModel readCosts senders sendersFile stillFile
+unfolding ifLess ifSame byteAt twoAt twoBytes headBytes labelsBytes entriesBytes transitionBytes transitionsBytes modelBytes openFault firstOf statesOf actionsOf countOf rangeFault headFault labelFault labelsFault sourceAt actionAt denominatorAt entryCountAt afterTransition fixedFault fixedFaultAt entriesFault divisorWithin divisor divisorOf divisorIn termsFault transitionFault refuseAt scanTransitions scanModel refuseBytesLeft entriesAt transitionAt transitionsAt modelAt readingOf placeOf costsBytes costModelBytes transitionsEnd costsIn withoutCosts costFault scanCosts scanCostRecord scanCostModel readCosts senders sendersFile stillFile
 cost-model-cases = (refl, refl, refl, refl, refl, refl)
 
 -- the tables; and for document 01's calls a cost model has bytes left, and a cost certificate another mark
 pub cost-cases : Each (λ (c : FilesCase). judge limits (readCosts limits) (costFile (costsIn (c .model))) (c .model) (c .certificate) ≡ c .expected) costCases × (judge limits (readWhole limits) plainRule sendersFile sendersCertificate ≡ refusedIn (fault 9) 1 41) × (judge limits (readWhole limits) plainRule (withoutCosts sendersFile) sendersCertificate ≡ refusedIn (fault 12) 2 0) × Each (λ (c : CostOutcomeCase). pairOutcome limits (readCosts limits) (costFile (costsIn (c .model))) writesBlocks (c .model) sendersCertificate (c .before ∷ []) ≡ c .expected) costOutcomeCases
-unfolding ifLess ifSame ifTrue allBelow sum sumℤ arriving leaving overTargets overSources beforeMove afterMove internalMove atTarget priceAt priceOfTargets byteAt twoAt threeAt fourAt signedAt twoBytes fourBytes complement priceBytes weightOf automatonOf openFault statesOf actionsOf countOf rangeFault headFault labelFault labelsFault sourceAt actionAt denominatorAt entryCountAt afterTransition fixedFault fixedFaultAt entriesFault transitionFault refuseAt scanTransitions scanModel refuseBytesLeft scanWhole entriesAt transitionAt transitionsAt modelAt readingOf readWhole placeOf firstOf both equalLabels isPair removed refutationCount certificateHeadFault challengerAt defenderAt pricesAt afterRefutation pairFault refutationFault pairsAfter blocksAt numberedFault sameBlock agree pairsFault blocksFault kCountAt afterK wCountAt afterFlow kOf wOf flowAt kFault wFault flowFault byKind plainPriceCount allWithAction allRelated internalInQuestion externalInQuestion plainInQuestion breakFrom firstBreak internalEquationsFault externalEquationsFault plainEquationsFault refuseRecordAt questionsOfPair questionsOfState questionsFrom questions judgeFlows judgeBlocks judgeRefutations judgeCertificate judgeReading judge Each priceWithCost priceAfter costOfLayer layers costEquation costOf costsBytes transitionsEnd costsIn withoutCosts costFault scanCosts scanCostRecord scanCostModel readCosts costPriceCount priceCondition below lastFault internalPricesFault externalPricesFault costPricesFault costEquationFault costEquationsFault sendersFile sendersCertificate stepsFile stepsCertificate stepsMetCertificate laterFile laterCertificate stillFile withPrice costCases refusalIn answerWithoutPlace fileOf judgementAnswer unwritten filledWith filledEach filled judgedOutcome readOutcome pairOutcome costOutcomeCases
+unfolding ifLess ifSame ifTrue allBelow sum sumℤ arriving leaving overTargets overSources beforeMove afterMove internalMove atTarget priceAt priceOfTargets byteAt twoAt threeAt fourAt signedAt twoBytes fourBytes complement priceBytes weightOf automatonOf openFault statesOf actionsOf countOf rangeFault headFault labelFault labelsFault sourceAt actionAt denominatorAt entryCountAt afterTransition fixedFault fixedFaultAt entriesFault divisorWithin divisor divisorOf divisorIn termsFault transitionFault refuseAt scanTransitions scanModel refuseBytesLeft scanWhole entriesAt transitionAt transitionsAt modelAt readingOf readWhole placeOf firstOf both equalLabels isPair removed refutationCount certificateHeadFault challengerAt defenderAt pricesAt afterRefutation pairFault refutationFault pairsAfter blocksAt numberedFault sameBlock agree pairsFault blocksFault kCountAt afterK wCountAt afterFlow kOf wOf flowAt kFault wFault flowFault byKind plainPriceCount allWithAction allRelated internalInQuestion externalInQuestion plainInQuestion breakFrom firstBreak internalEquationsFault externalEquationsFault plainEquationsFault refuseRecordAt questionsOfPair questionsOfState questionsFrom questions judgeFlows judgeBlocks judgeRefutations judgeCertificate judgeReading judge Each priceWithCost priceAfter costOfLayer layers costEquation costOf costsBytes transitionsEnd costsIn withoutCosts costFault scanCosts scanCostRecord scanCostModel readCosts costPriceCount priceCondition below lastFault internalPricesFault externalPricesFault costPricesFault costEquationFault costEquationsFault sendersFile sendersCertificate stepsFile stepsCertificate stepsMetCertificate laterFile laterCertificate stillFile withPrice costCases refusalIn answerWithoutPlace fileOf judgementAnswer unwritten filledWith filledEach filled judgedOutcome readOutcome pairOutcome costOutcomeCases
 cost-cases = (
   (refl, (refl, (refl, (refl, (refl, (refl, (refl, (refl, (refl, (refl, (refl, (refl, (refl, (refl, (refl, (refl, (refl, (refl, (refl, (refl, (refl, (refl, (refl, (refl, (refl, (refl, (refl, (refl, (refl, tt))))))))))))))))))))))))))))),
   refl,

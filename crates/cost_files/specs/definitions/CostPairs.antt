@@ -2,7 +2,7 @@
 use Prim.Native.Nat.{ℕ}
 use mathlib.Core.Path.{_≡_}
 use mathlib.Core.List.{List}
-use Rattle.rules.specs.definitions.Limits.{Limits, limits}
+use Rattle.rules.specs.definitions.Limits.{Limits, limits, current}
 use Rattle.rules.specs.definitions.Model.{Model, automatonOf, HoldOneAutomaton}
 use Rattle.rules.specs.definitions.SoundModel.{Bytes}
 use Rattle.rules.specs.definitions.Accepted.{Kept}
@@ -33,15 +33,19 @@ costPairsAt L =
       oneAutomaton = HoldOneWithCosts;
     }
 
--- within today's
+-- as the calls judge them
 abbrev pub costPairs : JudgedBy
-costPairs = costPairsAt limits
+costPairs = costPairsAt current
+
+-- with whatever terms
+abbrev pub storedCosts : JudgedBy
+storedCosts = costPairsAt limits
 
 -- the bytes are those of a sound model with costs, and the certificate keeps every rule with these costs and names these blocks
 pub record KeptWithCosts (bytes C blocks : List ℕ) : Type 0 where
   pub M : Model
-  pub file : CostFileOf limits bytes M
-  pub kept : Kept limits (costSays (file .costs)) (costFile (file .costs) .mark) (automatonOf M) C blocks
+  pub file : CostFileOf current bytes M
+  pub kept : Kept current (costSays (file .costs)) (costFile (file .costs) .mark) (automatonOf M) C blocks
 
 -- 'accepted cost blocks must lie inside the accepted blocks of the same model without costs'
 unfoldable pub CostBlocksInside : Type 0

@@ -11,16 +11,16 @@ enum-known-scanned : tie.Need-enum-known-scanned
 enum-known-scanned c = search needs
 
 scan-costs-requires : tie.Need-scan-costs-requires
-scan-costs-requires c κs = sound-fits (c .before .before .before .scan-model .ensures) (c .before .scanned .given .1)
+scan-costs-requires c κs = sound-fits _ (c .before .before .before .scan-model .ensures) (c .before .scanned .given .1)
 
 enum-known-scanned-2 : tie.Need-enum-known-scanned-2
 enum-known-scanned-2 c = search needs
 
 returns : tie.Need-returns
-returns c = cost-scans (c .before .before .before .before .scan-model .ensures) (c .scan-costs .result) (c .before .before .scanned .given .1) (c .scan-costs .ensures)
+returns c = cost-scans _ (c .before .before .before .before .scan-model .ensures) (c .scan-costs .result) (c .before .before .scanned .given .1) (c .scan-costs .ensures)
 
 returns-2 : tie.Need-returns-2
-returns-2 c = cost-refused (c .before .before .before .scan-model .ensures) (c .before .scanned2 .given .1)
+returns-2 c = cost-refused _ (c .before .before .before .scan-model .ensures) (c .before .scanned2 .given .1)
 
 pub scan-cost-model-spec : {M : Type 1} → statement M
 scan-cost-model-spec =

@@ -4,7 +4,7 @@ use Prim.Native.Nat.{ℕ, _≤_}
 use mathlib.Core.List.{List}
 use mathlib.Core.Path.{_≡_, sym, _∙_, ap}
 use lib.ListN.{length}
-use Rattle.rules.specs.definitions.Limits.{limits}
+use Rattle.rules.specs.definitions.Limits.{current}
 use Rattle.rules.specs.definitions.Bytes.{byteAt}
 use Rattle.rules.specs.definitions.SoundModel.{Bytes}
 use Rattle.rules.specs.definitions.Answers.{Answer, refusalIn, fetchAnswer}
@@ -19,13 +19,13 @@ use Rattle.fetch.proofs.fetch_answer.Statement.{statement}
 use Rattle.fetch.proofs.fetch_answer.Tie as tie
 
 -- what is answered for a case of the fetch, and the state that is fetched
-told : {a b : Answer} (s : List ℕ) (x y : ℕ) {r : declared.Answer} → Bytes s → Says a 0 r → a ≡ b → b ≡ fetchAnswer limits s x → x ≡ y → FetchAnswered s y r
-told s x y b t e f g = fetch-answered s y b (record { answer = t .answer ∙ e ∙ f ∙ ap (fetchAnswer limits s) g; wrote = t .wrote })
+told : {a b : Answer} (s : List ℕ) (x y : ℕ) {r : declared.Answer} → Bytes s → Says a 0 r → a ≡ b → b ≡ fetchAnswer current s x → x ≡ y → FetchAnswered s y r
+told s x y b t e f g = fetch-answered s y b (record { answer = t .answer ∙ e ∙ f ∙ ap (fetchAnswer current s) g; wrote = t .wrote })
 
 -- a refusal that a fetch answers is at a place of the model
-placed : (s : List ℕ) (state : ℕ) (f : Fault) (place : ℕ) → refusalIn f 1 place (length s) ≡ fetchAnswer limits s state → place ≤ length s
+placed : (s : List ℕ) (state : ℕ) (f : Fault) (place : ℕ) → refusalIn f 1 place (length s) ≡ fetchAnswer current s state → place ≤ length s
 unfolding refusalIn
-placed s state f place e = omega (arith, ap (λ (a : Answer). a .stretchStart) e, ap (λ (a : Answer). a .stretchLength) e, fetch-inside limits s state)
+placed s state f place e = omega (arith, ap (λ (a : Answer). a .stretchStart) e, ap (λ (a : Answer). a .stretchLength) e, fetch-inside current s state)
 
 fetch-run-requires : tie.Need-fetch-run-requires
 fetch-run-requires c κs = search needs

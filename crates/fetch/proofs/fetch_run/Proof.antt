@@ -2,11 +2,12 @@
 use Rattle.rules.specs.definitions.SoundModel.{Bytes}
 use Rattle.rules.specs.definitions.Bytes.{byteAt}
 use Rattle.transition.specs.KnownLaws.{known, known-own, few-states}
+use Rattle.limits.specs.TermsBy.{currentTerms}
 use Rattle.model.specs.Scanned.{scanOf, PlacesOf, head-refused}
 use Rattle.model.specs.declared.Scanned.{Scanned}
 use Rattle.rules.specs.argument.AnswerLaws.{fetch-refused, fetch-no-state, fetch-runs}
 use Rattle.rules.specs.definitions.Answers.{runAnswer}
-use Rattle.rules.specs.definitions.Limits.{limits}
+use Rattle.rules.specs.definitions.Limits.{current}
 use Rattle.rules.specs.definitions.Faults.{Fault}
 use denote.Ref.{now}
 use mathlib.Core.Path.{sym, _∙_, ap, ap₂, subst}
@@ -21,7 +22,7 @@ head-fault-requires c κs = search needs
 returns : tie.Need-returns
 returns c =
     let head = c .before .before in
-    fetch-refused limits _ _ _ _ (head-refused _ (head .head-fault .result) (head .head-fault .ensures) (c .if1 .taken))
+    fetch-refused current _ _ _ _ (head-refused currentTerms _ (head .head-fault .result) (head .head-fault .ensures) (c .if1 .taken))
 
 no-places-requires : tie.Need-no-places-requires
 no-places-requires c κs = search needs
@@ -38,7 +39,7 @@ returns-2 c =
     let told = c .before .before .before .before .scan-whole .ensures in
     let s = now (c .before .before .before .before .before .before .before .before .before .before .before .args .s) in
     let q = sym (ap scanOf same) ∙ told .answer in
-    fetch-no-state limits s _ _ _ _ _ q (omega arith)
+    fetch-no-state current s _ _ _ _ _ q (omega arith)
 
 run-of-requires : tie.Need-run-of-requires
 unfolding Bytes byteAt
@@ -47,8 +48,8 @@ run-of-requires c κs =
     let told = c .before .before .before .before .before .scan-whole .ensures in
     let s = now (c .before .before .before .before .before .before .before .before .before .before .before .before .args .s) in
     let q = sym (ap scanOf same) ∙ told .answer in
-    let held = subst (λ (r : Scanned). PlacesOf s (c .before .before .before .before .before .scan-whole .last .1 .0) (scanOf r)) same (told .places) in
-    let k = known s _ _ _ _ _ (λ i h. omega (arith, c .before .before .before .before .before .before .before .before .before .before .before .shared-slice-known .given i)) q held (told .size) in
+    let held = subst (λ (r : Scanned). PlacesOf s (c .before .before .before .before .before .scan-whole .last .1 .1 .0) (scanOf r)) same (told .places) in
+    let k = known currentTerms s _ _ _ _ _ (λ i h. omega (arith, c .before .before .before .before .before .before .before .before .before .before .before .shared-slice-known .given i)) q held (told .size) in
     (omega (arith, few-states k), known-own k)
 
 enum-known-scanned-2 : tie.Need-enum-known-scanned-2
@@ -60,7 +61,7 @@ returns-3 c =
     let told = c .before .before .before .before .before .before .scan-whole .ensures in
     let s = now (c .before .before .before .before .before .before .before .before .before .before .before .before .before .args .s) in
     let q = sym (ap scanOf same) ∙ told .answer in
-    ap₂ runAnswer (c .run-of .ensures .start) (c .run-of .ensures .end) ∙ fetch-runs limits s _ _ _ _ _ q (omega arith)
+    ap₂ runAnswer (c .run-of .ensures .start) (c .run-of .ensures .end) ∙ fetch-runs current s _ _ _ _ _ q (omega arith)
 
 returns-4 : tie.Need-returns-4
 returns-4 c =
@@ -68,7 +69,7 @@ returns-4 c =
     let told = c .before .before .before .scan-whole .ensures in
     let s = now (c .before .before .before .before .before .before .before .before .before .before .args .s) in
     let q = sym (ap scanOf same) ∙ told .answer in
-    fetch-refused limits s _ _ _ q
+    fetch-refused current s _ _ _ q
 
 pub fetch-run-spec : {M : Type 1} → statement M
 fetch-run-spec =

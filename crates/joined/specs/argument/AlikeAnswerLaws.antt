@@ -2,25 +2,25 @@
 use Prim.Native.Nat.{ℕ, _+_, _≤_, _<_}
 use mathlib.Core.Path.{_≡_, refl, sym, _∙_, ap, ap₂, subst}
 use mathlib.Core.Logic.{_↔_, _⊎_, inl, inr, ⊎-elim}
-use mathlib.Core.List.{List, []}
+use mathlib.Core.List.{List, [], _∷_}
 use lib.ListN.{length, getD}
 use native.Mathlib.Omega.{arith}
 use Rattle.bisimulation.specs.definitions.Choice.{ifLess, ifSame, ifTrue}
 use Rattle.bisimulation.specs.argument.ChoiceLaws.{less, notLess, eitherLess, same, notSame, pastLess, keptLess, keptSame}
 use Rattle.bisimulation.specs.definitions.Largest.{Bisimilar, BisimilarByPairs}
 use Rattle.bisimulation.specs.definitions.StepRule.{Met}
-use Rattle.rules.specs.definitions.Limits.{limits}
+use Rattle.rules.specs.definitions.Limits.{Limits, current}
 use Rattle.rules.specs.definitions.Model.{Model, automatonOf}
 use Rattle.rules.specs.definitions.Reading.{Reading, model, noModel, readWhole}
-use Rattle.rules.specs.definitions.SoundModel.{Bytes}
+use Rattle.rules.specs.definitions.SoundModel.{Bytes, FitsWidths}
 use Rattle.rules.specs.definitions.Certificate.{sameBlock}
 use Rattle.rules.specs.definitions.Judging.{Judgement, accepted, refusedIn, judge}
 use Rattle.rules.specs.definitions.Answers as rules
 use Rattle.rules.specs.definitions.Answers.{Outcome, answerWithoutPlace, unwritten}
-use Rattle.rules.specs.definitions.Accepted.{Kept, FileOf}
+use Rattle.rules.specs.definitions.Accepted.{Among, here, Kept, FileOf}
 use Rattle.rules.specs.definitions.PlainSays.{plainSays}
 use Rattle.rules.specs.definitions.JudgedBy.{plainPairs}
-use Rattle.rules.specs.argument.SoundModelLaws.{limits-fit, sound-bytes}
+use Rattle.rules.specs.argument.SoundModelLaws.{current-fit, sound-bytes}
 use Rattle.rules.specs.definitions.Demand3.{InOneBlock, HoldsModel}
 use Rattle.rules.specs.definitions.Demands.{outcomeBy, Accepting}
 use Rattle.rules.specs.argument.AnyRule.{PairRules, pairsOf}
@@ -30,8 +30,8 @@ use Rattle.rules.specs.argument.PairOutcome.{FollowsLaws}
 use Rattle.rules.specs.argument.JudgedFirst.{Roomy, Refused, Found, refused-or-found, found-outcome}
 use Rattle.rules.specs.argument.AcceptedExactly.{accepted-exactly}
 use Rattle.rules.specs.argument.Demand3Holds.{one-model, holds-read, facts-of, largest-block-pairs}
-use Rattle.rules.specs.argument.DemandsHold.{plain-refusal, late-numbered}
-use Rattle.rules.specs.argument.PlainRules.{plainRules}
+use Rattle.rules.specs.argument.DemandsHold.{one-late, plain-other, late-numbered}
+use Rattle.rules.specs.argument.PlainRules.{plainRulesAt, plainRules}
 use Rattle.joined.specs.definitions.Joined.{joined, joinedFile}
 use Rattle.joined.specs.definitions.JoinAnswer.{JoinDemands}
 use Rattle.joined.specs.argument.JoinedLaws.{joined-states}
@@ -64,19 +64,19 @@ pub parts-named : (n : ℕ) (x : Named) → partsNumber n x ≡ 0 → (x .firstS
 parts-named n x z = let p = parts-exactly n x .0 z in (omega (arith, p .count, p .first), p .inside)
 
 -- what follows acceptance
-pub parts-follow : (x : Named) → FollowsLaws plainRules (testsParts x)
+pub parts-follow : (L : Limits) (widths : FitsWidths L) (few : L .refutations < 65536) (x : Named) → FollowsLaws (plainRulesAt L widths few) (testsParts x)
 unfolding unwritten answerWithoutPlace Accepting
-parts-follow x =
+parts-follow L widths few x =
     record {
-      numbered = λ N blocks before. parts-number (length (N .labels)) x;
+      numbered = λ N blocks before. ⊎-elim inl (λ z. inr (subst (λ (k : ℕ). Among k (27 ∷ [])) (sym z) here)) (parts-number (length (N .labels)) x);
       told = λ N blocks before. told-fault _ (⊎-elim (λ z. omega (arith, z)) (λ z. omega (arith, z)) (parts-number (length (N .labels)) x));
       unwritten = λ N blocks before n. left-unwritten (answerWithoutPlace (partsNumber (length (N .labels)) x)) before;
-      late = λ k h n z. ⊎-elim (λ w. omega (arith, w, z)) (λ w. omega (arith, w, z)) (plain-refusal k h);
-      notTen = omega arith;
+      late = λ k h n z. plain-other L widths few 27 (omega arith) (λ w. omega (arith, w)) k h (one-late z);
+      notTen = λ z. omega (arith, one-late z);
     }
 
 pub alike-numbered : (x : Named) (M C : List ℕ) → AlikeNumber (outcomeBy (pairsOf plainRules) (testsParts x) M C [] .answer .number)
-alike-numbered x M C = late-numbered M C [] (testsParts x) (parts-follow x) (λ N. refl)
+alike-numbered x M C = late-numbered M C [] (testsParts x) (parts-follow (plainRules .limits) (plainRules .widths) (plainRules .refutations) x) (λ N. refl)
 
 module _ (by : PairRules) (M C : List ℕ) where
   -- no buffer is lent
@@ -178,7 +178,7 @@ module _ (by : PairRules) (M C : List ℕ) where
 
 -- two designs in one question: where joining two models answers 0 and a certificate is accepted for the file that it wrote, a state of the
 -- first and one of the second are in their parts, and yes is said exactly when they are bisimilar in the joined model
-module _ (first second before after : List ℕ) (joins : JoinDemands limits (readWhole limits) (FileOf limits) first second before after 0) (M N : Model) (f : FileOf limits first M) (g : FileOf limits second N) (C blocks : List ℕ) (c : Bytes C) (kept : Kept limits plainSays 0x4354 (automatonOf (joined M N)) C blocks) (s t : ℕ) (inFirst : s < length (M .labels)) (inSecond : t < length (N .labels)) where
+module _ (first second before after : List ℕ) (joins : JoinDemands current (readWhole current) (FileOf current) first second before after 0) (M N : Model) (f : FileOf current first M) (g : FileOf current second N) (C blocks : List ℕ) (c : Bytes C) (kept : Kept current plainSays 0x4354 (automatonOf (joined M N)) C blocks) (s t : ℕ) (inFirst : s < length (M .labels)) (inSecond : t < length (N .labels)) where
   abbrev two : Named
   two = record { firstCount = length (M .labels); firstState = s; secondState = length (M .labels) + t }
 
@@ -186,7 +186,7 @@ module _ (first second before after : List ℕ) (joins : JoinDemands limits (rea
   answer = outcomeBy plainPairs (testsParts two) (joinedFile M N) C [] .answer
 
   joined-bytes : Bytes (joinedFile M N)
-  joined-bytes = sound-bytes limits (joined M N) limits-fit (joins .holds refl M N f g .sound)
+  joined-bytes = sound-bytes current (joined M N) current-fit (joins .holds refl M N f g .sound)
 
   said : SaysAlike plainPairs two (joinedFile M N) C (answer .number) (alikeSays plainPairs two (joinedFile M N) C)
   said = says-alike plainRules (joinedFile M N) C joined-bytes c two (answer .number) refl

@@ -27,16 +27,16 @@ joining L =
     }
 
 module _ (L : Limits) (widths : FitsWidths L) (first second before : List ℕ) (b : Bytes first) (c : Bytes second) where
-  join-number : JoinNumber (joinOutcome L (readWhole L) first second before .answer .number)
+  join-number : JoinNumber (L .terms) (joinOutcome L (readWhole L) first second before .answer .number)
   unfolding JoinNumber
   join-number =
-      two-number L widths joined (passesJoined L) (joining L) 25 26 (λ z. omega (arith, z)) (λ z. omega (arith, z)) first second before b c JoinNumber
+      two-number L widths joined (passesJoined L) (joining L) 25 26 (λ z. omega (arith, z)) (λ z. omega (arith, z)) first second before b c (JoinNumber (L .terms))
       (λ k h. inl h) (inr (omega arith, omega arith)) (inr (omega arith, omega arith))
 
   -- 26 only for a buffer shorter than the longest model
   pub join-short : joinOutcome L (readWhole L) first second before .answer .number ≡ 26 → length before < longestModel L
   join-short =
-      two-short L widths joined (passesJoined L) (joining L) 25 26 (λ z. omega (arith, z)) (λ z. omega (arith, z)) first second before b c (longestModel L) (omega arith) (λ z. omega (arith, z))
+      two-short L widths joined (passesJoined L) (joining L) 25 26 (λ z. omega (arith, z)) (λ z. omega (arith, z)) first second before b c (longestModel L) (omega arith) (λ z. omega (arith, z)) (λ z. omega (arith, z))
       (λ M N f g p. longest-file L (joined M N) (passes-within L (joined M N) p))
 
   -- document 02, K2
@@ -46,7 +46,7 @@ module _ (L : Limits) (widths : FitsWidths L) (first second before : List ℕ) (
   pub join-demands : (after : List ℕ) (number : ℕ) → number ≡ joinOutcome L (readWhole L) first second before .answer .number → after ∷ [] ≡ leftIn (joinOutcome L (readWhole L) first second before) → JoinDemands L (readWhole L) (FileOf L) first second before after number
   join-demands after number e left =
       makes-model L widths joined (passesJoined L) (joining L) 25 26 (λ z. omega (arith, z)) (λ z. omega (arith, z)) first second before b c after number e left
-      JoinNumber (subst JoinNumber (sym e) join-number)
+      (JoinNumber (L .terms)) (subst (JoinNumber (L .terms)) (sym e) join-number)
 
 -- of less than 8,072 bytes
 pub join-short-today : (first second before : List ℕ) → Bytes first → Bytes second → joinOutcome limits (readWhole limits) first second before .answer .number ≡ 26 → length before < 8072

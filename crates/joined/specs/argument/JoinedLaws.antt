@@ -7,10 +7,11 @@ use native.Mathlib.Decide.{ℕ-discrete, decLt}
 use native.Mathlib.Omega.{arith}
 use Rattle.bisimulation.specs.definitions.Choice.{ifLess, ifSame}
 use Rattle.bisimulation.specs.argument.ChoiceLaws.{same, notSame, eitherLess, less, notLess}
-use Rattle.rules.specs.definitions.Limits.{Limits}
+use Rattle.numbers.specs.definitions.Divisor.{Divides}
+use Rattle.rules.specs.definitions.Limits.{Terms, anyTerms, lowestTerms, Limits}
 use Rattle.rules.specs.definitions.Model.{Entry, Transition, Model, noTransition, weightOf, automatonOf, modelBytes}
 use Rattle.rules.specs.definitions.Reading.{model, readWhole}
-use Rattle.rules.specs.definitions.SoundModel.{Each, Along, sumOver, TransitionRules, entryCount, SoundModel, FitsWidths}
+use Rattle.rules.specs.definitions.SoundModel.{Each, Along, sumOver, TransitionRules, LowestTerms, HasTerms, entryCount, SoundModel, FitsWidths}
 use Rattle.rules.specs.argument.SoundModelLaws.{each-at, each-append, each-map}
 use Rattle.rules.specs.argument.ReadBack.{read-back-whole}
 use Rattle.bisimulation.specs.definitions.Joined.{larger, IsJoined}
@@ -156,6 +157,22 @@ grown-rules n n′ m m′ le lm t r =
       whole = r .whole;
     }
 
+-- raised states leave the weights, so the terms
+entries-raised : (k g : ℕ) (es : List Entry) → Each (λ (e : Entry). Divides g (e .weight)) (map (raisedEntry k) es) → Each (λ (e : Entry). Divides g (e .weight)) es
+unfolding raisedEntry Each
+entries-raised k g [] h = tt
+entries-raised k g (e ∷ es) h = (h .0, entries-raised k g es (h .1))
+
+raised-term : (terms : Terms) (k : ℕ) (t : Transition) → HasTerms terms t → HasTerms terms (raisedTransition k t)
+unfolding HasTerms LowestTerms raisedTransition
+raised-term anyTerms k t h = tt
+raised-term lowestTerms k t h = λ g d. h g (entries-raised k g (t .entries) d)
+
+raised-terms : (terms : Terms) (k : ℕ) (ts : List Transition) → Each (HasTerms terms) ts → Each (HasTerms terms) (map (raisedTransition k) ts)
+unfolding Each
+raised-terms terms k [] h = tt
+raised-terms terms k (t ∷ ts) h = (raised-term terms k t (h .0), raised-terms terms k ts (h .1))
+
 -- how many states, transitions and entries the joined model has, and how long its file is
 module _ (M N : Model) where
   abbrev k : ℕ
@@ -196,6 +213,7 @@ module _ (L : Limits) (M N : Model) (first : SoundModel L M) (second : SoundMode
             sources-follow (k M N) (M .transitions) (N .transitions) (first .sources)
             (each-map (TransitionRules (k M N) (M .actions)) (λ (t : Transition). t .source < k M N) (λ t r. r .source) (M .transitions) (first .transitions)) (second .sources);
         entries = w .entries;
+        terms = each-append _ (M .transitions) _ (first .terms) (raised-terms (L .terms) (k M N) (N .transitions) (second .terms));
       }
 
   -- its file reads back as it

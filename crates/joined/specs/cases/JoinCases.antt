@@ -4,11 +4,13 @@ use mathlib.Core.Path.{_≡_, refl}
 use mathlib.Core.List.{List, [], _∷_, _++_}
 use lib.ListN.{length, take, drop, replicate}
 use Rattle.bisimulation.specs.definitions.Choice.{ifLess, ifSame, ifTrue}
-use Rattle.rules.specs.definitions.Limits.{Limits, limits}
+use Rattle.numbers.specs.definitions.Divisor.{divisorWithin, divisor, divisorOf}
+use Rattle.rules.specs.definitions.LowestTerms.{divisorIn}
+use Rattle.rules.specs.definitions.Limits.{anyTerms, Limits, limits}
 use Rattle.rules.specs.definitions.Bytes.{byteAt, twoAt, twoBytes}
 use Rattle.rules.specs.definitions.Model.{Model, headBytes, labelsBytes, entriesBytes, transitionBytes, transitionsBytes, modelBytes}
 use Rattle.rules.specs.definitions.Faults.{fault, firstOf, openFault}
-use Rattle.rules.specs.definitions.Reading.{statesOf, actionsOf, countOf, rangeFault, headFault, labelFault, labelsFault, sourceAt, actionAt, denominatorAt, entryCountAt, afterTransition, fixedFault, fixedFaultAt, entriesFault, transitionFault, refuseAt, scanTransitions, scanModel, refuseBytesLeft, scanWhole, entriesAt, transitionAt, transitionsAt, modelAt, readingOf, readWhole}
+use Rattle.rules.specs.definitions.Reading.{statesOf, actionsOf, countOf, rangeFault, headFault, labelFault, labelsFault, sourceAt, actionAt, denominatorAt, entryCountAt, afterTransition, fixedFault, fixedFaultAt, entriesFault, termsFault, transitionFault, refuseAt, scanTransitions, scanModel, refuseBytesLeft, scanWhole, entriesAt, transitionAt, transitionsAt, modelAt, readingOf, readWhole}
 use Rattle.rules.specs.definitions.SoundModel.{Each, sumOver}
 use Rattle.rules.specs.definitions.Answers.{Outcome, refusalIn, answerWithoutPlace, unwritten, filledWith, filledEach, filled, roomFor, filesOutcome}
 use Rattle.rules.specs.definitions.Made.{passesLimit, madeOutcome, readingsOutcome, twoOutcome}
@@ -41,7 +43,7 @@ unfoldable pub still : ℕ → List ℕ
 still n = modelBytes (record { actions = 1; labels = replicate n 0; transitions = [] })
 
 abbrev few : (transitions entries : ℕ) → Limits
-few transitions entries = record { states = 128; actions = 32; transitions = transitions; entries = entries; refutations = 8128; label = 63 }
+few transitions entries = record { states = 128; actions = 32; transitions = transitions; entries = entries; refutations = 8128; label = 63; terms = anyTerms }
 
 unfoldable pub joinCases : List JoinCase
 joinCases =
@@ -64,5 +66,5 @@ joinCases =
     ∷ []
 
 pub join-cases : Each (λ (c : JoinCase). joinOutcome (c .within) (readWhole (c .within)) (c .first) (c .second) (c .before) ≡ c .expected) joinCases
-unfolding ifLess ifSame ifTrue byteAt twoAt twoBytes headBytes labelsBytes entriesBytes transitionBytes transitionsBytes modelBytes firstOf openFault statesOf actionsOf countOf rangeFault headFault labelFault labelsFault sourceAt actionAt denominatorAt entryCountAt afterTransition fixedFault fixedFaultAt entriesFault transitionFault refuseAt scanTransitions scanModel refuseBytesLeft scanWhole entriesAt transitionAt transitionsAt modelAt readingOf readWhole Each sumOver refusalIn answerWithoutPlace unwritten filledWith filledEach filled roomFor filesOutcome raisedEntry raisedTransition larger joined passesLimit madeOutcome readingsOutcome twoOutcome firstModel secondModel still joinCases
+unfolding ifLess ifSame ifTrue byteAt twoAt twoBytes headBytes labelsBytes entriesBytes transitionBytes transitionsBytes modelBytes firstOf openFault statesOf actionsOf countOf rangeFault headFault labelFault labelsFault sourceAt actionAt denominatorAt entryCountAt afterTransition fixedFault fixedFaultAt entriesFault divisorWithin divisor divisorOf divisorIn termsFault transitionFault refuseAt scanTransitions scanModel refuseBytesLeft scanWhole entriesAt transitionAt transitionsAt modelAt readingOf readWhole Each sumOver refusalIn answerWithoutPlace unwritten filledWith filledEach filled roomFor filesOutcome raisedEntry raisedTransition larger joined passesLimit madeOutcome readingsOutcome twoOutcome firstModel secondModel still joinCases
 join-cases = (refl, (refl, (refl, (refl, (refl, (refl, (refl, (refl, (refl, (refl, tt))))))))))

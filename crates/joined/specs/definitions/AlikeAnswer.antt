@@ -3,10 +3,11 @@
 use Prim.Native.Nat.{ℕ, _≤_, _<_}
 use mathlib.Core.Path.{_≡_}
 use mathlib.Core.Logic.{_↔_}
-use mathlib.Core.List.{List}
+use mathlib.Core.List.{List, [], _∷_}
 use lib.ListN.{length}
 use Rattle.bisimulation.specs.definitions.Choice.{ifLess, ifSame, ifTrue, unlessLess}
 use Rattle.bisimulation.specs.definitions.Largest.{BisimilarByPairs}
+use Rattle.rules.specs.definitions.Limits.{current}
 use Rattle.rules.specs.definitions.Model.{Model, automatonOf}
 use Rattle.rules.specs.definitions.Reading.{Reading, model, noModel}
 use Rattle.rules.specs.definitions.Certificate.{sameBlock}
@@ -43,7 +44,7 @@ testsParts x =
     record {
       blockRoom = λ N. 0;
       outcome = λ N blocks before. unwritten (answerWithoutPlace (partsNumber (length (N .labels)) x)) before;
-      late = 27;
+      late = 27 ∷ [];
     }
 
 -- 'yes or no (no if refused)', 1 for yes: where 27 does not refuse, whether the two states share an accepted block
@@ -62,7 +63,7 @@ alikeSays by x M C = alikeRead x (by .read M) (judge (by .limits) (by .read) (by
 
 -- its numbers
 abbrev pub AlikeNumber : ℕ → Type 0
-AlikeNumber = LateNumber 27
+AlikeNumber = LateNumber (current .terms) (27 ∷ [])
 
 -- what it says, with this number, is what the request asks
 pub record SaysAlike (by : JudgedBy) (x : Named) (M C : List ℕ) (number said : ℕ) : Type 0 where

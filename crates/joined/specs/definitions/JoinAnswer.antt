@@ -3,8 +3,9 @@ use Prim.Native.Nat.{ℕ, _≤_}
 use mathlib.Core.Logic.{_⊎_}
 use mathlib.Core.Bool.{Bool}
 use mathlib.Core.List.{List, [], _∷_}
-use Rattle.rules.specs.definitions.Limits.{Limits}
+use Rattle.rules.specs.definitions.Limits.{Terms, Limits}
 use Rattle.rules.specs.definitions.Model.{Model}
+use Rattle.rules.specs.definitions.Reading.{ReadNumber}
 use Rattle.rules.specs.definitions.Judging.{Reader}
 use Rattle.rules.specs.definitions.Accepted.{IsFile}
 use Rattle.rules.specs.definitions.Answers.{Outcome}
@@ -20,9 +21,9 @@ abbrev pub joinOutcome : Limits → Reader → (first second buffer : List ℕ) 
 joinOutcome L read first second buffer = twoOutcome read (λ M N. madeOutcome 25 26 (passesJoined L M N) (joined M N)) first second (buffer ∷ [])
 
 -- its numbers
-unfoldable pub JoinNumber : ℕ → Type 0
-JoinNumber k = (k ≤ 9) ⊎ ((25 ≤ k) × (k ≤ 26))
+unfoldable pub JoinNumber : Terms → ℕ → Type 0
+JoinNumber terms k = ReadNumber terms k ⊎ ((25 ≤ k) × (k ≤ 26))
 
 -- its demands, with these bytes in the lent buffer before and after it
 abbrev pub JoinDemands : (L : Limits) (read : Reader) (isFile : IsFile) (first second before after : List ℕ) → ℕ → Type 0
-JoinDemands L read isFile = MakesModel L read isFile joined JoinNumber
+JoinDemands L read isFile = MakesModel L read isFile joined (JoinNumber (L .terms))

@@ -11,7 +11,7 @@ without-place-requires : tie.Need-without-place-requires
 without-place-requires c κs = search needs
 
 returns : tie.Need-returns
-returns c = short-as _ _ _ _ (c .before .before .before .before .pre .0) (c .before .before .before .before .pre .1) (omega arith) (without-as 10 0 (c .without-place .ensures) (omega arith) (omega arith))
+returns c = short-as _ _ _ _ _ (c .before .before .before .before .pre .0) (c .before .before .before .before .pre .1) (omega arith) (without-as 10 0 (c .without-place .ensures) (omega arith) (omega arith))
 
 judge-certificate-requires : tie.Need-judge-certificate-requires
 judge-certificate-requires c κs = let start = c .before .before .before in (start .pre .0, start .pre .1 .stands)
@@ -28,10 +28,10 @@ refusal-in-requires c κs =
     omega (arith, unaccepted-inside (a .kind) (now (a .model)) _ _ (c .before .judged2 .given .1) (c .before .before .before .judge-certificate .ensures))
 
 returns-2 : tie.Need-returns-2
-returns-2 c = accepted-as _ _ _ _ (c .before .before .before .before .before .before .before .pre .0) (c .before .before .before .before .before .before .before .pre .1) (c .before .judged .given .1) (c .before .before .before .judge-certificate .ensures) (omega arith)
+returns-2 c = accepted-as _ _ _ _ _ (c .before .before .before .before .before .before .before .pre .0) (c .before .before .before .before .before .before .before .pre .1) (c .before .judged .given .1) (c .before .before .before .judge-certificate .ensures) (omega arith)
 
 returns-3 : tie.Need-returns-3
-returns-3 c = unaccepted-as _ _ _ _ _ (c .before .before .before .before .before .before .before .before .pre .0) (c .before .before .before .before .before .before .before .before .pre .1) (c .before .before .judged2 .given .1) (c .before .before .before .before .judge-certificate .ensures) (omega arith) (refusal-as _ 2 _ _ (c .refusal-in .ensures) (omega arith) (omega arith))
+returns-3 c = unaccepted-as _ _ _ _ _ _ (c .before .before .before .before .before .before .before .before .pre .0) (c .before .before .before .before .before .before .before .before .pre .1) (c .before .before .judged2 .given .1) (c .before .before .before .before .judge-certificate .ensures) (omega arith) (refusal-as _ 2 _ _ (c .refusal-in .ensures) (omega arith) (omega arith))
 
 pub judge-sound-spec : {M : Type 1} → statement M
 judge-sound-spec =

@@ -18,10 +18,10 @@ scan-cost-model-requires : tie.Need-scan-cost-model-requires
 scan-cost-model-requires c κs = search needs
 
 returns : tie.Need-returns
-returns c = scans-by _ Plain (c .before .before .enum-told .given .1) (c .scan-whole .ensures)
+returns c = scans-by _ Plain _ (c .before .before .enum-told .given .1) (c .scan-whole .ensures)
 
 returns-2 : tie.Need-returns-2
-returns-2 c = scans-by _ Costs (c .before .before .enum-told2 .given .1) (c .scan-cost-model .ensures)
+returns-2 c = scans-by _ Costs _ (c .before .before .enum-told2 .given .1) (c .scan-cost-model .ensures)
 
 pub scan-spec : {M : Type 1} → statement M
 scan-spec = tie.close (tie.spec enum-told scan-whole-requires enum-told-2 scan-cost-model-requires returns returns-2)

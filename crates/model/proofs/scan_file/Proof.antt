@@ -12,7 +12,7 @@ head-fault-requires c κs = search needs
 returns : tie.Need-returns
 returns c =
     let head = c .before .before in
-    scans _ (head-refused _ (head .head-fault .result) (head .head-fault .ensures) (c .if1 .taken)) tt (head .before .before .pre)
+    scans _ (head-refused (head .before .before .args .terms) _ (head .head-fault .result) (head .head-fault .ensures) (c .if1 .taken)) tt (head .before .before .pre)
 
 scan-whole-requires : tie.Need-scan-whole-requires
 scan-whole-requires c κs =

@@ -1,11 +1,13 @@
 -- `scan_model` meets its contract: the labels and the transitions in the order of `scanModel`.
-use Rattle.rules.specs.argument.ReadingLaws.{refuse-stops, refuse-passes, head-passed, labels-passed}
+use Rattle.rules.specs.argument.ReadingLaws.{refuse-stops, refuse-passes, head-terms, labels-terms, head-passed, labels-passed}
 use Rattle.rules.specs.definitions.Reading.{Scan, refused, scanTransitions, scanModel, labelsFault}
 use Rattle.rules.specs.definitions.Limits.{limits}
 use Prim.Native.Nat.{ℕ, _+_}
-use mathlib.Core.Path.{refl, _∙_, ap}
+use mathlib.Core.Path.{refl, sym, _∙_, ap}
 use native.Mathlib.Omega.{arith}
+use Rattle.limits.specs.TermsBy.{limitsBy}
 use Rattle.fault.specs.Faults.{faultOf}
+use Rattle.limits.specs.TermsBy.{limitsBy}
 use Rattle.fault.specs.FaultsLaws.{none-is}
 use Rattle.model_head.specs.HeadLaws.{of-head}
 use Rattle.model.specs.Scanned.{scans}
@@ -25,8 +27,8 @@ returns c =
     let wrong = c .before .before .labels-fault in
     scans _
     (ap (refused (faultOf (wrong .result))) (wrong .ensures .at)
-    ∙ refuse-passes _ refl (pre .1)
-    (refuse-stops _ _ _ (wrong .ensures .is ∙ ap (labelsFault limits _) (c .before .before .before .head-at .ensures .states)) (c .if1 .taken)))
+    ∙ refuse-passes _ (sym (head-terms _ limits _)) (pre .1)
+    (refuse-stops _ _ _ (wrong .ensures .is ∙ ap (labelsFault limits _) (c .before .before .before .head-at .ensures .states) ∙ sym (labels-terms _ limits _ _)) (c .if1 .taken)))
     tt (pre .0)
 
 scan-transitions-requires : tie.Need-scan-transitions-requires
@@ -49,9 +51,9 @@ returns-2 c =
     let start = judged .before .before .before in
     let s = start .args .s .now in
     scans _
-    (refuse-passes _ refl (start .pre .1)
-    (refuse-passes _ (wrong .ensures .is ∙ ap (labelsFault limits _) (head .states)) (c .before .before .if1 .left)
-    (c .scan-transitions .ensures .answer ∙ of-head (λ (n m count : ℕ). scanTransitions limits s n m count count 0 0 (8 + n)) head)))
+    (refuse-passes _ (sym (head-terms _ limits _)) (start .pre .1)
+    (refuse-passes _ (wrong .ensures .is ∙ ap (labelsFault limits _) (head .states) ∙ sym (labels-terms _ limits _ _)) (c .before .before .if1 .left)
+    (c .scan-transitions .ensures .answer ∙ of-head (λ (n m count : ℕ). scanTransitions (limitsBy (start .args .terms)) s n m count count 0 0 (8 + n)) head)))
     (c .scan-transitions .ensures .places) (c .scan-transitions .ensures .size)
 
 pub scan-model-spec : {M : Type 1} → statement M

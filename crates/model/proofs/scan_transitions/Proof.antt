@@ -2,6 +2,8 @@
 use borrow.Author.Needs.{needs}
 use Rattle.model.specs.Places.{none-held, one-more-held}
 use Rattle.limits.specs.Sizes as sizes
+use Rattle.limits.specs.TermsBy.{limitsBy}
+use Rattle.limits.specs.declared.Terms.{Terms}
 use Rattle.rules.specs.definitions.Faults as rules
 use Rattle.fault.specs.Faults.{faultOf, Placed}
 use Rattle.fault.specs.FaultsLaws.{none-is}
@@ -21,25 +23,25 @@ use Rattle.model.proofs.scan_transitions.Statement.{statement}
 use Rattle.model.proofs.scan_transitions.Tie as tie
 
 -- what is known before each record: the places so far, and that the scan of what is left is the whole scan
-record Walked (s : List ℕ) (n m count : ℕ) (places : List ℕ) (left last entries at : ℕ) : Type 0 where
+record Walked (terms : Terms) (s : List ℕ) (n m count : ℕ) (places : List ℕ) (left last entries at : ℕ) : Type 0 where
   pub some : left ≤ count
   pub inside : at ≤ length s
   pub few : entries ≤ limits .entries
   pub size : length places ≡ sizes.places
   pub place : at ≡ placeOf s (count - left)
   pub held : PlacesHeld s (count - left) places
-  pub scan : scanTransitions limits s n m count left last entries at ≡ scanTransitions limits s n m count count 0 0 (8 + n)
+  pub scan : scanTransitions (limitsBy terms) s n m count left last entries at ≡ scanTransitions (limitsBy terms) s n m count count 0 0 (8 + n)
 
 abbrev Inv-loop : tie.InvT-loop
-Inv-loop s n m count places₀ left₀ last₀ entries₀ place₀ places left last entries place =
-    Walked s n m count places left last entries (place .at)
+Inv-loop s terms n m count places₀ left₀ last₀ entries₀ place₀ places left last entries place =
+    Walked terms s n m count places left last entries (place .at)
 
 abbrev μ-loop : tie.MeasureT-loop
-μ-loop s n m count places₀ left₀ last₀ entries₀ place₀ places left last entries place = left
+μ-loop s terms n m count places₀ left₀ last₀ entries₀ place₀ places left last entries place = left
 
 -- the scan from the same source, entries and place
-scan-same : (s : List ℕ) (n m count left last entries at last′ entries′ at′ : ℕ) → last ≡ last′ → entries ≡ entries′ → at ≡ at′ → scanTransitions limits s n m count left last entries at ≡ scanTransitions limits s n m count left last′ entries′ at′
-scan-same s n m count left last entries at last′ entries′ at′ e f g = rw (e, f, g)
+scan-same : (terms : Terms) (s : List ℕ) (n m count left last entries at last′ entries′ at′ : ℕ) → last ≡ last′ → entries ≡ entries′ → at ≡ at′ → scanTransitions (limitsBy terms) s n m count left last entries at ≡ scanTransitions (limitsBy terms) s n m count left last′ entries′ at′
+scan-same terms s n m count left last entries at last′ entries′ at′ e f g = rw (e, f, g)
 
 -- one more place, for the next record
 next-held : {s table : List ℕ} {r next : ℕ} (at : ℕ) → PlacesHeld s r table → r + 1 ≡ next → r < length table → at ≡ placeOf s r → PlacesHeld s next (set table r at)
@@ -67,7 +69,7 @@ loop-holds c =
       size = c .before .before .pre .3;
       place = c .new .ensures ∙ ap (λ (k : ℕ). 8 + k) (c .before .before .pre .0) ∙ ap (placeOf (now (a .s))) z;
       held = subst (λ (k : ℕ). PlacesHeld (now (a .s)) k (now (a .places))) z (none-held _ _);
-      scan = ap (scanTransitions limits _ _ _ _ _ _ _) (c .new .ensures);
+      scan = ap (scanTransitions _ _ _ _ _ _ _ _) (c .new .ensures);
     }
 
 transition-at-requires : tie.Need-transition-at-requires Inv-loop μ-loop
@@ -78,7 +80,7 @@ returns c =
     let l = c .before .before .before .before .before .loop in
     let read = c .before .before .before .transition-at .ensures in
     scans _
-    (via (scanTransitions-turn limits _ _ _ _ (l .left) (l .last) (l .entries) (l .place .at) (omega arith))
+    (via (scanTransitions-turn _ _ _ _ _ (l .left) (l .last) (l .entries) (l .place .at) (omega arith))
     (at-place (read .fault) (refuse-stops _ _ _ (read .fault .is) (c .if1 .taken)))
     ∙ l .inv .scan)
     tt (l .inv .size)
@@ -97,7 +99,7 @@ add-entries c =
     let l = c .before .before .before .before .before .before .loop in
     let read = c .before .before .before .before .transition-at .ensures in
     let z = c .before .if1 .left in
-    omega (arith, read .count z, transition-passed limits _ _ _ _ _ _ (none-is (c .before .before .before .before .transition-at .result .fault) (read .fault .is) z) .few)
+    omega (arith, read .count z, transition-passed _ _ _ _ _ _ _ (none-is (c .before .before .before .before .transition-at .result .fault) (read .fault .is) z) .few)
 
 sub-left : tie.Need-sub-left Inv-loop μ-loop
 sub-left c = omega arith
@@ -112,7 +114,7 @@ loop-again c =
     let read = c .before .before .before .before .before .transition-at .ensures in
     let z = c .before .before .if1 .left in
     let s = now (a .s) in
-    let p = transition-passed limits s (a .n) (a .m) (l .last) (l .entries) (l .place .at) (none-is (c .before .before .before .before .before .transition-at .result .fault) (read .fault .is) z) in
+    let p = transition-passed (limitsBy (a .terms)) s (a .n) (a .m) (l .last) (l .entries) (l .place .at) (none-is (c .before .before .before .before .before .transition-at .result .fault) (read .fault .is) z) in
     let k : a .count - l .left + 1 ≡ a .count - (l .left - 1) = omega arith in
     record {
       some = omega arith;
@@ -122,8 +124,8 @@ loop-again c =
       place = read .next z ∙ ap (afterTransition s) (l .inv .place) ∙ sym (placeOf-next s (a .count - l .left)) ∙ ap (placeOf s) k;
       held = next-held _ (l .inv .held) k (omega arith) (omega (arith, l .inv .place));
       scan =
-          via (scanTransitions-turn limits _ _ _ _ (l .left) (l .last) (l .entries) (l .place .at) (omega arith))
-          (refuse-passes _ (read .fault .is) z (scan-same _ _ _ _ _ _ _ _ _ _ _ (read .source z) (omega (arith, read .count z)) (read .next z)))
+          via (scanTransitions-turn _ _ _ _ _ (l .left) (l .last) (l .entries) (l .place .at) (omega arith))
+          (refuse-passes _ (read .fault .is) z (scan-same (a .terms) _ _ _ _ _ _ _ _ _ _ _ (read .source z) (omega (arith, read .count z)) (read .next z)))
           ∙ l .inv .scan;
     }
 
@@ -138,7 +140,7 @@ returns-2 c =
     let l = c .before .loop in
     let a = c .before .before .before .before .args in
     let z : a .count - l .left ≡ a .count = omega arith in
-    scans _ (via (scanTransitions-end limits _ _ _ _ (l .left) (l .last) (l .entries) (l .place .at) (omega arith)) refl ∙ l .inv .scan)
+    scans _ (via (scanTransitions-end _ _ _ _ _ (l .left) (l .last) (l .entries) (l .place .at) (omega arith)) refl ∙ l .inv .scan)
     (one-more-held (now (a .s)) _ _ _ (subst (λ (k : ℕ). PlacesHeld (now (a .s)) k (l .places)) z (l .inv .held)) (omega arith)
     (l .inv .place ∙ ap (placeOf (now (a .s))) z))
     (length-set (l .places) (a .count) (l .place .at) ∙ l .inv .size)

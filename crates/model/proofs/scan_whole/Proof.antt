@@ -28,9 +28,9 @@ returns c =
     let told = at-scan .scan-model .ensures in
     let s = now (at-scan .before .before .before .args .s) in
     let e = c .before .before .scanned .given .1 in
-    let held = subst (λ (r : Scanned). PlacesOf s (at-scan .scan-model .last .1 .0) (scanOf r)) e (told .places) in
+    let held = subst (λ (r : Scanned). PlacesOf s (at-scan .scan-model .last .1 .1 .0) (scanOf r)) e (told .places) in
     scans (c .whole .result) (c .whole .ensures ∙ ap (refuseBytesLeft s) (sym (ap scanOf e) ∙ told .answer))
-    (subst (PlacesOf s (at-scan .scan-model .last .1 .0)) (sym (c .whole .ensures)) (left-held s _ _ held)) (told .size)
+    (subst (PlacesOf s (at-scan .scan-model .last .1 .1 .0)) (sym (c .whole .ensures)) (left-held s _ _ held)) (told .size)
 
 returns-2 : tie.Need-returns-2
 unfolding scanWhole refuseBytesLeft

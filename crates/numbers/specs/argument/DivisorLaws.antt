@@ -106,6 +106,13 @@ pub divisor-first : (b : ℕ) → divisor 0 b ≡ b
 divisor-first b =
     one-divisor (divisor-greatest 0 b) (record { first = divides-zero b; second = divides-self b; greatest = λ k u v. v })
 
+-- with 1 it is 1
+pub divisor-one-first : (b : ℕ) → divisor 1 b ≡ 1
+divisor-one-first b = divides-each-other (divisor-greatest 1 b .first) (one-divides _)
+
+pub divisor-one-last : (a : ℕ) → divisor a 1 ≡ 1
+divisor-one-last a = divides-each-other (divisor-greatest a 1 .second) (one-divides _)
+
 pub divisor-step : (a b : ℕ) → divisor a b ≡ divisor b (a % b)
 divisor-step a b = one-divisor (divisor-greatest a b) (divisor-of-rest a b _ (divisor-greatest b (a % b)))
 
@@ -150,6 +157,10 @@ divisorOf-greatest g0 (x ∷ xs) =
       each = (divides-trans (rest .first) (one .second), rest .each);
       greatest = λ k u d. rest .greatest k (one .greatest k u (d .0)) (d .1);
     }
+
+-- once it is 1 it stays 1
+pub divisorOf-one : (xs : List ℕ) → divisorOf 1 xs ≡ 1
+divisorOf-one xs = divides-each-other (divisorOf-greatest 1 xs .first) (one-divides _)
 
 -- a common factor of all
 pub divisorOf-times : (c g0 : ℕ) (xs : List ℕ) → divisorOf (g0 * c) (map (λ (x : ℕ). x * c) xs) ≡ divisorOf g0 xs * c

@@ -11,11 +11,11 @@ use Rattle.bisimulation.specs.argument.ChoiceLaws.{less, same, notSame, isTrue,
 use Rattle.rules.specs.definitions.Limits.{Limits}
 use Rattle.rules.specs.definitions.Model.{Entry}
 use Rattle.rules.specs.definitions.SoundModel.{sumOver}
+use Rattle.rules.specs.argument.MappedLists.{sum-mapped}
 use Rattle.prism.specs.definitions.Lines.{Line, Head}
 use Rattle.prism.specs.definitions.Reading.{actionOf, withName, Choice, totalOf, lastTarget, Pending, none, begun, Progress, choicesOf, follows, fits, begins, extends}
 use Rattle.prism.specs.definitions.HeldModel.{transitionOver, transitionOf}
 use Rattle.prism.specs.definitions.AllowedText.{Target, WrittenChoice, partsOf, linesBytes, lineBytes, readChoice}
-use Rattle.prism.specs.argument.MappedLists.{sum-mapped}
 use Rattle.prism.specs.argument.LineLaws.{lineOf, line-ended}
 
 -- 'Sources never descend; choices of a source count up from 0'

@@ -14,16 +14,17 @@ use Rattle.numbers.specs.argument.DivisorLaws.{DividesEach, divides-zero, divid
 use Rattle.rules.specs.definitions.Limits.{Limits}
 use Rattle.rules.specs.definitions.Model.{Entry, Transition, Model, modelBytes, weightOf}
 use Rattle.rules.specs.definitions.Reading as rules-reading
-use Rattle.rules.specs.definitions.SoundModel.{Each, Along, sumOver, TransitionRules, SoundModel, FitsWidths}
+use Rattle.rules.specs.definitions.SoundModel.{Each, Along, sumOver, TransitionRules, SoundModel, FitsWidths, LowestTerms, HasTerms}
 use Rattle.rules.specs.definitions.Accepted.{FileOf}
-use Rattle.rules.specs.argument.SoundModelLaws.{each-map, from-along}
+use Rattle.rules.specs.argument.SoundModelLaws.{each-map, from-along, lowest-has}
 use Rattle.rules.specs.argument.ReadBack.{read-back-whole}
+use Rattle.rules.specs.argument.MappedLists.{each-both, each-mapped, along-mapped, sum-mapped}
 use Rattle.prism.specs.definitions.Lines.{Head}
 use Rattle.prism.specs.definitions.Reading.{Choice, actionOf, totalOf}
 use Rattle.prism.specs.definitions.HeldModel.{weightsOf, entryOver, transitionOver, transitionOf, heldModel}
 use Rattle.prism.specs.definitions.AllowedText.{Probability, Target, WrittenChoice, ProbabilityRules, partsOf, ChoiceRules, NextChoice, namesOf, TextRules, readChoice, AllowedText}
-use Rattle.prism.specs.definitions.HeldText.{Beside, Says, Holds, LowestTerms}
-use Rattle.prism.specs.argument.MappedLists.{beside-mapped, beside-unmapped, each-both, each-mapped, along-mapped, sum-mapped, ascending-few}
+use Rattle.prism.specs.definitions.HeldText.{Beside, Says, Holds}
+use Rattle.prism.specs.argument.MappedLists.{beside-mapped, beside-unmapped, ascending-few}
 use Rattle.prism.specs.argument.LineLaws as line-laws
 use Rattle.prism.specs.argument.ChoiceLines.{entryFor, sum-targets}
 use Rattle.prism.specs.argument.NameLaws.{Known, names-known}
@@ -252,6 +253,7 @@ module _ {L : Limits} {h : Head} {cs : List WrittenChoice} (rules : TextRules L 
             along-mapped transitionOf (λ (c d : Choice). c .source ≤ d .source) _ (λ c d k. k) (choicesIn cs)
             (along-mapped (readChoice (namesOf cs)) NextChoice _ (λ c d k. in-order c d k) cs (rules .order));
         entries = omega (arith, lines, rules .lines, rules .mostLines);
+        terms = each-mapped transitionOf _ _ (λ c k. lowest-has (L .terms) (transitionOf c) (held-lowest c k)) (choicesIn cs) text-choices;
       }
 
 module _ {L : Limits} {text : List ℕ} {M : Model} (allowed : AllowedText L text M) where

@@ -14,18 +14,17 @@ use Rattle.numbers.specs.definitions.Divisor.{divisorOf, Divides}
 use Rattle.numbers.specs.argument.DivisorLaws.{DividesEach, divided-times, divided-some, divisorOf-times, lowest-exactly}
 use Rattle.rules.specs.definitions.Limits.{Limits}
 use Rattle.rules.specs.definitions.Model.{Entry, Transition, Model}
-use Rattle.rules.specs.definitions.SoundModel.{Each, Along, sumOver, TransitionRules}
+use Rattle.rules.specs.definitions.SoundModel.{Each, Along, sumOver, TransitionRules, LowestTerms}
 use Rattle.rules.specs.argument.SoundModelLaws.{each-map}
+use Rattle.rules.specs.argument.MappedLists.{each-both, each-mapped, along-mapped}
 use Rattle.prism.specs.definitions.Reading.{actionOf, withName}
 use Rattle.prism.specs.definitions.HeldModel.{weightsOf, entryOver, transitionOver, transitionOf, heldModel}
 use Rattle.prism.specs.definitions.AllowedText.{one, point, WrittenChoice, ProbabilityRules, partsOf, ChoiceRules, NextChoice, FirstChoice, namesFrom, namesOf, readChoice, AllowedText}
 use Rattle.prism.specs.definitions.WrittenText.{fourDigits, probabilityOf, targetOf, nameOf, choiceOf, choicesFrom, headOf, textOf, BySight, Writable}
-use Rattle.prism.specs.argument.MappedLists.{each-both, each-mapped, along-mapped}
 use Rattle.prism.specs.argument.NameLaws.{action-most, with-count, seen-from}
 use Rattle.prism.specs.argument.ChoiceLines.{entryFor, sum-targets}
 use Rattle.prism.specs.argument.HeldLaws.{divisorIn, denominator-times, choicesIn, zeros, text-choices, allowed-sound, allowed-lowest}
 use Rattle.prism.specs.argument.WrittenNames.{namesTo, count-names, action-seen, names-written, name-shown}
-use Rattle.prism.specs.definitions.HeldText.{LowestTerms}
 
 -- four digits: they are digits, and their value is the number
 four-digits : (p : ℕ) → p < 10000 → Each (λ (b : ℕ). (0x30 ≤ b) × (b ≤ 0x39)) (fourDigits p)

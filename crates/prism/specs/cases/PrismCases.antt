@@ -10,7 +10,7 @@ use lib.ListN.{length, replicate}
 use Rattle.bisimulation.specs.definitions.Choice.{ifLess, ifSame, ifTrue, both}
 use Rattle.numbers.specs.definitions.Decimal.{isDigit, allDigits, valueFrom, valueOf, isNumber, digitsBefore, decimal}
 use Rattle.numbers.specs.definitions.Divisor.{divisorWithin, divisor, divisorOf}
-use Rattle.rules.specs.definitions.Limits.{Limits, limits}
+use Rattle.rules.specs.definitions.Limits.{anyTerms, Limits, limits}
 use Rattle.rules.specs.definitions.Bytes.{twoBytes}
 use Rattle.rules.specs.definitions.Model.{entriesBytes, transitionBytes, transitionsBytes, headBytes, labelsBytes, modelBytes}
 use Rattle.rules.specs.definitions.SoundModel.{Each, sumOver}
@@ -170,7 +170,7 @@ refusals =
 
 -- limits that short texts pass: 2 choices and 3 lines
 abbrev pub fewLines : Limits
-fewLines = record { states = 3; actions = 3; transitions = 2; entries = 3; refutations = 0; label = 63 }
+fewLines = record { states = 3; actions = 3; transitions = 2; entries = 3; refutations = 0; label = 63; terms = anyTerms }
 
 unfoldable pub lineRefusals : List Refused
 lineRefusals =
@@ -190,7 +190,7 @@ lineRefusals =
 
 -- two names
 abbrev pub fewNames : Limits
-fewNames = record { states = 3; actions = 3; transitions = 4; entries = 4; refutations = 0; label = 63 }
+fewNames = record { states = 3; actions = 3; transitions = 4; entries = 4; refutations = 0; label = 63; terms = anyTerms }
 
 unfoldable pub nameRefusals : List Refused
 nameRefusals =

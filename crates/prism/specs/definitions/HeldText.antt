@@ -2,7 +2,6 @@
 use Prim.Native.Nat.{ℕ, _*_, _≤_}
 use mathlib.Core.Path.{_≡_}
 use mathlib.Core.List.{List, [], _∷_}
-use Rattle.numbers.specs.definitions.Divisor.{Divides}
 use Rattle.rules.specs.definitions.Model.{Entry, Transition}
 use Rattle.rules.specs.definitions.SoundModel.{Each}
 use Rattle.prism.specs.definitions.Reading.{actionOf}
@@ -26,7 +25,3 @@ pub record Holds (names : List (List ℕ)) (c : WrittenChoice) (t : Transition) 
   pub action : t .action ≡ actionOf names (c .name)
   pub targets : Beside (λ (x : Target) (e : Entry). Says (t .denominator) (x .state) (partsOf (x .probability)) e) (c .targets) (t .entries)
   pub least : (p : ℕ → ℕ) (d : ℕ) → 1 ≤ d → Each (λ (x : Target). p (x .state) * 10000 ≡ partsOf (x .probability) * d) (c .targets) → t .denominator ≤ d
-
--- every common divisor of the weights is 1
-unfoldable pub LowestTerms : Transition → Type 0
-LowestTerms t = (k : ℕ) → Each (λ (e : Entry). Divides k (e .weight)) (t .entries) → k ≡ 1

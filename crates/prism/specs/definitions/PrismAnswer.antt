@@ -7,14 +7,14 @@ use lib.ListN.{length, drop}
 use Rattle.rules.specs.definitions.Limits.{Limits}
 use Rattle.rules.specs.definitions.Model.{Model, modelBytes}
 use Rattle.rules.specs.definitions.Reading as rules-reading
-use Rattle.rules.specs.definitions.SoundModel.{Each}
+use Rattle.rules.specs.definitions.SoundModel.{Each, LowestTerms}
 use Rattle.rules.specs.definitions.Accepted.{FileOf}
 use Rattle.rules.specs.definitions.Faults as rules-faults
 use Rattle.rules.specs.definitions.Answers.{Outcome, refusalIn, unwritten, filesOutcome}
 use Rattle.prism.specs.definitions.Reading.{ReadText, holds, refusedAt, readPrism}
 use Rattle.prism.specs.definitions.HeldModel.{heldModel}
 use Rattle.prism.specs.definitions.AllowedText.{namesOf, AllowedText}
-use Rattle.prism.specs.definitions.HeldText.{Beside, Holds, LowestTerms}
+use Rattle.prism.specs.definitions.HeldText.{Beside, Holds}
 
 -- '33, model buffer too short, last; file is 1 but for 33', for what reading the text gave
 unfoldable pub textOutcome : List ℕ → (before : List (List ℕ)) → ReadText → Outcome

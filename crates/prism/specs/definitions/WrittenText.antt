@@ -8,10 +8,9 @@ use Rattle.numbers.specs.definitions.Decimal.{decimal}
 use Rattle.numbers.specs.definitions.Divisor.{Divides}
 use Rattle.rules.specs.definitions.Limits.{Limits}
 use Rattle.rules.specs.definitions.Model.{Entry, Transition, Model}
-use Rattle.rules.specs.definitions.SoundModel.{Each, SoundModel, entryCount}
+use Rattle.rules.specs.definitions.SoundModel.{Each, SoundModel, entryCount, LowestTerms}
 use Rattle.prism.specs.definitions.Lines.{Head}
 use Rattle.prism.specs.definitions.AllowedText.{Probability, one, point, Target, WrittenChoice, textBytes}
-use Rattle.prism.specs.definitions.HeldText.{LowestTerms}
 
 -- ten-thousandths, 'written 1 or as 0, a point and one to four digits': here four
 unfoldable pub fourDigits : ℕ → List ℕ

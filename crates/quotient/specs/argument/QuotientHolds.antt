@@ -5,10 +5,10 @@ use mathlib.Core.Path.{sym, ap, subst}
 use mathlib.Core.List.{List}
 use lib.ListN.{length}
 use native.Mathlib.Omega.{arith}
-use Rattle.rules.specs.definitions.Limits.{Limits, limits}
+use Rattle.rules.specs.definitions.Limits.{Limits, current}
 use Rattle.rules.specs.definitions.Model.{automatonOf, HoldOneAutomaton}
 use Rattle.rules.specs.definitions.SoundModel.{FitsWidths}
-use Rattle.rules.specs.argument.SoundModelLaws.{limits-fit}
+use Rattle.rules.specs.argument.SoundModelLaws.{current-fit}
 use Rattle.rules.specs.argument.ReadSound.{read-whole-sound}
 use Rattle.rules.specs.definitions.PlainRule.{plainRule}
 use Rattle.rules.specs.definitions.Judging.{NameSameBlocks}
@@ -55,5 +55,5 @@ module _ (L : Limits) (widths : FitsWidths L) (few : L .refutations < 65536) {nu
       }
 
 -- for today's limits and document 01's step rule
-pub plain-merges : Merges limits plainRule
-plain-merges = merges limits limits-fit (omega arith) plainCertificates
+pub plain-merges : Merges current plainRule
+plain-merges = merges current current-fit (omega arith) plainCertificates

@@ -10,12 +10,12 @@ use Rattle.bisimulation.specs.definitions.Choice.{ifSame, ifTrue}
 use Rattle.bisimulation.specs.argument.ChoiceLaws.{same, notSame, eitherSame, eitherTrue}
 use Rattle.bisimulation.specs.definitions.Sum.{sum}
 use Rattle.bisimulation.specs.argument.SumLaws.{sumCong, sumZero}
-use Rattle.rules.specs.definitions.Limits.{Limits}
+use Rattle.rules.specs.definitions.Limits.{anyTerms, Limits, withTerms}
 use Rattle.rules.specs.definitions.Bytes.{twoBytes}
 use Rattle.rules.specs.definitions.Model.{Entry, Transition, Model, weightOf, transitionBytes, transitionsBytes, headBytes, labelsBytes, modelBytes}
 use Rattle.rules.specs.definitions.Reading.{readWhole, model}
 use Rattle.rules.specs.definitions.SoundModel.{Each, sumOver, TransitionRules, SoundModel, FitsWidths}
-use Rattle.rules.specs.argument.SoundModelLaws.{each-map, each-append, From, from-lower, along-from, StatesFrom, SourcesFrom, no-weight, sum-with}
+use Rattle.rules.specs.argument.SoundModelLaws.{with-fits, each-any, each-map, each-append, From, from-lower, along-from, StatesFrom, SourcesFrom, no-weight, sum-with}
 use Rattle.rules.specs.argument.ReadBack.{transitionBytes-length, read-back-whole}
 use Rattle.rules.specs.argument.LargestBlocks.{Numbered}
 use Rattle.rules.specs.argument.NumberedBlocks.{block-below, count-some, count-most, each-block, NumberedBlocks}
@@ -330,7 +330,7 @@ module _ (L : Limits) (M : Model) (ok : SoundModel L M) (blocks : List ℕ) (nam
       (each-map _ _ most (M .transitions) (ok .transitions))
 
   -- the merged model is sound
-  pub quotient-sound : SoundModel L (quotient M blocks)
+  pub quotient-sound : SoundModel (withTerms anyTerms L) (quotient M blocks)
   unfolding quotient
   quotient-sound =
       let Q = quotient M blocks in
@@ -349,12 +349,13 @@ module _ (L : Limits) (M : Model) (ok : SoundModel L M) (blocks : List ℕ) (nam
         sources = along-from _ _ (Q .transitions) 0 (sources-by-block blocks (M .transitions) (blockCount blocks) 0);
         entries =
             omega (arith, merged-sum (λ (t : Transition). length (t .entries)) (λ t rules. merged-few blocks (length (M .labels)) (M .actions) t rules merged-below), ok .entries);
+        terms = each-any (Q .transitions);
       }
 
   -- so its file is read as it
-  pub merged-reads : FitsWidths L → readWhole L (mergedFile M blocks) ≡ model (quotient M blocks) (length (mergedFile M blocks))
+  pub merged-reads : FitsWidths L → readWhole (withTerms anyTerms L) (mergedFile M blocks) ≡ model (quotient M blocks) (length (mergedFile M blocks))
   unfolding mergedFile
-  merged-reads fits = read-back-whole L (quotient M blocks) fits quotient-sound
+  merged-reads fits = read-back-whole (withTerms anyTerms L) (quotient M blocks) (with-fits anyTerms L fits) quotient-sound
 
   -- and is no longer than the model's
   pub merged-length : length (mergedFile M blocks) ≤ length (modelBytes M)

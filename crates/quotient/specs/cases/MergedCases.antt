@@ -8,10 +8,12 @@ use Rattle.bisimulation.specs.definitions.Sum.{sum, sumℤ}
 use Rattle.bisimulation.specs.definitions.StepRule.{arriving, leaving, overTargets, overSources, beforeMove, afterMove, internalMove, atTarget}
 use Rattle.bisimulation.specs.definitions.Prices.{priceAt, priceOfTargets}
 use Rattle.bisimulation.specs.definitions.Pairs.{equalLabels, isPair, removed}
+use Rattle.numbers.specs.definitions.Divisor.{divisorWithin, divisor, divisorOf}
+use Rattle.rules.specs.definitions.LowestTerms.{divisorIn}
 use Rattle.rules.specs.definitions.Limits.{limits}
 use Rattle.rules.specs.definitions.Bytes.{byteAt, twoAt, threeAt, fourAt, signedAt, twoBytes}
 use Rattle.rules.specs.definitions.Model.{Entry, Transition, Model, weightOf, automatonOf, headBytes, labelsBytes, entriesBytes, transitionBytes, transitionsBytes, modelBytes}
-use Rattle.rules.specs.definitions.Reading.{statesOf, actionsOf, countOf, rangeFault, headFault, labelFault, labelsFault, sourceAt, actionAt, denominatorAt, entryCountAt, afterTransition, fixedFault, fixedFaultAt, entriesFault, transitionFault, refuseAt, scanTransitions, scanModel, refuseBytesLeft, scanWhole, entriesAt, transitionAt, transitionsAt, modelAt, readingOf, readWhole, placeOf, firstNotBelow, runFirst, runPast, runStart, runEnd}
+use Rattle.rules.specs.definitions.Reading.{statesOf, actionsOf, countOf, rangeFault, headFault, labelFault, labelsFault, sourceAt, actionAt, denominatorAt, entryCountAt, afterTransition, fixedFault, fixedFaultAt, entriesFault, termsFault, transitionFault, refuseAt, scanTransitions, scanModel, refuseBytesLeft, scanWhole, entriesAt, transitionAt, transitionsAt, modelAt, readingOf, readWhole, placeOf, firstNotBelow, runFirst, runPast, runStart, runEnd}
 use Rattle.rules.specs.definitions.Certificate.{refutationCount, certificateHeadFault, challengerAt, defenderAt, pricesAt, afterRefutation, pairFault, refutationFault, pairsAfter, blocksAt, numberedFault, sameBlock, agree, pairsFault, blocksFault, kCountAt, afterK, wCountAt, afterFlow, kOf, wOf, flowAt, kFault, wFault, flowFault}
 use Rattle.rules.specs.definitions.Faults.{fault, firstOf, openFault}
 use Rattle.rules.specs.definitions.PlainRule.{byKind, plainPriceCount, priceCondition, allWithAction, allRelated, below, lastFault, internalPricesFault, externalPricesFault, plainPricesFault, internalInQuestion, externalInQuestion, plainInQuestion, breakFrom, firstBreak, internalEquationsFault, externalEquationsFault, plainEquationsFault, plainRule}
@@ -100,5 +102,5 @@ halvesMerged =
     ∷ 0x54 ∷ 0x52 ∷ 0 ∷ 1 ∷ 0 ∷ 2 ∷ 1 ∷ 0 ∷ 0 ∷ 2 ∷ []
 
 pub merged-cases : (mergedFile fourStates (0 ∷ 1 ∷ 0 ∷ 1 ∷ []) ≡ fourMerged) × (mergedFile halves (0 ∷ 1 ∷ 2 ∷ 0 ∷ []) ≡ halvesMerged) × Each (λ (c : OutcomeCase). pairOutcome limits (readWhole limits) plainRule writesMerged modelS (c .certificate) (c .before ∷ []) ≡ c .expected) reduceCases
-unfolding ifLess ifSame ifTrue allBelow sum sumℤ arriving leaving overTargets overSources beforeMove afterMove internalMove atTarget priceAt priceOfTargets byteAt twoAt threeAt fourAt signedAt weightOf automatonOf openFault statesOf actionsOf countOf rangeFault headFault labelFault labelsFault sourceAt actionAt denominatorAt entryCountAt afterTransition fixedFault fixedFaultAt entriesFault transitionFault refuseAt scanTransitions scanModel refuseBytesLeft scanWhole entriesAt transitionAt transitionsAt modelAt readingOf readWhole firstOf both equalLabels isPair removed refutationCount certificateHeadFault challengerAt defenderAt pricesAt afterRefutation pairFault refutationFault pairsAfter blocksAt numberedFault sameBlock agree pairsFault blocksFault kCountAt afterK wCountAt afterFlow kOf wOf flowAt kFault wFault flowFault byKind plainPriceCount priceCondition allWithAction allRelated below lastFault internalPricesFault externalPricesFault plainPricesFault internalInQuestion externalInQuestion plainInQuestion breakFrom firstBreak internalEquationsFault externalEquationsFault plainEquationsFault refuseRecordAt questionsOfPair questionsOfState questionsFrom questions judgeFlows judgeBlocks judgeRefutations judgeCertificate judgeReading judge modelS certificateS refusalIn answerWithoutPlace fileOf judgementAnswer unwritten filledWith filledEach filled judgedOutcome readOutcome pairOutcome Each twoBytes headBytes labelsBytes entriesBytes transitionBytes transitionsBytes modelBytes blockCount labelOfBlock blockLabels weightToBlock blockEntries mergedTransition fromBlock sameTransition isAmong distinct byBlock quotient mergedFile roomFor filesOutcome mergedS reduceCases fourStates fourMerged halves halvesMerged
+unfolding ifLess ifSame ifTrue allBelow sum sumℤ arriving leaving overTargets overSources beforeMove afterMove internalMove atTarget priceAt priceOfTargets byteAt twoAt threeAt fourAt signedAt weightOf automatonOf openFault statesOf actionsOf countOf rangeFault headFault labelFault labelsFault sourceAt actionAt denominatorAt entryCountAt afterTransition fixedFault fixedFaultAt entriesFault divisorWithin divisor divisorOf divisorIn termsFault transitionFault refuseAt scanTransitions scanModel refuseBytesLeft scanWhole entriesAt transitionAt transitionsAt modelAt readingOf readWhole firstOf both equalLabels isPair removed refutationCount certificateHeadFault challengerAt defenderAt pricesAt afterRefutation pairFault refutationFault pairsAfter blocksAt numberedFault sameBlock agree pairsFault blocksFault kCountAt afterK wCountAt afterFlow kOf wOf flowAt kFault wFault flowFault byKind plainPriceCount priceCondition allWithAction allRelated below lastFault internalPricesFault externalPricesFault plainPricesFault internalInQuestion externalInQuestion plainInQuestion breakFrom firstBreak internalEquationsFault externalEquationsFault plainEquationsFault refuseRecordAt questionsOfPair questionsOfState questionsFrom questions judgeFlows judgeBlocks judgeRefutations judgeCertificate judgeReading judge modelS certificateS refusalIn answerWithoutPlace fileOf judgementAnswer unwritten filledWith filledEach filled judgedOutcome readOutcome pairOutcome Each twoBytes headBytes labelsBytes entriesBytes transitionBytes transitionsBytes modelBytes blockCount labelOfBlock blockLabels weightToBlock blockEntries mergedTransition fromBlock sameTransition isAmong distinct byBlock quotient mergedFile roomFor filesOutcome mergedS reduceCases fourStates fourMerged halves halvesMerged
 merged-cases = (refl, refl, (refl, (refl, (refl, (refl, tt)))))

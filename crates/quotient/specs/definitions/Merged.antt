@@ -4,7 +4,7 @@ use mathlib.Core.Path.{_≡_}
 use mathlib.Core.List.{List}
 use lib.ListN.{length, getD}
 use Rattle.bisimulation.specs.definitions.StandsFor.{StandForEachOther, NoTwoSame}
-use Rattle.rules.specs.definitions.Limits.{Limits}
+use Rattle.rules.specs.definitions.Limits.{anyTerms, Limits, withTerms}
 use Rattle.rules.specs.definitions.Model.{Model, automatonOf, HoldOneAutomaton}
 use Rattle.rules.specs.definitions.Reading.{readWhole}
 use Rattle.rules.specs.definitions.SoundModel.{Bytes, SoundModel}
@@ -17,8 +17,8 @@ use Rattle.rules.specs.definitions.Demand3.{HoldsModel}
 -- the merged model of the model M that the bytes hold: sound, its file holds it and is no longer, its states are the blocks, each with its
 -- members' label, its transitions stand for those of M, and no two of them are the same
 pub record MergedModel (L : Limits) (bytes : List ℕ) (M : Model) (blocks : List ℕ) : Type 0 where
-  pub sound : SoundModel L (quotient M blocks)
-  pub holds : HoldsModel (readWhole L) (mergedFile M blocks) (quotient M blocks)
+  pub sound : SoundModel (withTerms anyTerms L) (quotient M blocks)
+  pub holds : HoldsModel (readWhole (withTerms anyTerms L)) (mergedFile M blocks) (quotient M blocks)
   pub short : length (mergedFile M blocks) ≤ length bytes
   pub states : length (quotient M blocks .labels) ≡ blockCount blocks
   pub below : (v : ℕ) → v < length (M .labels) → getD blocks v 0 < blockCount blocks

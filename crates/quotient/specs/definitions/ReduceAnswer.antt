@@ -1,6 +1,8 @@
 -- Document 01, 'Refused, and where': what the call that reduces does with an accepted certificate, and its numbers.
 use Prim.Native.Nat.{ℕ, _≤_}
 use mathlib.Core.Logic.{_⊎_}
+use Rattle.rules.specs.definitions.Limits.{Terms}
+use Rattle.rules.specs.definitions.Reading.{ReadNumber}
 use Rattle.rules.specs.definitions.Answers.{Follows, writesFile}
 use Rattle.quotient.specs.definitions.Quotient.{mergedFile}
 
@@ -9,5 +11,5 @@ abbrev pub writesMerged : Follows
 writesMerged = writesFile 23 mergedFile
 
 -- the numbers that document 01 gives for the call that reduces
-unfoldable pub ReduceNumber : ℕ → Type 0
-ReduceNumber k = (k ≤ 9) ⊎ ((11 ≤ k) × (k ≤ 23))
+unfoldable pub ReduceNumber : Terms → ℕ → Type 0
+ReduceNumber terms k = ReadNumber terms k ⊎ ((11 ≤ k) × (k ≤ 23))

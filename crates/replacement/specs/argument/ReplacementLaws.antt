@@ -11,7 +11,7 @@ use native.Mathlib.Omega.{arith}
 use Rattle.bisimulation.specs.definitions.Automaton.{SoundAutomaton}
 use Rattle.bisimulation.specs.definitions.StepRule.{Met, MeetsStepRule}
 use Rattle.bisimulation.specs.definitions.Largest.{BisimilarByPairs}
-use Rattle.rules.specs.definitions.Limits.{Limits, limits}
+use Rattle.rules.specs.definitions.Limits.{anyTerms, Limits, withTerms, current}
 use Rattle.rules.specs.definitions.Model.{Model, automatonOf}
 use Rattle.rules.specs.definitions.SoundModel.{Bytes, SoundModel, FitsWidths}
 use Rattle.quotient.specs.definitions.Quotient.{quotient, mergedFile}
@@ -23,13 +23,13 @@ use Rattle.quotient.specs.definitions.ReduceAnswer.{writesMerged, ReduceNumber}
 use Rattle.rules.specs.definitions.Demand3.{InOneBlock, HoldsModel}
 use Rattle.rules.specs.definitions.Demands.{KeepsRulesOn, outcomeBy, Accepting, Demands}
 use Rattle.rules.specs.argument.AnyRule.{PairRules, pairsOf}
-use Rattle.rules.specs.argument.SoundModelLaws.{sound-automaton, sound-bytes, limits-fit}
+use Rattle.rules.specs.argument.SoundModelLaws.{sound-automaton, sound-bytes, current-fit}
 use Rattle.rules.specs.argument.AnswerLaws.{file-whole, file-fits}
 use Rattle.rules.specs.argument.PairOutcome.{outcome-followed}
 use Rattle.rules.specs.argument.AcceptedExactly.{accepted-exactly}
 use Rattle.rules.specs.argument.Demand3Holds.{AcceptedFacts, facts-of, one-model, largest-block-pairs}
 use Rattle.rules.specs.argument.DemandsHold.{accepted-of, kept-of, holds-of}
-use Rattle.quotient.specs.argument.ReduceAnswerLaws.{merged-follow}
+use Rattle.quotient.specs.argument.ReduceAnswerLaws.{merged-follow-today}
 use Rattle.rules.specs.argument.PlainRules.{wholeRules, plainCertificates, plainRules}
 use Rattle.quotient.specs.argument.QuotientHolds.{merges, plain-merges}
 use Rattle.joined.specs.definitions.Joined.{joined, joinedFile}
@@ -103,7 +103,7 @@ module _ (L : Limits) (widths : FitsWidths L) (few : L .refutations < 65536) whe
     soundA = sound-automaton L M (facts .sound)
 
     soundQ : SoundAutomaton (automatonOf N)
-    soundQ = sound-automaton L N (m .sound)
+    soundQ = sound-automaton (withTerms anyTerms L) N (m .sound)
 
     beside : IsJoined (automatonOf M) (automatonOf N) (automatonOf (joined M N))
     beside = joined-automaton M N (facts .sound .transitions)
@@ -129,7 +129,7 @@ module _ (L : Limits) (widths : FitsWidths L) (few : L .refutations < 65536) whe
   merged-replaces = replaces
 
 -- the call that reduces keeps its demands where it keeps those of a call that judges
-module _ (model certificate lent : List ℕ) (after : List (List ℕ)) (number : ℕ) (b : Bytes model) (c : Bytes certificate) (e : number ≡ outcomeBy plainPairs writesMerged model certificate (lent ∷ []) .answer .number) (d : Demands plainPairs writesMerged ReduceNumber model certificate (lent ∷ []) after number) where
+module _ (model certificate lent : List ℕ) (after : List (List ℕ)) (number : ℕ) (b : Bytes model) (c : Bytes certificate) (e : number ≡ outcomeBy plainPairs writesMerged model certificate (lent ∷ []) .answer .number) (d : Demands plainPairs writesMerged (ReduceNumber (current .terms)) model certificate (lent ∷ []) after number) where
   abbrev before : List (List ℕ)
   before = lent ∷ []
 
@@ -146,14 +146,14 @@ module _ (model certificate lent : List ℕ) (after : List (List ℕ)) (number :
     read : HoldsModel (plainPairs .read) model M
     read = holds-of plainRules model certificate blocks b M k
 
-    merged-model : MergedModel limits model M blocks
+    merged-model : MergedModel current model M blocks
     merged-model = plain-merges .merged model certificate blocks b c accepted M read
 
     used-for : Replaces plainPairs M (quotient M blocks) blocks
-    used-for = merged-replaces limits limits-fit (omega arith) model certificate blocks b c accepted M read
+    used-for = merged-replaces current current-fit (omega arith) model certificate blocks b c accepted M read
 
     followed : filesOutcome 23 (file ∷ []) before ≡ o
-    followed = outcome-followed plainRules writesMerged merged-follow model certificate before blocks (read .reads) (accepted .answers) (omega arith)
+    followed = outcome-followed plainRules writesMerged merged-follow-today model certificate before blocks (read .reads) (accepted .answers) (omega arith)
 
     module _ (z : number ≡ 0) where
       whole : filled (file ∷ []) before ≡ o

@@ -7,7 +7,7 @@ use mathlib.Core.List.{List}
 use lib.ListN.{length, take, getD}
 use Rattle.bisimulation.specs.definitions.StepRule.{Met}
 use Rattle.bisimulation.specs.definitions.Largest.{Bisimulation, BisimilarByPairs}
-use Rattle.rules.specs.definitions.Limits.{limits}
+use Rattle.rules.specs.definitions.Limits.{current}
 use Rattle.rules.specs.definitions.Model.{Model, automatonOf}
 use Rattle.rules.specs.definitions.SoundModel.{Bytes, SoundModel}
 use Rattle.quotient.specs.definitions.Quotient.{quotient}
@@ -61,9 +61,9 @@ module _ (by : JudgedBy) where
 -- what the call that reduces keeps. `judging` says that there are M and blocks where it answers 0 or 23, and the length written is the outcome's
 pub record ReduceDemands (model certificate : List ℕ) (before after : List (List ℕ)) (number : ℕ) : Type 0 where
   -- the demands of a call that judges
-  pub judging : Demands plainPairs writesMerged ReduceNumber model certificate before after number
+  pub judging : Demands plainPairs writesMerged (ReduceNumber (current .terms)) model certificate before after number
   -- the merged model of the accepted blocks is what is promised of one, and may be used for the original: at 0, and at 23, which is an acceptance
-  pub merged : (M : Model) (blocks : List ℕ) → KeepsRulesOn plainPairs model certificate M blocks → MergedModel limits model M blocks
+  pub merged : (M : Model) (blocks : List ℕ) → KeepsRulesOn plainPairs model certificate M blocks → MergedModel current model M blocks
   pub replaces : (M : Model) (blocks : List ℕ) → KeepsRulesOn plainPairs model certificate M blocks → Replaces plainPairs M (quotient M blocks) blocks
   -- where it answers 0, the bytes that it wrote hold a model that may be used for the original
   pub holds : number ≡ 0 → (M : Model) (blocks : List ℕ) → KeepsRulesOn plainPairs model certificate M blocks → HoldsReplacement plainPairs (take (firstWritten (outcomeBy plainPairs writesMerged model certificate before)) (firstLent after)) M blocks

@@ -17,7 +17,7 @@ use Rattle.rules.specs.argument.Standing.{IsBytes}
 use Rattle.rules.specs.definitions.Judging.{accepted, judgeReading, judge}
 use Rattle.rules.specs.definitions.Accepted.{Accepted}
 use Rattle.rules.specs.definitions.JudgedBy.{AcceptedBy}
-use Rattle.rules.specs.argument.CertificateKept.{accepted-kept, kept-accepted}
+use Rattle.rules.specs.argument.CertificateKept.{CertificateStands, certificate-stands, accepted-kept, kept-accepted}
 
 -- bytes, at every place
 pub is-bytes : (s : List ℕ) → Bytes s → IsBytes s
@@ -43,26 +43,38 @@ module _ (by : PairRules) where
   abbrev pub AcceptedAs : (bytes C blocks : List ℕ) → Type 0
   AcceptedAs bytes C blocks = Accepted (by .limits) (by .models .isFile) (by .rule bytes .says) (by .rule bytes .file .mark) bytes C blocks
 
-  module _ (bytes C blocks : List ℕ) (isBytes : Bytes bytes) (isC : Bytes C) where
-    judged-accepted : (r : Reading) → by .models .read bytes ≡ r → accepted blocks ≡ judgeReading (by .limits) (by .rule bytes .file) r C → AcceptedAs bytes C blocks
-    unfolding judgeReading
-    judged-accepted (model M end) q e =
-        let whole : by .models .read bytes ≡ model M (length bytes) = q ∙ ap (model M) (by .models .whole bytes M end isBytes q) in
-        let file = by .models .exactly bytes M isBytes .0 whole in
-        let narrow = narrow-model (by .limits) M (by .widths) (by .models .sound bytes M file) in
-        record { M = M; file = file; kept = accepted-kept (by .limits) (by .rule bytes .file) (by .rule bytes .says) (by .rule bytes .decides) (automatonOf M) narrow C (is-bytes C isC) blocks e }
-    judged-accepted (noModel f place) q e = let z : _≡_ {A = ℕ} 0 1 = cc in absurd (omega arith)
-
-    accepted-judged : AcceptedAs bytes C blocks → judge (by .limits) (by .models .read) (by .rule bytes .file) bytes C ≡ accepted blocks
+  module _ (bytes C blocks : List ℕ) (isBytes : Bytes bytes) where
+    -- where the rules are kept, judging accepts
+    pub accepted-judged : AcceptedAs bytes C blocks → AcceptedBy (pairsOf by) bytes C blocks
     unfolding judge judgeReading
     accepted-judged a =
         let read = by .models .exactly bytes (a .M) isBytes .1 (a .file) in
         let narrow = narrow-model (by .limits) (a .M) (by .widths) (by .models .sound bytes (a .M) (a .file)) in
-        ap (λ (r : Reading). judgeReading (by .limits) (by .rule bytes .file) r C) read
-        ∙ sym (kept-accepted (by .limits) (by .rule bytes .file) (by .rule bytes .says) (by .rule bytes .decides) (automatonOf (a .M)) narrow C (by .rule bytes .mark) (by .refutations) (a .kept .certificate) (a .kept .encoded) (a .kept .keeps))
-        ∙ ap accepted (a .kept .named)
+        record {
+          answers =
+              ap (λ (r : Reading). judgeReading (by .limits) (by .rule bytes .file) r C) read
+              ∙ sym (kept-accepted (by .limits) (by .rule bytes .file) (by .rule bytes .says) (by .rule bytes .decides) (automatonOf (a .M)) narrow C (by .rule bytes .mark) (by .refutations) (a .kept .certificate) (a .kept .encoded) (a .kept .keeps))
+              ∙ ap accepted (a .kept .named);
+        }
 
-    -- accepted exactly when the rules are kept
-    pub accepted-exactly : AcceptedBy (pairsOf by) bytes C blocks ↔ AcceptedAs bytes C blocks
-    unfolding judge
-    accepted-exactly = (λ a. judged-accepted (by .models .read bytes) refl (sym (a .answers)), λ a. record { answers = accepted-judged a })
+    module _ (isC : Bytes C) where
+      judged-accepted : (r : Reading) → by .models .read bytes ≡ r → accepted blocks ≡ judgeReading (by .limits) (by .rule bytes .file) r C → AcceptedAs bytes C blocks
+      unfolding judgeReading
+      judged-accepted (model M end) q e =
+          let whole : by .models .read bytes ≡ model M (length bytes) = q ∙ ap (model M) (by .models .whole bytes M end isBytes q) in
+          let file = by .models .exactly bytes M isBytes .0 whole in
+          let narrow = narrow-model (by .limits) M (by .widths) (by .models .sound bytes M file) in
+          record { M = M; file = file; kept = accepted-kept (by .limits) (by .rule bytes .file) (by .rule bytes .says) (by .rule bytes .decides) (automatonOf M) narrow C (is-bytes C isC) blocks e }
+      judged-accepted (noModel f place) q e = let z : _≡_ {A = ℕ} 0 1 = cc in absurd (omega arith)
+
+      -- accepted exactly when the rules are kept
+      pub accepted-exactly : AcceptedBy (pairsOf by) bytes C blocks ↔ AcceptedAs bytes C blocks
+      unfolding judge
+      accepted-exactly = (λ a. judged-accepted (by .models .read bytes) refl (sym (a .answers)), λ a. accepted-judged a)
+
+      -- and then the certificate that stands in the file keeps them, for the model in the other
+      pub accepted-stands : (M : Model) (file : by .models .isFile bytes M) → AcceptedBy (pairsOf by) bytes C blocks → CertificateStands (by .limits) (by .rule bytes .file) (by .rule bytes .says) (by .rule bytes .decides) (automatonOf M) (narrow-model (by .limits) M (by .widths) (by .models .sound bytes M file)) C blocks
+      unfolding judge judgeReading
+      accepted-stands M file a =
+          certificate-stands (by .limits) (by .rule bytes .file) (by .rule bytes .says) (by .rule bytes .decides) (automatonOf M) (narrow-model (by .limits) M (by .widths) (by .models .sound bytes M file)) C (is-bytes C isC) blocks
+          (sym (a .answers) ∙ ap (λ (r : Reading). judgeReading (by .limits) (by .rule bytes .file) r C) (by .models .exactly bytes M isBytes .1 file))

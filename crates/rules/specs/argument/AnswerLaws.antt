@@ -13,7 +13,7 @@ use Rattle.rules.specs.definitions.Model.{Model}
 use Rattle.rules.specs.definitions.Faults.{Fault, faultBy}
 use Rattle.rules.specs.argument.FaultLaws.{Otherwise, Told, told-fault}
 use Rattle.rules.specs.definitions.Reading.{model, Scan, sound, refused, scanWhole, statesOf, countOf, modelAt, readingOf, readWhole, placeOf, sourceAt, firstNotBelow, runFirst, runPast, runStart, runEnd}
-use Rattle.rules.specs.argument.ReadingLaws.{Sound, Tells, whole-tells}
+use Rattle.rules.specs.argument.ReadingLaws.{read-low, read-otherwise, Sound, Tells, whole-tells}
 use Rattle.rules.specs.definitions.Answers.{Answer, refusalIn, answerWithoutPlace, runAnswer, fetchReading, fetchAnswer, Outcome, leftIn, unwritten, filled, roomFor, filesOutcome, FetchNumber}
 
 -- the labels of a sound model are n
@@ -69,14 +69,14 @@ place-inside L s n m count end t zero h = omega (arith, t .states, t .labels)
 place-inside L s n m count end t (suc r) h = t .records r (omega arith)
 
 -- a fetch answers a number of document 01
-pub fetch-number : (L : Limits) (s : List ℕ) (state : ℕ) → FetchNumber (fetchAnswer L s state .number)
+pub fetch-number : (L : Limits) (s : List ℕ) (state : ℕ) → FetchNumber (L .terms) (fetchAnswer L s state .number)
 unfolding fetchAnswer fetchReading readWhole readingOf FetchNumber refusalIn runAnswer answerWithoutPlace
 fetch-number L s state = go (scanWhole L s) (whole-tells L s)
   where
-    go : (scan : Scan) → Tells L s scan → FetchNumber (fetchReading s state (readingOf s scan) .number)
+    go : (scan : Scan) → Tells L s scan → FetchNumber (L .terms) (fetchReading s state (readingOf s scan) .number)
     go (sound n m count end) t =
-        eitherLess (λ (a : Answer). FetchNumber (a .number)) state (length (modelAt s .labels))
-        (eitherLess (λ (a : Answer). FetchNumber (a .number)) (runStart s state) (runEnd s state) (inl (omega arith)) (inl (omega arith)))
+        eitherLess (λ (a : Answer). FetchNumber (L .terms) (a .number)) state (length (modelAt s .labels))
+        (eitherLess (λ (a : Answer). FetchNumber (L .terms) (a .number)) (runStart s state) (runEnd s state) (inl (read-low (L .terms) 0 (omega arith))) (inl (read-low (L .terms) 0 (omega arith))))
         (inr refl)
     go (refused f place) t = inl (t .known)
 
@@ -105,7 +105,7 @@ fetch-zero L s state = go (scanWhole L s) (whole-tells L s)
         eitherLess NoState state (length (modelAt s .labels))
         (eitherLess NoState (runStart s state) (runEnd s state) (refl, refl) (refl, refl))
         (refl, refl)
-    go (refused f place) t = t .told .otherwise (omega (arith, t .known))
+    go (refused f place) t = t .told .otherwise (read-otherwise (L .terms) _ (t .known))
 
 -- its stretch or run lies in the file
 pub fetch-inside : (L : Limits) (s : List ℕ) (state : ℕ) → fetchAnswer L s state .stretchStart + fetchAnswer L s state .stretchLength ≤ length s

@@ -12,10 +12,10 @@ use Rattle.bisimulation.specs.definitions.Automaton.{Automaton}
 use Rattle.bisimulation.specs.definitions.StepRule.{Flow}
 use Rattle.bisimulation.specs.definitions.Pairs.{Pairs, equalLabels}
 use Rattle.bisimulation.specs.definitions.Prices.{Side, priceOfTargets}
-use Rattle.rules.specs.definitions.Limits.{Limits}
+use Rattle.rules.specs.definitions.Limits.{Terms, Limits}
 use Rattle.rules.specs.definitions.Bytes.{twoAt}
 use Rattle.rules.specs.definitions.Model.{Model, automatonOf}
-use Rattle.rules.specs.definitions.Reading.{Reading, model, noModel}
+use Rattle.rules.specs.definitions.Reading.{ReadNumber, Reading, model, noModel}
 use Rattle.rules.specs.definitions.Faults.{Fault, fault, noFault, Passes, firstOf, certificateRecord}
 use Rattle.rules.specs.definitions.Certificate.{FileRule, refutationCount, pairsAfter, afterRefutation, blocksAt, blocksFault, afterFlow, flowAt, flowFault}
 use Rattle.rules.specs.definitions.PlainRule.{byKind, lastFault, internalPricesFault, externalPricesFault, plainPricesFault, plainRule}
@@ -28,6 +28,7 @@ use Rattle.rules.specs.argument.AnyRule.{PairRules, RefusalOf, pairsOf}
 use Rattle.rules.specs.argument.FaultLaws.{none-first, certificate-refuses, opened}
 use Rattle.rules.specs.argument.JudgingLaws.{record-cases}
 use Rattle.rules.specs.argument.RecordFaults.{k-either, w-either, open-either, head-either, refutation-either, blocks-either}
+use Rattle.rules.specs.argument.ReadingLaws.{read-number}
 use Rattle.rules.specs.argument.QuestionsLaws.{questions-asked}
 use Rattle.rules.specs.argument.BreakOrder.{InOrder, Kinds, equationKinds, plain-order}
 use Rattle.rules.specs.argument.PlainRules.{PlainNumber, ModelNumber, plainRules}
@@ -219,13 +220,13 @@ module _ (by : PairRules) (kinds : Kinds) (M C : List ℕ) (tells : TellsBreaks 
       outcome-cases by follows laws M C before (λ o. AnswerBreaks by kinds M C (o .answer))
       (λ f file place h j b. break-judged f file place j b)
       (λ N end e h b. absurd (unbroken 10 (omega arith) (omega arith) b))
-      (λ N end blocks e room q b. absurd (⊎-elim (λ z. none (of-number z b)) (λ z. late (of-number z b)) (laws .numbered N blocks before)))
+      (λ N end blocks e room q b. absurd (⊎-elim (λ z. none (of-number z b)) (λ z. late _ z b) (laws .numbered N blocks before)))
     where
       of-number : {n k : ℕ} → n ≡ k → Broken (fault n) → Broken (fault k)
       of-number z b = subst (λ (k : ℕ). (k ≡ 20) ⊎ (k ≡ 21)) z b
 
-      late : Unbroken (fault (follows .late))
-      late b = ⊎-elim (λ x. laws .late 20 r20 (omega arith) (sym x)) (λ x. laws .late 21 r21 (omega arith) (sym x)) b
+      late : (k : ℕ) → Among k (follows .late) → Unbroken (fault k)
+      late k z b = ⊎-elim (λ x. laws .late 20 r20 (omega arith) (subst (λ (j : ℕ). Among j (follows .late)) x z)) (λ x. laws .late 21 r21 (omega arith) (subst (λ (j : ℕ). Among j (follows .late)) x z)) b
 
 -- document 01's rule: its prices are refused with 15 and 16
 module _ (A : Automaton) (side : Side) (R : Pairs) (q t : ℕ) where
@@ -253,9 +254,13 @@ plain-breaks =
       equations = λ A q t x b. plain-order A q t x;
     }
 
+-- no number of reading is one of an equation
+pub read-unbroken : (terms : Terms) (k : ℕ) → ReadNumber terms k → Unbroken (fault k)
+read-unbroken terms k h = ⊎-elim (λ x. unbroken k (λ z. omega (arith, x, z)) (λ z. omega (arith, x, z))) (λ x. unbroken k (λ z. omega (arith, x, z)) (λ z. omega (arith, x, z))) (read-number terms k h)
+
 -- a call that judges by document 01's rules
 pub plain-break-answered : (M C : List ℕ) (follows : Follows) → FollowsLaws plainRules follows → (before : List (List ℕ)) → AnswerBreaks plainRules equationKinds M C (outcomeBy plainPairs follows M C before .answer)
 unfolding RefusalOf PlainNumber ModelNumber
 plain-break-answered M C =
-    break-answered plainRules equationKinds M C plain-breaks (λ k h. unbroken k (λ z. omega (arith, h, z)) (λ z. omega (arith, h, z)))
+    break-answered plainRules equationKinds M C plain-breaks (λ k h. read-unbroken _ k (h .1))
     (inr (inr (inr (omega arith, omega arith)))) (inr (inr (inr (omega arith, omega arith))))

@@ -15,12 +15,14 @@ use Rattle.rules.specs.definitions.Certificate.{FileRule, refutationCoun
 use Rattle.rules.specs.definitions.Faults.{Fault, fault, Passes, certificateRecord}
 use Rattle.rules.specs.definitions.Judging.{Judgement, accepted, refusedIn, refuseRecordAt, Question, questions, judgeFlows, judgeBlocks, judgeRefutations, judgeCertificate}
 use Rattle.rules.specs.definitions.Encoding.{Refutation, FlowRecord, Certificate, listBytes, refutationBytes, blocksBytes, flowBytes, certificateBytes}
+use Rattle.rules.specs.definitions.CertificateAt.{refutationAt, flowRecordAt, refutationsFrom, afterRefutations, blocksPlace, flowsPlace, flowsFrom, certificateAt}
 use Rattle.rules.specs.definitions.Accepted.{RuleSays, Kept, GoodRefutations, done, refute, GoodBlocks, GoodFlows, KeepsRules}
 use Rattle.rules.specs.argument.QuestionsLaws.{questions-asked, questions-only}
-use Rattle.rules.specs.argument.RefutationRecords.{refutationAt, refutation-good, refutation-stands, refutation-after, challenger-read, defender-read, after-read, refutation-passes}
+use Rattle.rules.specs.argument.RefutationRecords.{refutation-good, refutation-stands, refutation-after, challenger-read, defender-read, after-read, refutation-passes}
 use Rattle.rules.specs.argument.FaultLaws.{none-first, first-none, certificate-refuses, opened, opens, pass-on, pass-ifLess}
 use Rattle.rules.specs.argument.BlocksRecord.{blocks-good, blocks-stand, blocks-read, blocks-pass}
-use Rattle.rules.specs.argument.FlowRecords.{flowRecordAt, flow-good, flow-stands, flow-after, flow-end, flow-passes}
+use Rattle.rules.specs.argument.CertificateStands.{FlowsFill}
+use Rattle.rules.specs.argument.FlowRecords.{flow-good, flow-stands, flow-after, flow-end, flow-passes}
 
 -- acceptance is no refusal, so a record before it has no fault
 pub not-refused : (blocks : List ℕ) (f : Fault) (file place : ℕ) → accepted blocks ≡ refusedIn f file place → ⊥
@@ -39,27 +41,26 @@ go-on blocks f place next e h = same (refusedIn f 2 place) e h
 module _ (L : Limits) (file : FileRule) (says : RuleSays) (decides : Decides file says) (A : Automaton) (narrow : Narrow A) (C : List ℕ) where
   -- the flows that stand from a place to the file's end
   record FlowsFound (R : Pairs) (xs : List Question) (at : ℕ) (named blocks : List ℕ) : Type 0 where
-    pub fs : List FlowRecord
-    pub good : GoodFlows says A R xs fs
-    pub stand : Stands C at (listBytes flowBytes fs)
-    pub last : at + length (listBytes flowBytes fs) ≡ length C
+    pub good : GoodFlows says A R xs (flowsFrom C (length xs) at)
+    pub stand : Stands C at (listBytes flowBytes (flowsFrom C (length xs) at))
+    pub last : at + length (listBytes flowBytes (flowsFrom C (length xs) at)) ≡ length C
     pub named-is : named ≡ blocks
 
   flows-found : IsBytes C → (R : Pairs) (named blocks : List ℕ) (xs : List Question) (at : ℕ) → at ≤ length C → accepted named ≡ judgeFlows L file A C R blocks xs at → FlowsFound R xs at named blocks
-  unfolding judgeFlows listBytes
+  unfolding judgeFlows listBytes flowsFrom
   flows-found b R named blocks [] at inside e =
       let p = pastLess (refusedIn (fault 22) 2 at) (accepted blocks) at (length C) (not-refused named (fault 22) 2 at) e in
-      record { fs = []; good = GoodFlows.done; stand = stands-nothing C at inside; last = omega (arith, p .0); named-is = let q = p .1 in cc }
+      record { good = GoodFlows.done; stand = stands-nothing C at inside; last = omega (arith, p .0); named-is = let q = p .1 in cc }
   flows-found b R named blocks (x ∷ xs) at inside e =
       let p = none-refused named _ at _ e in
       let stands = flow-stands file says decides A narrow C R x at (p .0) b in
-      let after = flow-after file says decides A narrow C R x at in
+      let after = flow-after C at in
       let r = flows-found b R named blocks xs (afterFlow C at) (omega (arith, stands .inside)) (p .1) in
+      let rest = listBytes flowBytes (flowsFrom C (length xs) (afterFlow C at)) in
       record {
-        fs = flowRecordAt C at ∷ r .fs;
         good = GoodFlows.flow (flow-good file says decides A narrow C R x at (p .0) b) (r .good);
-        stand = stands-both C at (flowBytes (flowRecordAt C at)) (listBytes flowBytes (r .fs)) stands (stands-at (r .stand) after);
-        last = omega (arith, after, r .last, length-append (flowBytes (flowRecordAt C at)) (listBytes flowBytes (r .fs)));
+        stand = stands-both C at (flowBytes (flowRecordAt C at)) rest stands (stands-at (r .stand) after);
+        last = omega (arith, after, r .last, length-append (flowBytes (flowRecordAt C at)) rest);
         named-is = r .named-is;
       }
 
@@ -76,24 +77,23 @@ module _ (L : Limits) (file : FileRule) (says : RuleSays) (decides : Decides fil
 
   -- the refutations that stand from a place on, and the pairs that they leave
   record RefutationsFound (left : ℕ) (R : Pairs) (at : ℕ) (named : List ℕ) : Type 0 where
-    pub xs : List Refutation
     pub pairs : Pairs
-    pub good : GoodRefutations says A R xs pairs
-    pub count : length xs ≡ left
-    pub stand : Stands C at (listBytes refutationBytes xs)
-    pub rest : accepted named ≡ judgeBlocks L file A C pairs (at + length (listBytes refutationBytes xs))
+    pub good : GoodRefutations says A R (refutationsFrom file A C left at) pairs
+    pub count : length (refutationsFrom file A C left at) ≡ left
+    pub stand : Stands C at (listBytes refutationBytes (refutationsFrom file A C left at))
+    pub after : afterRefutations file A C left at ≡ at + length (listBytes refutationBytes (refutationsFrom file A C left at))
+    pub rest : accepted named ≡ judgeBlocks L file A C pairs (afterRefutations file A C left at)
 
   refutations-found : IsBytes C → (named : List ℕ) (left : ℕ) (R : Pairs) (at : ℕ) → at ≤ length C → accepted named ≡ judgeRefutations L file A C left R at → RefutationsFound left R at named
-  unfolding judgeRefutations listBytes pairsAfter refutationAt
+  unfolding judgeRefutations listBytes pairsAfter refutationAt refutationsFrom afterRefutations
   refutations-found b named zero R at inside e =
-      let z : at ≡ at + 0 = omega arith in
       record {
-        xs = [];
         pairs = R;
         good = GoodRefutations.done;
         count = refl;
         stand = stands-nothing C at inside;
-        rest = e ∙ ap (judgeBlocks L file A C R) z;
+        after = omega arith;
+        rest = e;
       }
   refutations-found b named (suc left) R at inside e =
       let p = none-refused named _ at _ e in
@@ -101,16 +101,14 @@ module _ (L : Limits) (file : FileRule) (says : RuleSays) (decides : Decides fil
       let after = refutation-after file says decides A narrow C R at (p .0) in
       let x = refutationAt file A C at in
       let r = refutations-found b named left (pairsAfter A C R at) (afterRefutation file A C at) (omega (arith, stands .inside)) (p .1) in
-      let z : afterRefutation file A C at + length (listBytes refutationBytes (r .xs)) ≡ at + length (refutationBytes x ++ listBytes refutationBytes (r .xs)) =
-      omega (arith, after, length-append (refutationBytes x) (listBytes refutationBytes (r .xs)))
-      in
+      let rest = listBytes refutationBytes (refutationsFrom file A C left (afterRefutation file A C at)) in
       record {
-        xs = x ∷ r .xs;
         pairs = r .pairs;
         good = GoodRefutations.refute (refutation-good file says decides A narrow C R at (p .0) b) (r .good);
         count = ap suc (r .count);
-        stand = stands-both C at (refutationBytes x) (listBytes refutationBytes (r .xs)) stands (stands-at (r .stand) after);
-        rest = r .rest ∙ ap (judgeBlocks L file A C (r .pairs)) z;
+        stand = stands-both C at (refutationBytes x) rest stands (stands-at (r .stand) after);
+        after = omega (arith, after, r .after, length-append (refutationBytes x) rest);
+        rest = r .rest;
       }
 
   refutations-accepted : (named : List ℕ) (R pairs : Pairs) (xs : List Refutation) (at : ℕ) → GoodRefutations says A R xs pairs → Stands C at (listBytes refutationBytes xs) → accepted named ≡ judgeBlocks L file A C pairs (at + length (listBytes refutationBytes xs)) → accepted named ≡ judgeRefutations L file A C (length xs) R at
@@ -132,11 +130,11 @@ module _ (L : Limits) (file : FileRule) (says : RuleSays) (decides : Decides fil
 
   -- the blocks and the flows after them
   record BlocksFound (R : Pairs) (at : ℕ) (named : List ℕ) : Type 0 where
-    pub fs : List FlowRecord
+    pub is : blocksAt A C at ≡ named
     pub good : GoodBlocks A R named
-    pub flows : GoodFlows says A R (questions A named) fs
-    pub stand : Stands C at (blocksBytes named ++ listBytes flowBytes fs)
-    pub last : at + length (blocksBytes named ++ listBytes flowBytes fs) ≡ length C
+    pub flows : GoodFlows says A R (questions A named) (flowsFrom C (length (questions A named)) (at + 2 + A .states))
+    pub stand : Stands C at (blocksBytes named ++ listBytes flowBytes (flowsFrom C (length (questions A named)) (at + 2 + A .states)))
+    pub last : at + 2 + A .states + length (listBytes flowBytes (flowsFrom C (length (questions A named)) (at + 2 + A .states))) ≡ length C
 
   length-blocksBytes : (blocks : List ℕ) → length (blocksBytes blocks) ≡ 2 + length blocks
   unfolding blocksBytes
@@ -154,11 +152,11 @@ module _ (L : Limits) (file : FileRule) (says : RuleSays) (decides : Decides fil
       let z : at + 2 + A .states ≡ at + length (blocksBytes blocks) = omega (arith, good .whole) in
       subst (BlocksFound R at) (sym (r .named-is))
       (record {
-        fs = r .fs;
+        is = refl;
         good = good;
         flows = r .good;
-        stand = stands-both C at (blocksBytes blocks) (listBytes flowBytes (r .fs)) stands (stands-at (r .stand) z);
-        last = omega (arith, r .last, length-append (blocksBytes blocks) (listBytes flowBytes (r .fs)));
+        stand = stands-both C at (blocksBytes blocks) (listBytes flowBytes (flowsFrom C (length (questions A blocks)) (at + 2 + A .states))) stands (stands-at (r .stand) z);
+        last = r .last;
       })
 
   blocks-accepted : (R : Pairs) (at : ℕ) (named : List ℕ) (fs : List FlowRecord) → GoodBlocks A R named → GoodFlows says A R (questions A named) fs → Stands C at (blocksBytes named ++ listBytes flowBytes fs) → at + length (blocksBytes named ++ listBytes flowBytes fs) ≡ length C → accepted named ≡ judgeBlocks L file A C R at
@@ -187,45 +185,68 @@ module _ (L : Limits) (file : FileRule) (says : RuleSays) (decides : Decides fil
       let d = pass-ifLess _ _ _ _ (a .1) (omega arith) in
       record { mark = b .marked; whole = b .whole; few = d .0 }
 
-  -- accepted, so kept
-  pub accepted-kept : IsBytes C → (blocks : List ℕ) → accepted blocks ≡ judgeCertificate L file A C → Kept L says (file .mark) A C blocks
-  unfolding judgeCertificate certificateBytes refutationCount
-  accepted-kept b blocks e =
+  -- accepted with these blocks, so the certificate that stands in the file is what the file encodes, and keeps every rule
+  pub record CertificateStands (blocks : List ℕ) : Type 0 where
+    pub encoded : C ≡ certificateBytes (file .mark) (certificateAt file A C)
+    pub keeps : KeepsRules L says A (certificateAt file A C)
+    pub named : certificateAt file A C .blocks ≡ blocks
+    -- its flows stand to the end of the file
+    pub last : FlowsFill C (length (questions A blocks)) (flowsPlace file A C)
+
+  pub certificate-stands : IsBytes C → (blocks : List ℕ) → accepted blocks ≡ judgeCertificate L file A C → CertificateStands blocks
+  unfolding judgeCertificate certificateBytes refutationCount certificateAt blocksPlace flowsPlace FlowsFill
+  certificate-stands b blocks e =
       let p = none-refused blocks _ 0 _ e in
       let head = head-passed (p .0) in
       let r = refutations-found b blocks (twoAt C 2) (equalLabels A) 4 (head .whole) (p .1) in
-      let f = blocks-found b (r .pairs) (4 + length (listBytes refutationBytes (r .xs))) blocks (r .rest) in
-      let tail = listBytes refutationBytes (r .xs) ++ (blocksBytes blocks ++ listBytes flowBytes (f .fs)) in
-      let body : Stands C 4 tail = stands-both C 4 (listBytes refutationBytes (r .xs)) (blocksBytes blocks ++ listBytes flowBytes (f .fs)) (r .stand) (f .stand) in
-      let whole : Stands C 0 (twoBytes (file .mark) ++ (twoBytes (length (r .xs)) ++ tail)) =
+      let xs = refutationsFrom file A C (twoAt C 2) 4 in
+      let place = afterRefutations file A C (twoAt C 2) 4 in
+      let f = blocks-found b (r .pairs) place blocks (r .rest) in
+      let named = blocksAt A C place in
+      let fs = flowsFrom C (length (questions A named)) (place + 2 + A .states) in
+      let g : BlocksFound (r .pairs) place named = subst (BlocksFound (r .pairs) place) (sym (f .is)) f in
+      let tail = listBytes refutationBytes xs ++ (blocksBytes named ++ listBytes flowBytes fs) in
+      let body : Stands C 4 tail =
+      stands-both C 4 (listBytes refutationBytes xs) (blocksBytes named ++ listBytes flowBytes fs) (r .stand) (stands-at (g .stand) (r .after)) in
+      let whole : Stands C 0 (twoBytes (file .mark) ++ (twoBytes (length xs) ++ tail)) =
       after-two C 0 (file .mark) _ (mark-stands C 0 (file .mark) b (omega (arith, head .whole)) (head .mark))
-      (after-two C 2 (length (r .xs)) _ (mark-stands C 2 (length (r .xs)) b (omega (arith, head .whole)) (sym (r .count))) body)
+      (after-two C 2 (length xs) _ (mark-stands C 2 (length xs) b (omega (arith, head .whole)) (sym (r .count))) body)
       in
       record {
-        certificate = record { refutations = r .xs; blocks = blocks; flows = f .fs };
         encoded =
-            stands-is C (twoBytes (file .mark) ++ (twoBytes (length (r .xs)) ++ tail)) whole
+            stands-is C (twoBytes (file .mark) ++ (twoBytes (length xs) ++ tail)) whole
             (omega (
               arith,
-              f .last,
-              length-append (twoBytes (file .mark)) (twoBytes (length (r .xs)) ++ tail),
-              length-append (twoBytes (length (r .xs))) tail,
-              length-append (listBytes refutationBytes (r .xs)) (blocksBytes blocks ++ listBytes flowBytes (f .fs)),
+              g .last,
+              g .good .whole,
+              r .after,
+              length-blocksBytes named,
+              length-append (twoBytes (file .mark)) (twoBytes (length xs) ++ tail),
+              length-append (twoBytes (length xs)) tail,
+              length-append (listBytes refutationBytes xs) (blocksBytes named ++ listBytes flowBytes fs),
+              length-append (blocksBytes named) (listBytes flowBytes fs),
               length-two (file .mark),
-              length-two (length (r .xs)),
+              length-two (length xs),
             ));
         keeps =
             record {
               left = r .pairs;
               few = omega (arith, head .few, r .count);
               refutations = r .good;
-              blocks = f .good;
-              asked = questions A blocks;
-              isAsked = questions-asked A blocks;
-              flows = f .flows;
+              blocks = g .good;
+              asked = questions A named;
+              isAsked = questions-asked A named;
+              flows = g .flows;
             };
-        named = refl;
+        named = f .is;
+        last = f .last;
       }
+
+  -- accepted, so kept
+  pub accepted-kept : IsBytes C → (blocks : List ℕ) → accepted blocks ≡ judgeCertificate L file A C → Kept L says (file .mark) A C blocks
+  accepted-kept b blocks e =
+      let s = certificate-stands b blocks e in
+      record { certificate = certificateAt file A C; encoded = s .encoded; keeps = s .keeps; named = s .named }
 
   -- kept, so accepted, where the mark and the limit fit their fields
   pub kept-accepted : file .mark < 65536 → L .refutations < 65536 → (K : Certificate) → C ≡ certificateBytes (file .mark) K → KeepsRules L says A K → accepted (K .blocks) ≡ judgeCertificate L file A C

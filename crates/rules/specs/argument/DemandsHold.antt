@@ -6,10 +6,12 @@ use mathlib.Core.List.{List, [], _∷_, _++_}
 use lib.ListN.{length, take, drop}
 use lib.Seq.{take-append-seam}
 use native.Mathlib.Omega.{arith}
-use Rattle.rules.specs.definitions.Limits.{Limits}
+use Rattle.rules.specs.definitions.Limits.{Terms, Limits}
 use Rattle.rules.specs.definitions.Model.{Model, automatonOf}
 use Rattle.rules.specs.definitions.Bytes.{twoAt}
 use Rattle.rules.specs.definitions.Faults.{fault}
+use Rattle.rules.specs.definitions.Reading.{ReadNumber}
+use Rattle.rules.specs.definitions.Accepted.{Among, here, there}
 use Rattle.rules.specs.definitions.JudgedBy.{plainPairs}
 use Rattle.rules.specs.definitions.SoundModel.{Bytes, FitsWidths}
 use Rattle.rules.specs.argument.AnyRule.{PairRules, RefusalOf, pairsOf}
@@ -18,6 +20,7 @@ use Rattle.rules.specs.definitions.Demand3.{HoldsModel, LargestBlocks}
 use Rattle.rules.specs.definitions.Demands.{KeepsRulesOn, LargestOf, outcomeBy, Accepting, Demands}
 use Rattle.rules.specs.argument.AnyRule.{AnyCertificateNumber}
 use Rattle.rules.specs.argument.FaultLaws.{told-fault}
+use Rattle.rules.specs.argument.ReadingLaws.{read-low, read-number, read-not-ten}
 use Rattle.rules.specs.argument.AnswerLaws.{files-number, files-told, files-unwritten, file-lacks}
 use Rattle.rules.specs.argument.JudgedFirst.{Found, found-outcome}
 use Rattle.rules.specs.argument.AcceptedExactly.{AcceptedAs, accepted-exactly}
@@ -87,6 +90,14 @@ judged-largest by numbers model certificate before after b d M blocks k =
     (sym (ap (λ (l : List (List ℕ)). take (length (M .labels)) (firstLent l)) (d .written (inl refl) M blocks k) ∙ ap (λ (n : ℕ). take n (blocks ++ drop (length blocks) before)) (sym whole) ∙ take-append-seam blocks _))
     (d .largest M blocks k)
 
+-- the late numbers: none, or one
+pub none-late : {k : ℕ} → Among k [] → ⊥
+none-late = elim [ ]
+
+pub one-late : {k late : ℕ} → Among k (late ∷ []) → k ≡ late
+one-late here = refl
+one-late (there h) = absurd (none-late h)
+
 -- what follows acceptance in the calls that judge, whatever by
 pub blocks-follow : {by : PairRules} → FollowsLaws by writesBlocks
 unfolding filled answerWithoutPlace Accepting
@@ -95,38 +106,40 @@ blocks-follow =
       numbered = λ N blocks before. inl refl;
       told = λ N blocks before. told-fault 0 (omega arith);
       unwritten = λ N blocks before n. absurd (n refl);
-      late = λ k h n z. n z;
-      notTen = omega arith;
+      late = λ k h n z. none-late z;
+      notTen = none-late;
     }
 
--- a refusal of document 01's judging: 1 to 9, or 11 to 22
-pub plain-refusal : (k : ℕ) → RefusalOf plainRules k → (k ≤ 9) ⊎ ((11 ≤ k) × (k ≤ 22))
-unfolding RefusalOf AnyCertificateNumber PlainNumber ModelNumber
-plain-refusal k h =
-    ⊎-elim (λ x. inl (x .1))
-    (λ y.
-    ⊎-elim
-    (λ x. ⊎-elim (λ w. inr (w .0, omega (arith, w))) (λ w. ⊎-elim (λ v. inr (omega (arith, v), omega (arith, v))) (λ v. inr (omega (arith, v), omega (arith, v))) w) x)
-    (λ x. ⊎-elim (λ w. inr (omega (arith, w), omega (arith, w))) (λ w. inr (omega (arith, w), omega (arith, w))) x)
-    y)
-    h
+-- document 01's rules, within limits
+module _ (L : Limits) (widths : FitsWidths L) (few : L .refutations < 65536) where
+  -- a refusal of judging: one of reading, or 11 to 22
+  pub plain-refusal : (k : ℕ) → RefusalOf (plainRulesAt L widths few) k → ReadNumber (L .terms) k ⊎ ((11 ≤ k) × (k ≤ 22))
+  unfolding RefusalOf AnyCertificateNumber PlainNumber ModelNumber
+  plain-refusal k h =
+      ⊎-elim (λ x. inl (x .1))
+      (λ y.
+      ⊎-elim
+      (λ x. ⊎-elim (λ w. inr (w .0, omega (arith, w))) (λ w. ⊎-elim (λ v. inr (omega (arith, v), omega (arith, v))) (λ v. inr (omega (arith, v), omega (arith, v))) w) x)
+      (λ x. ⊎-elim (λ w. inr (omega (arith, w), omega (arith, w))) (λ w. inr (omega (arith, w), omega (arith, w))) x)
+      y)
+      h
 
--- a file is written, with a number above all those where there is no room for it
-pub file-follow : (short : ℕ) (file : Model → List ℕ → List ℕ) → 22 < short → FollowsLaws plainRules (writesFile short file)
-unfolding Accepting
-file-follow short file above =
-    record {
-      numbered = λ N blocks before. files-number short (file N blocks ∷ []) before (λ (k : ℕ). (k ≡ 0) ⊎ (k ≡ short)) (inl refl) (inr refl);
-      told = λ N blocks before. files-told short (file N blocks ∷ []) before (omega arith);
-      unwritten = λ N blocks before. files-unwritten short (file N blocks ∷ []) before;
-      late = λ k h n z. ⊎-elim (λ x. omega (arith, x, z)) (λ x. omega (arith, x, z)) (plain-refusal k h);
-      notTen = λ z. omega (arith, z);
-    }
+  -- none of them is a number of a request's own
+  pub plain-other : (late : ℕ) → 22 < late → (late ≡ 34 → ⊥) → (k : ℕ) → RefusalOf (plainRulesAt L widths few) k → k ≡ late → ⊥
+  plain-other late above other k h z =
+      ⊎-elim (λ x. ⊎-elim (λ w. omega (arith, above, z, w)) (λ w. other (sym z ∙ w)) (read-number (L .terms) k x)) (λ x. omega (arith, above, z, x)) (plain-refusal k h)
 
--- what follows acceptance does not depend on the limits
-pub follow-at : (L : Limits) (widths : FitsWidths L) (few : L .refutations < 65536) {follows : Follows} → FollowsLaws plainRules follows → FollowsLaws (plainRulesAt L widths few) follows
-unfolding RefusalOf
-follow-at L widths few laws = record { numbered = laws .numbered; told = laws .told; unwritten = laws .unwritten; late = laws .late; notTen = laws .notTen }
+  -- a file is written, with a number above all those where there is no room for it
+  pub file-follow : (short : ℕ) (file : Model → List ℕ → List ℕ) → 22 < short → (short ≡ 34 → ⊥) → FollowsLaws (plainRulesAt L widths few) (writesFile short file)
+  unfolding Accepting
+  file-follow short file above other =
+      record {
+        numbered = λ N blocks before. files-number short (file N blocks ∷ []) before (λ (k : ℕ). (k ≡ 0) ⊎ Among k (short ∷ [])) (inl refl) (inr here);
+        told = λ N blocks before. files-told short (file N blocks ∷ []) before (omega arith);
+        unwritten = λ N blocks before. files-unwritten short (file N blocks ∷ []) before;
+        late = λ k h n z. plain-other short above other k h (one-late z);
+        notTen = λ z. omega (arith, above, one-late z);
+      }
 
 -- the answer to a certificate with another mark than the rule's, for every sound model
 pub another-mark : (by : PairRules) (s C : List ℕ) (M : Model) → Bytes s → by .models .isFile s M → 2 ≤ length C → (twoAt C 0 ≡ by .rule s .file .mark → ⊥) → (follows : Follows) (before : List (List ℕ)) → follows .blockRoom M ≤ length (firstLent before) → outcomeBy (pairsOf by) follows s C before ≡ unwritten (refusalIn (fault 12) 2 0 (length C)) before
@@ -137,7 +150,7 @@ another-mark by s C M b f two other follows before room =
 pub file-late : (by : PairRules) (short : ℕ) (file : Model → List ℕ → List ℕ) → FollowsLaws by (writesFile short file) → (short ≡ 0 → ⊥) → (M C buffer : List ℕ) (most : ℕ) → ((a : Found by M C) → length (file (a .N) (a .blocks)) ≤ most) → outcomeBy (pairsOf by) (writesFile short file) M C (buffer ∷ []) .answer .number ≡ short → length buffer < most
 unfolding Accepting
 file-late by short file laws some M C buffer most longest z =
-    let f = outcome-found by (writesFile short file) laws M C (buffer ∷ []) (inr z) .found in
+    let f = outcome-found by (writesFile short file) laws M C (buffer ∷ []) (inr (subst (λ (k : ℕ). Among k (short ∷ [])) (sym z) here)) .found in
     let o = found-outcome by M C (writesFile short file) (buffer ∷ []) (λ N end e. omega arith) f in
     omega (arith, file-lacks short (file (f .N) (f .blocks)) buffer some (ap (λ (x : Outcome). x .answer .number) o ∙ z), longest f)
 
@@ -151,20 +164,26 @@ blocks-short by none M C before b =
     (λ N end blocks e room q z. absurd (omega (arith, z)))
 
 module _ (M C : List ℕ) (before : List (List ℕ)) where
-  -- the call that judges answers one of 0 to 22
-  pub judge-numbered : JudgeNumber (outcomeBy plainPairs writesBlocks M C before .answer .number)
+  abbrev terms : Terms
+  terms = plainPairs .limits .terms
+
+  today : (k : ℕ) → RefusalOf plainRules k → ReadNumber terms k ⊎ ((11 ≤ k) × (k ≤ 22))
+  today = plain-refusal (plainRules .limits) (plainRules .widths) (plainRules .refutations)
+
+  -- the call that judges answers a number of reading, or one of 10 to 22
+  pub judge-numbered : JudgeNumber terms (outcomeBy plainPairs writesBlocks M C before .answer .number)
   unfolding JudgeNumber
   judge-numbered =
-      outcome-number plainRules writesBlocks blocks-follow M C before (λ k. k ≤ 22) (omega arith) (omega arith)
-      (λ k h. ⊎-elim (λ x. omega (arith, x)) (λ x. x .1) (plain-refusal k h)) (λ N h. omega arith)
+      outcome-number plainRules writesBlocks blocks-follow M C before (λ k. ReadNumber terms k ⊎ ((10 ≤ k) × (k ≤ 22))) (inl (read-low terms 0 (omega arith))) (λ k z. absurd (none-late z))
+      (λ k h. ⊎-elim inl (λ x. inr (omega (arith, x), x .1)) (today k h)) (λ N h. inr (omega arith, omega arith))
 
   -- with 10 only for a block buffer of less than 128 bytes
   pub blocks-short-today : Bytes M → outcomeBy plainPairs writesBlocks M C before .answer .number ≡ 10 → length (firstLent before) < 128
-  blocks-short-today = blocks-short plainRules (λ h. ⊎-elim (λ x. omega (arith, x)) (λ x. omega (arith, x)) (plain-refusal 10 h)) M C before
+  blocks-short-today = blocks-short plainRules (λ h. ⊎-elim (λ x. read-not-ten terms x) (λ x. omega (arith, x)) (today 10 h)) M C before
 
-  -- a call of document 02 that lends no block buffer: one of 0 to 9, 11 to 22, and its own
-  pub late-numbered : (follows : Follows) → FollowsLaws plainRules follows → ((N : Model) → follows .blockRoom N ≡ 0) → LateNumber (follows .late) (outcomeBy plainPairs follows M C before .answer .number)
+  -- a call of document 02 that lends no block buffer: one of reading, of 11 to 22, and its own
+  pub late-numbered : (follows : Follows) → FollowsLaws plainRules follows → ((N : Model) → follows .blockRoom N ≡ 0) → LateNumber terms (follows .late) (outcomeBy plainPairs follows M C before .answer .number)
   unfolding LateNumber
   late-numbered follows laws none =
-      outcome-number plainRules follows laws M C before (λ k. (k ≤ 9) ⊎ (((11 ≤ k) × (k ≤ 22)) ⊎ (k ≡ follows .late))) (inl (omega arith)) (inr (inr refl))
-      (λ k h. ⊎-elim (λ x. inl x) (λ x. inr (inl x)) (plain-refusal k h)) (λ N h. absurd (omega (arith, h, none N)))
+      outcome-number plainRules follows laws M C before (λ k. ReadNumber terms k ⊎ (((11 ≤ k) × (k ≤ 22)) ⊎ Among k (follows .late))) (inl (read-low terms 0 (omega arith))) (λ k z. inr (inr z))
+      (λ k h. ⊎-elim inl (λ x. inr (inl x)) (today k h)) (λ N h. absurd (omega (arith, h, none N)))

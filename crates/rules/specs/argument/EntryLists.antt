@@ -8,13 +8,9 @@ use native.Mathlib.Omega.{arith}
 use Rattle.rules.specs.argument.Standing.{Stands, stands-nothing, stands-both, stands-first, stands-second, stands-at}
 use Rattle.rules.specs.definitions.Faults.{Fault, Passes}
 use Rattle.rules.specs.definitions.Encoding.{listBytes}
+use Rattle.rules.specs.definitions.CertificateAt.{entriesFrom}
 use Rattle.rules.specs.definitions.Accepted.{Ascends, end, next}
 use Rattle.rules.specs.definitions.SoundModel.{Each}
-
--- the entries that are read from a place on
-unfoldable pub entriesFrom : {E : Type 0} → (size : ℕ) → (ℕ → E) → (left at : ℕ) → List E
-entriesFrom size readAt zero at = []
-entriesFrom size readAt (suc left) at = readAt at ∷ entriesFrom size readAt left (at + size)
 
 pub length-entriesFrom : {E : Type 0} (size : ℕ) (readAt : ℕ → E) (left at : ℕ) → length (entriesFrom size readAt left at) ≡ left
 unfolding entriesFrom

@@ -1,6 +1,7 @@
 -- The call that fetches keeps its demands.
 use Prim.Native.Nat.{ℕ, _≤_, _<_}
 use mathlib.Core.Path.{_≡_, refl, sym, _∙_, ap, subst}
+use mathlib.Core.Logic.{⊎-elim}
 use mathlib.Core.List.{List}
 use lib.ListN.{length}
 use native.Mathlib.Decide.{decLt}
@@ -13,6 +14,7 @@ use Rattle.rules.specs.definitions.SoundModel.{Bytes, FitsWidths}
 use Rattle.rules.specs.definitions.Accepted.{FileOf}
 use Rattle.rules.specs.definitions.Answers.{Answer, refusalIn, answerWithoutPlace, stretchIn, runAnswer, fetchReading, fetchAnswer, FetchNumber}
 use Rattle.rules.specs.definitions.FetchDemands.{FetchDemands}
+use Rattle.rules.specs.argument.ReadingLaws.{read-number}
 use Rattle.rules.specs.argument.AnswerLaws.{fetch-number}
 use Rattle.rules.specs.argument.FetchedRun.{fetched-run}
 use Rattle.rules.specs.argument.PlainRules.{ModelNumber, refusal-told, wholeFiles}
@@ -42,11 +44,11 @@ module _ (L : Limits) (fits : FitsWidths L) (s : List ℕ) (state : ℕ) (b : By
   answers-absent x =
       ap (λ (r : Reading). fetchReading s state r .number) (reads (x .0) (x .1)) ∙ ap (λ (a : Answer). a .number) (sym (notLess _ (x .2) refl))
 
-  -- a fetch finds the state, or not, or refuses the model with 1 to 9
+  -- a fetch finds the state, or not, or refuses the model, and not with 24
   data Way : Type 0 where
     finds : Found → Way
     lacks : Absent → Way
-    refuses : 1 ≤ answered → answered ≤ 9 → Way
+    refuses : 1 ≤ answered → (answered ≡ 24 → ⊥) → Way
 
   way : Way
   unfolding fetchAnswer fetchReading refusalIn ModelNumber
@@ -63,7 +65,7 @@ module _ (L : Limits) (fits : FitsWidths L) (s : List ℕ) (state : ℕ) (b : By
       go (noModel f place) e =
           let t = refusal-told L s f place e .1 in
           let k = ap (λ (r : Reading). fetchReading s state r .number) e in
-          refuses (omega (arith, t, k)) (omega (arith, t, k))
+          refuses (omega (arith, t, k)) (λ z. ⊎-elim (λ x. omega (arith, x, k, z)) (λ x. omega (arith, x, k, z)) (read-number (L .terms) _ (t .1)))
 
   told-found : answered ≡ 0 → Found
   told-found z = go way
@@ -79,7 +81,7 @@ module _ (L : Limits) (fits : FitsWidths L) (s : List ℕ) (state : ℕ) (b : By
       go : Way → Absent
       go (finds x) = absurd (omega (arith, z, answers-found x))
       go (lacks x) = x
-      go (refuses l m) = absurd (omega (arith, z, m))
+      go (refuses l m) = absurd (m z)
 
   runs : answered ≡ 0 → (M : Model) → FileOf L s M → stretchIn s (fetchAnswer L s state) ≡ transitionsBytes (leavingState state (M .transitions))
   runs z M f = go (decLt state (length (M .labels)))
@@ -91,7 +93,7 @@ module _ (L : Limits) (fits : FitsWidths L) (s : List ℕ) (state : ℕ) (b : By
   pub fetch-demands : (number : ℕ) → number ≡ answered → FetchDemands L s state number
   fetch-demands number e =
       record {
-        known = subst FetchNumber (sym e) (fetch-number L s state);
+        known = subst (FetchNumber (L .terms)) (sym e) (fetch-number L s state);
         found = (λ z. told-found (sym e ∙ z), λ x. e ∙ answers-found x);
         absent = (λ z. told-absent (sym e ∙ z), λ x. e ∙ answers-absent x);
         run = λ z. runs (sym e ∙ z);

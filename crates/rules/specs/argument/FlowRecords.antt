@@ -17,25 +17,11 @@ use Rattle.rules.specs.definitions.Certificate.{FileRule, kCountAt, afte
 use Rattle.rules.specs.definitions.Faults.{Passes, certificateRecord}
 use Rattle.rules.specs.definitions.Judging.{Question}
 use Rattle.rules.specs.definitions.Encoding.{KEntry, WEntry, FlowRecord, fourBytes, listBytes, kBytes, wBytes, flowBytes, kIn, wIn, flowOf}
+use Rattle.rules.specs.definitions.CertificateAt.{entriesFrom, kAt, wAt, flowRecordAt}
 use Rattle.rules.specs.definitions.Accepted.{RuleSays, GoodK, GoodW, GoodFlow, kKey, wKey}
 use Rattle.rules.specs.argument.EntryFaults.{passed-k, passed-w}
-use Rattle.rules.specs.argument.EntryLists.{entriesFrom, length-entriesFrom, length-listBytes, entries-stand, entries-read, entries-good, entries-pass}
+use Rattle.rules.specs.argument.EntryLists.{length-entriesFrom, length-listBytes, entries-stand, entries-read, entries-good, entries-pass}
 use Rattle.rules.specs.argument.FaultLaws.{none-first, first-none, certificate-refuses, opened, opens, pass-on, pass-ifLess, pass-ifSame}
-
--- the entries and the record that stand at a place
-unfoldable pub kAt : List ℕ → ℕ → KEntry
-kAt C at = record { layer = byteAt C at; transition = twoAt C (at + 1); k = fourAt C (at + 3) }
-
-unfoldable pub wAt : List ℕ → ℕ → WEntry
-wAt C at = record { v = byteAt C at; u = byteAt C (at + 1); w = fourAt C (at + 2) }
-
-unfoldable pub flowRecordAt : List ℕ → ℕ → FlowRecord
-flowRecordAt C at =
-    record {
-      D = fourAt C (at + 2);
-      ks = entriesFrom 7 (kAt C) (kCountAt C at) (at + 8);
-      ws = entriesFrom 6 (wAt C) (wCountAt C at) (afterK C at + 2);
-    }
 
 -- the k, the w and the flow of a record are those of its entries
 kOf-is : (C : List ℕ) (left at layer r : ℕ) → kOf C left at layer r ≡ kIn (entriesFrom 7 (kAt C) left at) layer r
@@ -182,6 +168,17 @@ length-flow f =
       length-listBytes WEntry 6 wBytes length-w (f .ws),
     )
 
+-- a flow ends where the next record begins
+pub flow-after : (C : List ℕ) (at : ℕ) → afterFlow C at ≡ at + length (flowBytes (flowRecordAt C at))
+unfolding flowRecordAt afterFlow afterK
+flow-after C at =
+    omega (
+      arith,
+      length-flow (flowRecordAt C at),
+      length-entriesFrom 7 (kAt C) (kCountAt C at) (at + 8),
+      length-entriesFrom 6 (wAt C) (wCountAt C at) (at + 8 + 7 * kCountAt C at + 2),
+    )
+
 -- what a flow without fault tells
 module _ (file : FileRule) (A : Automaton) (C : List ℕ) (R : Pairs) (q t at : ℕ) where
   pub record Passed : Type 0 where
@@ -223,16 +220,6 @@ module _ (file : FileRule) (says : RuleSays) (decides : Decides file says) (A : 
         wOrder = ws .1;
         equations = decides .equations A (x .challenger) (x .defender) (flowOf (flowRecordAt C at)) .0 (pass-on (ap (file .equationsFault A (x .challenger) (x .defender)) (flow-is C at)) (p .equations));
       }
-
-  pub flow-after : afterFlow C at ≡ at + length (flowBytes (flowRecordAt C at))
-  unfolding flowRecordAt afterFlow afterK
-  flow-after =
-      omega (
-        arith,
-        length-flow (flowRecordAt C at),
-        length-entriesFrom 7 (kAt C) (kCountAt C at) (at + 8),
-        length-entriesFrom 6 (wAt C) (wCountAt C at) (at + 8 + 7 * kCountAt C at + 2),
-      )
 
   pub flow-stands : Passes (flowFault file A C R (x .challenger) (x .defender) at) → IsBytes C → Stands C at (flowBytes (flowRecordAt C at))
   unfolding flowRecordAt flowBytes twoBytes afterK afterFlow
@@ -324,7 +311,7 @@ module _ (file : FileRule) (says : RuleSays) (decides : Decides file says) (A : 
         }
 
     pub flow-end : afterFlow C at ≡ at + length (flowBytes f)
-    flow-end = flow-after ∙ ap (λ (g : FlowRecord). at + length (flowBytes g)) flow-read
+    flow-end = flow-after C at ∙ ap (λ (g : FlowRecord). at + length (flowBytes g)) flow-read
 
     pub flow-passes : Passes (flowFault file A C R (x .challenger) (x .defender) at)
     unfolding flowFault

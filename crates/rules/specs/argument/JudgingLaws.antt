@@ -1,8 +1,8 @@
 -- Laws of judging record by record, and of a certificate with another mark than the rule's.
-use Prim.Native.Nat.{ℕ, _≤_}
+use Prim.Native.Nat.{ℕ, zero, suc, _≤_}
 use mathlib.Core.Path.{_≡_, refl, sym, _∙_, ap}
 use mathlib.Core.Bool.{Bool, true, false, cond}
-use mathlib.Core.List.{List}
+use mathlib.Core.List.{List, [], _∷_}
 use lib.Dec.{eqb}
 use lib.ListN.{length}
 use borrow.Author.Tests.{eqb-true, eqb-false}
@@ -10,11 +10,12 @@ use native.Mathlib.Omega.{arith}
 use Rattle.bisimulation.specs.definitions.Choice.{ifSame}
 use Rattle.bisimulation.specs.argument.ChoiceLaws.{same, notSame, notLess}
 use Rattle.bisimulation.specs.definitions.Automaton.{Automaton}
-use Rattle.rules.specs.definitions.Limits.{Limits}
+use Rattle.bisimulation.specs.definitions.Pairs.{Pairs, equalLabels}
+use Rattle.rules.specs.definitions.Limits.{Terms, Limits, withTerms}
 use Rattle.rules.specs.definitions.Bytes.{twoAt}
 use Rattle.rules.specs.definitions.Faults.{Fault, fault, Passes, certificateRecord, openFault}
-use Rattle.rules.specs.definitions.Certificate.{FileRule, certificateHeadFault}
-use Rattle.rules.specs.definitions.Judging.{Judgement, refusedIn, refuseRecordAt, judgeCertificate}
+use Rattle.rules.specs.definitions.Certificate.{FileRule, refutationCount, certificateHeadFault, afterFlow}
+use Rattle.rules.specs.definitions.Judging.{Judgement, refusedIn, refuseRecordAt, Question, judgeFlows, judgeBlocks, judgeRefutations, judgeCertificate}
 use Rattle.rules.specs.argument.FaultLaws.{first-stops}
 
 -- a record's fault refuses at its place; without one judging goes on
@@ -35,6 +36,22 @@ record-cases P f at next p q = go (eqb (f .number) 0) refl
     go : (t : Bool) → eqb (f .number) 0 ≡ t → P (cond t next (refusedIn f 2 at))
     go true e = q (eqb-true (f .number) 0 e)
     go false e = p (eqb-false (f .number) 0 e)
+
+-- judging a certificate asks no terms
+module _ (terms : Terms) (L : Limits) (rule : FileRule) (A : Automaton) (C : List ℕ) where
+  flows-terms : (R : Pairs) (blocks : List ℕ) (xs : List Question) (at : ℕ) → judgeFlows (withTerms terms L) rule A C R blocks xs at ≡ judgeFlows L rule A C R blocks xs at
+  unfolding judgeFlows
+  flows-terms R blocks [] at = refl
+  flows-terms R blocks (x ∷ xs) at = ap (refuseRecordAt _ at) (flows-terms R blocks xs (afterFlow C at))
+
+  refutations-terms : (left : ℕ) (R : Pairs) (at : ℕ) → judgeRefutations (withTerms terms L) rule A C left R at ≡ judgeRefutations L rule A C left R at
+  unfolding judgeRefutations judgeBlocks
+  refutations-terms zero R at = ap (refuseRecordAt _ at) (flows-terms R _ _ _)
+  refutations-terms (suc left) R at = ap (refuseRecordAt _ at) (refutations-terms left _ _)
+
+  pub certificate-terms : judgeCertificate (withTerms terms L) rule A C ≡ judgeCertificate L rule A C
+  unfolding judgeCertificate certificateHeadFault
+  certificate-terms = ap (refuseRecordAt _ 0) (refutations-terms (refutationCount C) (equalLabels A) 4)
 
 -- 12 at 0: 'A mark is compared once two bytes are there'
 pub other-mark : (L : Limits) (rule : FileRule) (A : Automaton) (C : List ℕ) → 2 ≤ length C → (twoAt C 0 ≡ rule .mark → ⊥) → refusedIn (fault 12) 2 0 ≡ judgeCertificate L rule A C

@@ -1,6 +1,7 @@
 -- Laws of the calls that write a model made of their files.
 use Prim.Native.Nat.{ℕ, _≤_, _<_}
 use mathlib.Core.Path.{_≡_, refl, sym, _∙_, ap, ap₂, subst}
+use mathlib.Core.Logic.{⊎-elim}
 use mathlib.Core.Bool.{Bool, true, false}
 use mathlib.Core.List.{List, [], _∷_}
 use lib.ListN.{length}
@@ -10,13 +11,14 @@ use Rattle.bisimulation.specs.argument.ChoiceLaws.{less, notLess, isTrue, isFal
 use Rattle.rules.specs.definitions.Limits.{Limits}
 use Rattle.rules.specs.definitions.Model.{Model, modelBytes}
 use Rattle.rules.specs.definitions.Faults.{Fault}
-use Rattle.rules.specs.definitions.Reading.{Reading, model, noModel, readWhole}
+use Rattle.rules.specs.definitions.Reading.{ReadNumber, Reading, model, noModel, readWhole}
 use Rattle.rules.specs.definitions.SoundModel.{Bytes, SoundModel, FitsWidths, entryCount}
 use Rattle.rules.specs.definitions.Judging.{Reader}
 use Rattle.rules.specs.definitions.Accepted.{FileOf}
 use Rattle.rules.specs.definitions.Answers.{Outcome, leftIn, refusalIn, answerWithoutPlace, unwritten, filledWith, filledEach, filled, firstLent, filesOutcome}
 use Rattle.rules.specs.definitions.Made.{passesLimit, madeOutcome, OfTwo, readingsOutcome, twoOutcome, MakesModel}
 use Rattle.rules.specs.argument.FaultLaws.{Told}
+use Rattle.rules.specs.argument.ReadingLaws.{read-low, read-number, read-otherwise}
 use Rattle.rules.specs.argument.ReadBack.{read-back-whole}
 use Rattle.rules.specs.argument.LengthLaws.{Within}
 use Rattle.rules.specs.argument.AnswerLaws.{NoState, left-unwritten, file-whole, files-number, files-zero, files-unwritten, file-fits, file-lacks}
@@ -116,7 +118,7 @@ module _ (L : Limits) (widths : FitsWidths L) (make : Model → Model → Model)
 
   -- the cases: a file is refused; a limit is passed; or the file that is made
   two-cases {κ} : (P : Outcome → Type κ)
-      → ((f : Fault) (which place size : ℕ) → (f .number ≡ 0 → ⊥) → f .number ≤ 9 → Told f → P (unwritten (refusalIn f which place size) (before ∷ [])))
+      → ((f : Fault) (which place size : ℕ) → (f .number ≡ 0 → ⊥) → ReadNumber (L .terms) (f .number) → Told f → P (unwritten (refusalIn f which place size) (before ∷ [])))
       → ((M N : Model) → FileOf L first M → FileOf L second N → passes M N ≡ true → P (unwritten (answerWithoutPlace over) (before ∷ [])))
       → ((M N : Model) → FileOf L first M → FileOf L second N → passes M N ≡ false → P (filesOutcome short (file M N ∷ []) (before ∷ [])))
       → P outcome
@@ -143,20 +145,20 @@ module _ (L : Limits) (widths : FitsWidths L) (make : Model → Model → Model)
           let t = refusal-told L first f place r in
           subst P (first-refused (readWhole L) made first second (before ∷ []) f place r) (refuses f 1 place (length first) (t .0) (unfold ModelNumber in t .1 .1) (t .3))
 
-  pub two-number : (P : ℕ → Type 0) → ((k : ℕ) → k ≤ 9 → P k) → P over → P short → P (numberOf outcome)
+  pub two-number : (P : ℕ → Type 0) → ((k : ℕ) → ReadNumber (L .terms) k → P k) → P over → P short → P (numberOf outcome)
   unfolding unwritten refusalIn answerWithoutPlace
   two-number P refused o s =
       two-cases (λ x. P (numberOf x))
       (λ f which place size n h t. refused (f .number) h)
       (λ M N f g p. o)
-      (λ M N f g p. files-number short (file M N ∷ []) (before ∷ []) P (refused 0 (omega arith)) s)
+      (λ M N f g p. files-number short (file M N ∷ []) (before ∷ []) P (refused 0 (read-low (L .terms) 0 (omega arith))) s)
 
   -- the number for a short buffer only where it is shorter than the longest file that is made
-  pub two-short : (most : ℕ) → 9 < short → (over ≡ short → ⊥) → ((M N : Model) → FileOf L first M → FileOf L second N → passes M N ≡ false → length (file M N) ≤ most) → numberOf outcome ≡ short → length before < most
+  pub two-short : (most : ℕ) → 9 < short → (short ≡ 34 → ⊥) → (over ≡ short → ⊥) → ((M N : Model) → FileOf L first M → FileOf L second N → passes M N ≡ false → length (file M N) ≤ most) → numberOf outcome ≡ short → length before < most
   unfolding unwritten refusalIn answerWithoutPlace
-  two-short most late other longest =
+  two-short most late unlike other longest =
       two-cases (λ o. numberOf o ≡ short → length before < most)
-      (λ f which place size n h t z. absurd (omega (arith, late, h, z)))
+      (λ f which place size n h t z. absurd (⊎-elim (λ x. omega (arith, late, x, z)) (λ x. unlike (sym z ∙ x)) (read-number (L .terms) _ h)))
       (λ M N f g p z. absurd (other z))
       (λ M N f g p z. omega (arith, file-lacks short (file M N) before someShort z, longest M N f g p))
 
@@ -165,7 +167,7 @@ module _ (L : Limits) (widths : FitsWidths L) (make : Model → Model → Model)
   unfolding unwritten refusalIn answerWithoutPlace
   two-zero =
       two-cases (λ o. NoState (o .answer))
-      (λ f which place size n h t. t .otherwise (omega arith))
+      (λ f which place size n h t. t .otherwise (read-otherwise (L .terms) _ h))
       (λ M N f g p. (refl, refl))
       (λ M N f g p. files-zero short (file M N ∷ []) (before ∷ []))
 

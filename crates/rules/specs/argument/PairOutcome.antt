@@ -15,6 +15,7 @@ use Rattle.rules.specs.definitions.Bytes.{twoAt}
 use Rattle.rules.specs.argument.FaultLaws.{Told, told-fault}
 use Rattle.rules.specs.argument.JudgingLaws.{other-mark}
 use Rattle.rules.specs.definitions.Reading.{Reading, model, noModel}
+use Rattle.rules.specs.definitions.Accepted.{Among}
 use Rattle.rules.specs.definitions.Certificate.{FileRule}
 use Rattle.rules.specs.definitions.Judging.{Judgement, accepted, refusedIn, Reader, judgeCertificate, judgeReading, judge}
 use Rattle.rules.specs.argument.AnyRule.{PairRules, RefusalOf, pairsOf}
@@ -65,13 +66,13 @@ pub record AcceptedModel (L : Limits) (read : Reader) (file : FileRule) (M C : L
   pub blocks : List ℕ
   pub judged : judge L read file M C ≡ accepted blocks
 
--- what follows acceptance answers 0 and the late number alone, tells as K2 says, and writes on 0 alone; the late number is no other refusal of the call
+-- what follows acceptance answers 0 and the late numbers alone, tells as K2 says, and writes on 0 alone; no late number is another refusal of the call
 pub record FollowsLaws (by : PairRules) (follows : Follows) : Type 0 where
   pub numbered : (N : Model) (blocks : List ℕ) (before : List (List ℕ)) → Accepting follows (follows .outcome N blocks before .answer .number)
   pub told : (N : Model) (blocks : List ℕ) (before : List (List ℕ)) → Told (faultIn (follows .outcome N blocks before .answer))
   pub unwritten : (N : Model) (blocks : List ℕ) (before : List (List ℕ)) → (follows .outcome N blocks before .answer .number ≡ 0 → ⊥) → leftIn (follows .outcome N blocks before) ≡ before
-  pub late : (k : ℕ) → RefusalOf by k → (k ≡ 0 → ⊥) → k ≡ follows .late → ⊥
-  pub notTen : follows .late ≡ 10 → ⊥
+  pub late : (k : ℕ) → RefusalOf by k → (k ≡ 0 → ⊥) → Among k (follows .late) → ⊥
+  pub notTen : Among 10 (follows .late) → ⊥
 
 module _ (by : PairRules) (follows : Follows) (laws : FollowsLaws by follows) (M C : List ℕ) (before : List (List ℕ)) where
   abbrev numberOf : Outcome → ℕ
@@ -104,14 +105,14 @@ module _ (by : PairRules) (follows : Follows) (laws : FollowsLaws by follows) (M
       by-model (noModel f place) e =
           subst P (outcome-refused (by .limits) (by .models .read) (by .rule M .file) follows M C before f place e) (refuses f 1 place (unread-number by M f place e) (judged e))
 
-  -- its number: 0, the late one, a refusal of judging, or 10 where a block buffer is lent
-  pub outcome-number : (P : ℕ → Type 0) → P 0 → P (follows .late) → ((k : ℕ) → RefusalOf by k → P k) → ((N : Model) → length (firstLent before) < follows .blockRoom N → P 10) → P (numberOf (outcomeBy (pairsOf by) follows M C before))
+  -- its number: 0, a late one, a refusal of judging, or 10 where a block buffer is lent
+  pub outcome-number : (P : ℕ → Type 0) → P 0 → ((k : ℕ) → Among k (follows .late) → P k) → ((k : ℕ) → RefusalOf by k → P k) → ((N : Model) → length (firstLent before) < follows .blockRoom N → P 10) → P (numberOf (outcomeBy (pairsOf by) follows M C before))
   unfolding unwritten refusalIn answerWithoutPlace Accepting
   outcome-number P zero late refusal ten =
       outcome-cases (λ o. P (numberOf o))
       (λ f file place h j. refusal (f .number) (h .number))
       (λ N end e h. ten N h)
-      (λ N end blocks e room q. ⊎-elim (λ z. subst P (sym z) zero) (λ z. subst P (sym z) late) (laws .numbered N blocks before))
+      (λ N end blocks e room q. ⊎-elim (λ z. subst P (sym z) zero) (λ z. late _ z) (laws .numbered N blocks before))
 
   -- what its state and remainder tell
   pub outcome-told : Told (faultIn (outcomeBy (pairsOf by) follows M C before .answer))
@@ -139,9 +140,9 @@ module _ (by : PairRules) (follows : Follows) (laws : FollowsLaws by follows) (M
   pub outcome-found : Accepting follows (numberOf (outcomeBy (pairsOf by) follows M C before)) → Followed
   unfolding unwritten refusalIn answerWithoutPlace Accepting judge judgeReading
   outcome-found =
-      outcome-cases (λ o. (numberOf o ≡ 0) ⊎ (numberOf o ≡ follows .late) → Followed)
+      outcome-cases (λ o. (numberOf o ≡ 0) ⊎ Among (numberOf o) (follows .late) → Followed)
       (λ f file place h j z. absurd (⊎-elim (λ x. h .some x) (λ x. laws .late (f .number) (h .number) (h .some) x) z))
-      (λ N end e h z. absurd (⊎-elim (λ x. omega (arith, x)) (λ x. laws .notTen (sym x)) z))
+      (λ N end e h z. absurd (⊎-elim (λ x. omega (arith, x)) (λ x. laws .notTen x) z))
       (λ N end blocks e room q z.
       record {
         found = record { N = N; end = end; reads = e; blocks = blocks; judged = ap (λ (r : Reading). judgeReading (by .limits) (by .rule M .file) r C) e ∙ sym q };

@@ -15,13 +15,13 @@ use Rattle.bisimulation.specs.definitions.StepRule.{Flow, Sides, beforeMove, af
 use Rattle.bisimulation.specs.definitions.Prices.{Side, priceAt, priceOfTargets}
 use Rattle.bisimulation.specs.definitions.Pairs.{Pairs}
 use Rattle.bisimulation.specs.argument.Plain.{plain}
-use Rattle.rules.specs.definitions.Limits.{Limits, limits}
+use Rattle.rules.specs.definitions.Limits.{Terms, Limits, limits, current}
 use Rattle.rules.specs.definitions.Model.{HoldOneAutomaton}
 use Rattle.rules.specs.definitions.SoundModel.{FitsWidths}
-use Rattle.rules.specs.argument.SoundModelLaws.{limits-fit}
+use Rattle.rules.specs.argument.SoundModelLaws.{limits-fit, current-fit}
 use Rattle.rules.specs.definitions.Faults.{Fault, faultBy, fault, noFault}
 use Rattle.rules.specs.argument.FaultLaws.{Told, told-fault, either-first}
-use Rattle.rules.specs.definitions.Reading.{Scan, sound, refused, scanWhole, noModel, readingOf, readWhole}
+use Rattle.rules.specs.definitions.Reading.{ReadNumber, Scan, sound, refused, scanWhole, noModel, readingOf, readWhole}
 use Rattle.rules.specs.argument.ReadingLaws.{Tells, whole-tells}
 use Rattle.rules.specs.argument.ReadSound.{read-whole-exactly, read-whole-ends}
 use Rattle.rules.specs.definitions.PlainRule.{byKind, below, lastFault, firstBreak, internalPricesFault, externalPricesFault, plainPricesFault, internalEquationsFault, externalEquationsFault, plainEquationsFault, plainRule}
@@ -122,21 +122,21 @@ plainCertificates =
       answers = plain-answers;
     }
 
--- the numbers of reading a model: 1 to 9
-unfoldable pub ModelNumber : ℕ → Type 0
-ModelNumber k = (1 ≤ k) × (k ≤ 9)
+-- the refusals of reading a model: 1 to 9, and 34 where terms are to be lowest
+unfoldable pub ModelNumber : Terms → ℕ → Type 0
+ModelNumber terms k = (1 ≤ k) × ReadNumber terms k
 
-pub refusal-told : (L : Limits) (bytes : List ℕ) (f : Fault) (place : ℕ) → readWhole L bytes ≡ noModel f place → (f .number ≡ 0 → ⊥) × ModelNumber (f .number) × (place ≤ length bytes) × Told f
+pub refusal-told : (L : Limits) (bytes : List ℕ) (f : Fault) (place : ℕ) → readWhole L bytes ≡ noModel f place → (f .number ≡ 0 → ⊥) × ModelNumber (L .terms) (f .number) × (place ≤ length bytes) × Told f
 unfolding readWhole readingOf ModelNumber
 refusal-told L bytes f place e = go (scanWhole L bytes) (whole-tells L bytes) e
   where
-    go : (scan : Scan) → Tells L bytes scan → readingOf bytes scan ≡ noModel f place → (f .number ≡ 0 → ⊥) × ((1 ≤ f .number) × (f .number ≤ 9)) × (place ≤ length bytes) × Told f
+    go : (scan : Scan) → Tells L bytes scan → readingOf bytes scan ≡ noModel f place → (f .number ≡ 0 → ⊥) × ((1 ≤ f .number) × ReadNumber (L .terms) (f .number)) × (place ≤ length bytes) × Told f
     go (sound n m count end) t q = let z : _≡_ {A = ℕ} 0 1 = cc in absurd (omega arith)
     go (refused g at) t q =
         let same : g ≡ f = cc in
         let there : at ≡ place = cc in
         let number = ap (λ (x : Fault). x .number) same in
-        (λ z. omega (arith, t .some), (omega (arith, t .some), omega (arith, t .known)), omega (arith, t .inside), subst Told same (t .told))
+        (λ z. omega (arith, t .some), (omega (arith, t .some), subst (ReadNumber (L .terms)) number (t .known)), omega (arith, t .inside), subst Told same (t .told))
 
 -- a file that holds a model and nothing else, within the limits
 abbrev pub wholeFiles : (L : Limits) → FitsWidths L → ModelFiles L
@@ -149,7 +149,7 @@ wholeFiles L widths =
           (λ r. let s = e .0 r in record { sound = s .0; encoded = s .1 }, λ f. e .1 (f .sound, f .encoded));
       whole = λ bytes M end b r. read-whole-ends L bytes M end r;
       sound = λ bytes M f. f .sound;
-      numbers = ModelNumber;
+      numbers = ModelNumber (L .terms);
       answers = refusal-told L;
     }
 
@@ -172,6 +172,10 @@ wholeRules L widths few {numbers} rule =
 abbrev pub plainRulesAt : (L : Limits) → FitsWidths L → L .refutations < 65536 → PairRules
 plainRulesAt L widths few = wholeRules L widths few plainCertificates
 
--- within today's
+-- as the calls judge them
 abbrev pub plainRules : PairRules
-plainRules = plainRulesAt limits limits-fit (omega arith)
+plainRules = plainRulesAt current current-fit (omega arith)
+
+-- with whatever terms
+abbrev pub storedRules : PairRules
+storedRules = plainRulesAt limits limits-fit (omega arith)

@@ -1,6 +1,6 @@
 -- Reading the bytes of a sound model gives the model back.
 use Prim.Native.Nat.{ℕ, suc, _+_, _*_, _≤_, _<_}
-use mathlib.Core.Path.{_≡_, refl, sym, _∙_, ap}
+use mathlib.Core.Path.{_≡_, refl, sym, _∙_, ap, subst}
 use mathlib.Core.List.{List, [], _∷_, _++_, append-assoc, append-nil}
 use lib.ListN.{length, take, drop, length-append}
 use lib.Seq.{take-append-seam}
@@ -12,9 +12,10 @@ use Rattle.rules.specs.argument.BytesLaws.{past, past-all, stands-inside
 use Rattle.rules.specs.definitions.Model.{Entry, Transition, Model, entriesBytes, transitionBytes, transitionsBytes, headBytes, labelsBytes, modelBytes}
 use Rattle.rules.specs.definitions.Reading.{statesOf, actionsOf, countOf, rangeFault, headFault, labelFault, labelsFault, sourceAt, actionAt, denominatorAt, entryCountAt, afterTransition, fixedFault, fixedFaultAt, entriesFault, transitionFault, Scan, sound, refused, scanTransitions, scanModel, refuseBytesLeft, scanWhole, entriesAt, transitionAt, transitionsAt, modelAt, model, readingOf, readModel, readWhole}
 use Rattle.rules.specs.argument.ReadingLaws.{refuse-passes}
+use Rattle.rules.specs.argument.TermsLaws.{terms-exactly}
 use Rattle.rules.specs.definitions.Faults.{fault, Passes, modelRecord}
 use Rattle.rules.specs.argument.FaultLaws.{first-none, opens, pass-on}
-use Rattle.rules.specs.definitions.SoundModel.{Each, sumOver, TransitionRules, SoundModel, FitsWidths}
+use Rattle.rules.specs.definitions.SoundModel.{Each, sumOver, TransitionRules, HasTerms, SoundModel, FitsWidths}
 use Rattle.rules.specs.argument.SoundModelLaws.{From, StatesFrom, SourcesFrom, from-lower, from-along}
 
 -- how long the records are
@@ -57,9 +58,9 @@ record TransitionBack (L : Limits) (s : List ℕ) (n m last entries at : ℕ) (t
   count : entryCountAt s at ≡ length (t .entries)
   after : afterTransition s at ≡ at + length (transitionBytes t)
 
-transition-back : (L : Limits) (s : List ℕ) (n m last entries at : ℕ) (t : Transition) (rest : List ℕ) → drop at s ≡ transitionBytes t ++ rest → TransitionRules n m t → last ≤ t .source → entries + length (t .entries) ≤ L .entries → TransitionBack L s n m last entries at t
+transition-back : (L : Limits) (s : List ℕ) (n m last entries at : ℕ) (t : Transition) (rest : List ℕ) → drop at s ≡ transitionBytes t ++ rest → TransitionRules n m t → HasTerms (L .terms) t → last ≤ t .source → entries + length (t .entries) ≤ L .entries → TransitionBack L s n m last entries at t
 unfolding transitionFault transitionAt fixedFaultAt fixedFault sourceAt actionAt denominatorAt entryCountAt afterTransition transitionBytes twoBytes
-transition-back L s n m last entries at t rest stands rules follows few =
+transition-back L s n m last entries at t rest stands rules terms follows few =
     let source = first-byte s (at + 2) (past s at 2 stands) in
     let action = first-byte s (at + 3) (past s at 3 stands) in
     let denominator = first-two s (at + 4) (t .denominator) _ (past s at 4 stands) (rules .fits) in
@@ -82,35 +83,38 @@ transition-back L s n m last entries at t rest stands rules follows few =
     refl in
     let shared : Passes (entriesFault s n (denominatorAt s at) (entryCountAt s at) (at + 7) 0 0) =
     pass-on (λ i. entriesFault s n (sym denominator i) (sym count i) (at + 7) 0 0) (shares .0) in
+    let value : transitionAt s at ≡ t =
+    λ i.
+    record {
+      source = source i;
+      action = action i;
+      denominator = denominator i;
+      entries = (ap (λ (k : ℕ). entriesAt s k (at + 7)) count ∙ shares .1) i;
+    } in
     record {
       fault =
           pass-on
           (first-none _ _ (opens modelRecord 0x5452 7 s at (omega arith) (first-two s at 0x5452 _ stands (omega arith)) (omega arith))
           (first-none _ _ fixed
-          (notLess _ (omega arith) refl)))
-          shared;
-      value = λ i.
-          record {
-            source = source i;
-            action = action i;
-            denominator = denominator i;
-            entries = (ap (λ (k : ℕ). entriesAt s k (at + 7)) count ∙ shares .1) i;
-          };
+          (notLess _ (omega arith)
+          (first-none _ _ shared refl))))
+          (terms-exactly (L .terms) _ .1 (subst (HasTerms (L .terms)) (sym value) terms));
+      value = value;
       source = source;
       count = count;
       after = omega arith;
     }
 
 -- the transitions that stand at a place
-transitions-back : (L : Limits) (s : List ℕ) (n m count : ℕ) (ts : List Transition) (last entries at end : ℕ) (rest : List ℕ) → drop at s ≡ transitionsBytes ts ++ rest → Each (TransitionRules n m) ts → SourcesFrom last ts → entries + sumOver (λ (t : Transition). length (t .entries)) ts ≤ L .entries → end ≡ at + length (transitionsBytes ts) → (sound n m count end ≡ scanTransitions L s n m count (length ts) last entries at) × (transitionsAt s (length ts) at ≡ ts)
+transitions-back : (L : Limits) (s : List ℕ) (n m count : ℕ) (ts : List Transition) (last entries at end : ℕ) (rest : List ℕ) → drop at s ≡ transitionsBytes ts ++ rest → Each (TransitionRules n m) ts → Each (HasTerms (L .terms)) ts → SourcesFrom last ts → entries + sumOver (λ (t : Transition). length (t .entries)) ts ≤ L .entries → end ≡ at + length (transitionsBytes ts) → (sound n m count end ≡ scanTransitions L s n m count (length ts) last entries at) × (transitionsAt s (length ts) at ≡ ts)
 unfolding scanTransitions transitionsAt transitionsBytes From Each sumOver
-transitions-back L s n m count [] last entries at end rest stands rules from few isEnd = (ap (sound n m count) (omega arith), refl)
-transitions-back L s n m count (t ∷ ts) last entries at end rest stands rules from few isEnd =
+transitions-back L s n m count [] last entries at end rest stands rules terms from few isEnd = (ap (sound n m count) (omega arith), refl)
+transitions-back L s n m count (t ∷ ts) last entries at end rest stands rules terms from few isEnd =
     let here = stands ∙ append-assoc (transitionBytes t) (transitionsBytes ts) rest in
-    let back = transition-back L s n m last entries at t (transitionsBytes ts ++ rest) here (rules .0) (from .0) (omega arith) in
+    let back = transition-back L s n m last entries at t (transitionsBytes ts ++ rest) here (rules .0) (terms .0) (from .0) (omega arith) in
     let later =
     transitions-back L s n m count ts (sourceAt s at) (entries + entryCountAt s at) (afterTransition s at) end rest
-    (ap (λ (k : ℕ). drop k s) (back .after) ∙ past-all s at (transitionBytes t) here) (rules .1)
+    (ap (λ (k : ℕ). drop k s) (back .after) ∙ past-all s at (transitionBytes t) here) (rules .1) (terms .1)
     (from-lower _ _ ts (sourceAt s at) (t .source) (omega arith) (from .1)) (omega arith)
     (omega (arith, length-append (transitionBytes t) (transitionsBytes ts))) in
     (refuse-passes at refl (back .fault) (later .0), λ i. back .value i ∷ later .1 i)
@@ -133,7 +137,7 @@ model-back L M fits ok s rest stands =
     let inside : 8 + n ≤ length s = stands-inside s 8 (M .labels) _ labels (ok .someState) in
     let back =
     transitions-back L s n (M .actions) (length (M .transitions)) (M .transitions) 0 0 (8 + n) (length (modelBytes M)) rest transitions
-    (ok .transitions) (from-along _ _ (M .transitions) (ok .sources)) (omega (arith, ok .entries))
+    (ok .transitions) (ok .terms) (from-along _ _ (M .transitions) (ok .sources)) (omega (arith, ok .entries))
     (omega (arith, length-append (M .labels) (transitionsBytes (M .transitions)))) in
     record {
       scan =

@@ -15,8 +15,9 @@ use Rattle.rules.specs.argument.BytesLaws.{byte-then, two-small, two-the
 use Rattle.rules.specs.definitions.Model.{Entry, Transition, Model, entriesBytes, transitionBytes, transitionsBytes, headBytes, labelsBytes, modelBytes}
 use Rattle.rules.specs.definitions.Reading.{statesOf, actionsOf, countOf, labelFault, sourceAt, actionAt, denominatorAt, entryCountAt, afterTransition, entriesFault, transitionFault, Scan, sound, refused, refuseAt, scanTransitions, scanModel, refuseBytesLeft, scanWhole, entriesAt, transitionAt, transitionsAt, modelAt, model, readingOf, readModel, readWhole}
 use Rattle.rules.specs.argument.ReadingLaws.{Tells, scan-tells, transition-passed, head-passed, labels-passed}
-use Rattle.rules.specs.definitions.SoundModel.{Each, sumOver, Bytes, TransitionRules, SoundModel, FitsWidths}
+use Rattle.rules.specs.definitions.SoundModel.{Each, sumOver, Bytes, TransitionRules, HasTerms, SoundModel, FitsWidths}
 use Rattle.rules.specs.argument.SoundModelLaws.{From, StatesFrom, SourcesFrom, from-lower, along-from}
+use Rattle.rules.specs.argument.TermsLaws.{terms-exactly}
 use Rattle.rules.specs.argument.ReadBack.{read-back, read-back-whole}
 
 -- the labels at a place
@@ -111,6 +112,7 @@ refuse-past n m count end f place next e =
 record TransitionsSound (L : Limits) (s : List ℕ) (n m left last entries at end : ℕ) : Type 0 where
   count : length (transitionsAt s left at) ≡ left
   rules : Each (TransitionRules n m) (transitionsAt s left at)
+  terms : Each (HasTerms (L .terms)) (transitionsAt s left at)
   sources : SourcesFrom last (transitionsAt s left at)
   few : entries + sumOver (λ (t : Transition). length (t .entries)) (transitionsAt s left at) ≤ L .entries
   inside : end ≤ length s
@@ -120,7 +122,7 @@ transitions-sound : (L : Limits) (s : List ℕ) → Bytes s → (n m count left 
 unfolding scanTransitions transitionsAt transitionAt transitionsBytes Each From sumOver
 transitions-sound L s bytes n m count zero last entries at n₁ m₁ count₁ end few inside e =
     let place : at ≡ end = cc in
-    record { count = refl; rules = tt; sources = tt; few = omega arith; inside = omega arith; bytes = ap (λ (k : ℕ). drop k s) place }
+    record { count = refl; rules = tt; terms = tt; sources = tt; few = omega arith; inside = omega arith; bytes = ap (λ (k : ℕ). drop k s) place }
 transitions-sound L s bytes n m count (suc left) last entries at n₁ m₁ count₁ end few inside e =
     let a = refuse-past n₁ m₁ count₁ end _ at _ e in
     let p = transition-passed L s n m last entries at (a .0) in
@@ -131,6 +133,7 @@ transitions-sound L s bytes n m count (suc left) last entries at n₁ m₁ count
     record {
       count = ap suc (later .count);
       rules = (t .rules, later .rules);
+      terms = (terms-exactly (L .terms) _ .0 (p .terms), later .terms);
       sources = (p .ascends, later .sources);
       few = omega (arith, later .few, t .count);
       inside = later .inside;
@@ -172,6 +175,7 @@ model-sound L s bytes n m count end e =
             transitions = subst (λ (k : ℕ). Each (TransitionRules k (actionsOf s)) (M .transitions)) (sym size) (ts .rules);
             sources = along-from _ _ _ 0 (ts .sources);
             entries = omega (arith, ts .few);
+            terms = ts .terms;
           };
       inside = ts .inside;
       bytes =

@@ -1,5 +1,6 @@
 -- Laws of reading a model: what the code and the theorems use of the definitions in `Reading`.
 use Prim.Native.Nat.{ℕ, zero, suc, _+_, _-_, _≤_, _<_}
+use mathlib.Core.Logic.{_⊎_, inl, inr, ⊎-elim}
 use mathlib.Core.Path.{_≡_, refl, sym, _∙_, ap, subst}
 use mathlib.Core.List.{List}
 use mathlib.Core.Bool.{Bool, true, false, cond}
@@ -11,11 +12,12 @@ use native.Mathlib.Numerals.{add-one}
 use native.Mathlib.Decide.{ℕ-discrete, decLe}
 use Rattle.bisimulation.specs.definitions.Choice.{ifLess, ifSame, unlessLess, unlessSame}
 use Rattle.bisimulation.specs.argument.ChoiceLaws.{via, less, notLess, same, notSame, eitherLess, eitherSame}
-use Rattle.rules.specs.definitions.Limits.{Limits}
+use Rattle.rules.specs.definitions.Limits.{Terms, anyTerms, lowestTerms, Limits, withTerms}
 use Rattle.rules.specs.definitions.Bytes.{byteAt, twoAt}
-use Rattle.rules.specs.definitions.Faults.{Fault, fault, noFault, Passes, modelRecord, openFault}
-use Rattle.rules.specs.argument.FaultLaws.{Told, told-fault, none-first, either-first, model-refuses, opened, either-open, pass-ifLess, pass-unlessLess}
-use Rattle.rules.specs.definitions.Reading.{statesOf, actionsOf, countOf, rangeFault, headFault, labelFault, labelsFault, sourceAt, actionAt, denominatorAt, entryCountAt, afterTransition, fixedFault, fixedFaultAt, entriesFault, transitionFault, Scan, sound, refused, refuseAt, scanTransitions, scanModel, refuseBytesLeft, scanWhole, placeOf, firstNotBelow}
+use Rattle.rules.specs.definitions.Model.{Transition}
+use Rattle.rules.specs.definitions.Faults.{Fault, fault, noFault, Passes, firstOf, modelRecord, openFault}
+use Rattle.rules.specs.argument.FaultLaws.{Otherwise, Told, told-fault, none-first, either-first, model-refuses, opened, either-open, pass-ifLess, pass-unlessLess}
+use Rattle.rules.specs.definitions.Reading.{statesOf, actionsOf, countOf, rangeFault, headFault, labelFault, labelsFault, sourceAt, actionAt, denominatorAt, entryCountAt, afterTransition, fixedFault, fixedFaultAt, entriesFault, transitionAt, termsFault, ReadNumber, transitionFault, Scan, sound, refused, refuseAt, scanTransitions, scanModel, refuseBytesLeft, scanWhole, placeOf, firstNotBelow}
 
 one-less : (left : ℕ) → left ≡ suc left - 1
 one-less left = omega arith
@@ -91,6 +93,7 @@ pub record PassedTransition (L : Limits) (s : List ℕ) (n m last entries at : �
   pub few : entries + entryCountAt s at ≤ L .entries
   pub whole : afterTransition s at ≤ length s
   pub shares : Passes (entriesFault s n (denominatorAt s at) (entryCountAt s at) (at + 7) 0 0)
+  pub terms : Passes (termsFault (L .terms) (transitionAt s at))
 
 -- a record's fault x refuses at its place, or the next record follows
 pub refuse-stops : {x : Fault} (f : Fault) (place : ℕ) (next : Scan) → x ≡ f → (x .number ≡ 0 → ⊥) → refused x place ≡ refuseAt f place next
@@ -100,6 +103,20 @@ refuse-stops f place next e h = notSame next (λ q. h (ap (λ (g : Fault). g .nu
 pub refuse-passes : {x f : Fault} (place : ℕ) {z next : Scan} → x ≡ f → x .number ≡ 0 → z ≡ next → z ≡ refuseAt f place next
 unfolding refuseAt
 refuse-passes {f = f} place e h q = same (refused f place) (ap (λ (g : Fault). g .number) (sym e) ∙ h) q
+
+-- head and labels have no terms
+pub head-terms : (terms : Terms) (L : Limits) (s : List ℕ) → headFault (withTerms terms L) s ≡ headFault L s
+unfolding headFault rangeFault
+head-terms terms L s = refl
+
+label-terms : (terms : Terms) (L : Limits) (s : List ℕ) (left at : ℕ) → labelFault (withTerms terms L) s left at ≡ labelFault L s left at
+unfolding labelFault
+label-terms terms L s zero at = refl
+label-terms terms L s (suc left) at = ap (ifLess (L .label) (byteAt s at) (fault 4)) (label-terms terms L s left (at + 1))
+
+pub labels-terms : (terms : Terms) (L : Limits) (s : List ℕ) (n : ℕ) → labelsFault (withTerms terms L) s n ≡ labelsFault L s n
+unfolding labelsFault
+labels-terms terms L s n = ap (firstOf (openFault modelRecord 0x4C42 (2 + n) s 6)) (label-terms terms L s n 8)
 
 -- a fault of the head is the file's
 pub head-stops : (L : Limits) (s : List ℕ) {x : Fault} → x ≡ headFault L s → (x .number ≡ 0 → ⊥) → refused x 0 ≡ scanWhole L s
@@ -120,6 +137,7 @@ transition-passed L s n m last entries at e =
     let k = pass-ifLess _ _ _ _ (j .1) (omega arith) in
     let l = pass-ifLess _ _ _ _ (k .1) (omega arith) in
     let o = pass-ifLess _ _ _ _ (d .1) (omega arith) in
+    let p = none-first _ _ (o .1) in
     record {
       mark = b .marked;
       fixed = b .whole;
@@ -131,7 +149,8 @@ transition-passed L s n m last entries at e =
       most = k .0;
       few = l .0;
       whole = o .0;
-      shares = o .1;
+      shares = p .0;
+      terms = p .1;
     }
 
 -- what a head without fault tells
@@ -169,56 +188,73 @@ labels-passed L s n e =
     let b = opened modelRecord 0x4C42 (2 + n) s 6 model-refuses (a .0) in
     record { mark = b .marked; whole = omega (arith, b .whole); small = a .1 }
 
--- every fault of a model record is a number of document 01's model table, without a state
-pub record Small (f : Fault) : Type 0 where
-  pub number : f .number ≤ 8
+-- the numbers of reading
+pub read-low : (terms : Terms) (k : ℕ) → k ≤ 9 → ReadNumber terms k
+unfolding ReadNumber
+read-low anyTerms k h = h
+read-low lowestTerms k h = inl h
+
+pub read-number : (terms : Terms) (k : ℕ) → ReadNumber terms k → (k ≤ 9) ⊎ (k ≡ 34)
+unfolding ReadNumber
+read-number anyTerms k h = inl h
+read-number lowestTerms k h = h
+
+pub read-otherwise : (terms : Terms) (k : ℕ) → ReadNumber terms k → Otherwise k
+read-otherwise terms k h = ⊎-elim (λ x. omega arith) (λ x. omega arith) (read-number terms k h)
+
+pub read-not-ten : (terms : Terms) → ReadNumber terms 10 → ⊥
+read-not-ten terms h = ⊎-elim (λ x. omega (arith, x)) (λ x. omega (arith, x)) (read-number terms 10 h)
+
+-- every fault of a model record has a number of reading, and no state
+pub record Small (terms : Terms) (f : Fault) : Type 0 where
+  pub number : ReadNumber terms (f .number)
   pub told : Told f
 
-small : (k : ℕ) → k ≤ 8 → Small (fault k)
-small k h = record { number = h; told = told-fault k (omega arith) }
+small : {terms : Terms} (k : ℕ) → k ≤ 8 → Small terms (fault k)
+small {terms} k h = record { number = read-low terms k (omega arith); told = told-fault k (omega arith) }
 
-none-small : Small noFault
+none-small : {terms : Terms} → Small terms noFault
 none-small = small 0 (omega arith)
 
-orLess : (a b : ℕ) {x y : Fault} → Small x → Small y → Small (ifLess a b x y)
-orLess a b p q = eitherLess Small a b p q
+orLess : {terms : Terms} (a b : ℕ) {x y : Fault} → Small terms x → Small terms y → Small terms (ifLess a b x y)
+orLess {terms} a b p q = eitherLess (Small terms) a b p q
 
-orSame : (a b : ℕ) {x y : Fault} → Small x → Small y → Small (ifSame a b x y)
-orSame a b p q = eitherSame Small a b p q
+orSame : {terms : Terms} (a b : ℕ) {x y : Fault} → Small terms x → Small terms y → Small terms (ifSame a b x y)
+orSame {terms} a b p q = eitherSame (Small terms) a b p q
 
-open-small : (mark size : ℕ) (s : List ℕ) (at : ℕ) → Small (openFault modelRecord mark size s at)
-open-small mark size s at = either-open modelRecord mark size s at Small (small 1 (omega arith)) (small 2 (omega arith)) none-small
+open-small : {terms : Terms} (mark size : ℕ) (s : List ℕ) (at : ℕ) → Small terms (openFault modelRecord mark size s at)
+open-small {terms} mark size s at = either-open modelRecord mark size s at (Small terms) (small 1 (omega arith)) (small 2 (omega arith)) none-small
 
-headFault-small : (L : Limits) (s : List ℕ) → Small (headFault L s)
+headFault-small : (L : Limits) (s : List ℕ) → Small (L .terms) (headFault L s)
 unfolding headFault rangeFault
 headFault-small L s =
-    let range = small 3 (omega arith) in
-    either-first Small _ _ (open-small 0x5041 6 s 0)
+    let range = small {terms = L .terms} 3 (omega arith) in
+    either-first (Small (L .terms)) _ _ (open-small 0x5041 6 s 0)
     (orLess _ _ (orLess _ _ range (orLess _ _ (orLess _ _ range (orLess _ _ range none-small)) range)) range)
 
-labelFault-small : (L : Limits) (s : List ℕ) (left at : ℕ) → Small (labelFault L s left at)
+labelFault-small : (L : Limits) (s : List ℕ) (left at : ℕ) → Small (L .terms) (labelFault L s left at)
 unfolding labelFault
 labelFault-small L s zero at = none-small
 labelFault-small L s (suc left) at = orLess _ _ (small 4 (omega arith)) (labelFault-small L s left (at + 1))
 
-labelsFault-small : (L : Limits) (s : List ℕ) (n : ℕ) → Small (labelsFault L s n)
+labelsFault-small : (L : Limits) (s : List ℕ) (n : ℕ) → Small (L .terms) (labelsFault L s n)
 unfolding labelsFault
-labelsFault-small L s n = either-first Small _ _ (open-small 0x4C42 (2 + n) s 6) (labelFault-small L s n 8)
+labelsFault-small L s n = either-first (Small (L .terms)) _ _ (open-small 0x4C42 (2 + n) s 6) (labelFault-small L s n 8)
 
-entriesFault-small : (s : List ℕ) (n d left at lowest total : ℕ) → Small (entriesFault s n d left at lowest total)
+entriesFault-small : {terms : Terms} (s : List ℕ) (n d left at lowest total : ℕ) → Small terms (entriesFault s n d left at lowest total)
 unfolding entriesFault
 entriesFault-small s n d zero at lowest total = orSame _ _ none-small (small 7 (omega arith))
-entriesFault-small s n d (suc left) at lowest total =
-    let entry = small 6 (omega arith) in
+entriesFault-small {terms} s n d (suc left) at lowest total =
+    let entry = small {terms = terms} 6 (omega arith) in
     orLess _ _ entry
     (orLess _ _
     (orLess _ _ (entriesFault-small s n d left (at + 3) (byteAt s at + 1) (total + twoAt s (at + 1))) entry)
     entry)
 
-fixedFault-small : (L : Limits) (n m last entries source action d c : ℕ) → Small (fixedFault L n m last entries source action d c)
+fixedFault-small : (L : Limits) (n m last entries source action d c : ℕ) → Small (L .terms) (fixedFault L n m last entries source action d c)
 unfolding fixedFault
 fixedFault-small L n m last entries source action d c =
-    let fixed = small 5 (omega arith) in
+    let fixed = small {terms = L .terms} 5 (omega arith) in
     orLess _ _ fixed
     (orLess _ _
     (orLess _ _
@@ -226,12 +262,18 @@ fixedFault-small L n m last entries source action d c =
     fixed)
     fixed)
 
-pub transitionFault-small : (L : Limits) (s : List ℕ) (n m last entries at : ℕ) → Small (transitionFault L s n m last entries at)
+termsFault-small : (terms : Terms) (t : Transition) → Small terms (termsFault terms t)
+unfolding termsFault ReadNumber
+termsFault-small anyTerms t = none-small
+termsFault-small lowestTerms t = orSame _ _ none-small (record { number = inr refl; told = told-fault 34 (omega arith) })
+
+pub transitionFault-small : (L : Limits) (s : List ℕ) (n m last entries at : ℕ) → Small (L .terms) (transitionFault L s n m last entries at)
 unfolding transitionFault fixedFaultAt
 transitionFault-small L s n m last entries at =
-    either-first Small _ _ (open-small 0x5452 7 s at)
-    (either-first Small _ _ (fixedFault-small L n m last entries _ _ _ _)
-    (orLess _ _ (small 1 (omega arith)) (entriesFault-small s n _ _ (at + 7) 0 0)))
+    either-first (Small (L .terms)) _ _ (open-small 0x5452 7 s at)
+    (either-first (Small (L .terms)) _ _ (fixedFault-small L n m last entries _ _ _ _)
+    (orLess _ _ (small 1 (omega arith))
+    (either-first (Small (L .terms)) _ _ (entriesFault-small s n _ _ (at + 7) 0 0) (termsFault-small (L .terms) _))))
 
 -- a record's fault refuses at its place, or there is none and the next record decides
 pub refuse-cases {κ} : (P : Scan → Type κ) (f : Fault) (place : ℕ) (next : Scan) → ((f .number ≡ 0 → ⊥) → P (refused f place)) → (Passes f → P next) → P (refuseAt f place next)
@@ -253,19 +295,19 @@ pub record Sound (L : Limits) (s : List ℕ) (n m count end : ℕ) : Type 0 wher
   pub last : end ≡ placeOf s count
   pub records : (r : ℕ) → r < count → afterTransition s (placeOf s r) ≤ length s
 
-pub record Placed (s : List ℕ) (f : Fault) (place : ℕ) : Type 0 where
+pub record Placed (terms : Terms) (s : List ℕ) (f : Fault) (place : ℕ) : Type 0 where
   pub some : 1 ≤ f .number
-  pub known : f .number ≤ 9
+  pub known : ReadNumber terms (f .number)
   pub told : Told f
   pub inside : place ≤ length s
 
 -- a small fault is told of at its place
-small-placed : (s : List ℕ) (f : Fault) (place : ℕ) → Small f → (Passes f → ⊥) → place ≤ length s → Placed s f place
-small-placed s f place small n inside = record { some = omega arith; known = omega (arith, small .number); told = small .told; inside = inside }
+small-placed : {terms : Terms} (s : List ℕ) (f : Fault) (place : ℕ) → Small terms f → (Passes f → ⊥) → place ≤ length s → Placed terms s f place
+small-placed s f place small n inside = record { some = omega arith; known = small .number; told = small .told; inside = inside }
 
 abbrev pub Tells : Limits → List ℕ → Scan → Type 0
 Tells L s (sound n m count end) = Sound L s n m count end
-Tells L s (refused f place) = Placed s f place
+Tells L s (refused f place) = Placed (L .terms) s f place
 
 -- the records up to r lie in the file
 Inside : List ℕ → ℕ → Type 0
@@ -320,7 +362,7 @@ whole-tells L s = go (scanModel L s) (scan-tells L s)
   where
     go : (scan : Scan) → Tells L s scan → Tells L s (refuseBytesLeft s scan)
     go (sound n m count end) t =
-        eitherLess (Tells L s) end (length s) (record { some = omega arith; known = omega arith; told = told-fault 9 (omega arith); inside = t .inside }) t
+        eitherLess (Tells L s) end (length s) (record { some = omega arith; known = read-low (L .terms) 9 (omega arith); told = told-fault 9 (omega arith); inside = t .inside }) t
     go (refused f place) t = t
 
 -- The range of an entry's state may be tested after the last entry: states ascend, so once one is not below n neither is the lowest that

@@ -21,8 +21,9 @@ use Rattle.rules.specs.definitions.Certificate.{FileRule, challengerAt, 
 use Rattle.rules.specs.definitions.Faults.{Passes, certificateRecord}
 use Rattle.rules.specs.argument.FaultLaws.{none-first, first-none, certificate-refuses, opened, opens, pass-on, pass-ifLess, pass-unlessLess, pass-ifSame, pass-unlessTrue}
 use Rattle.rules.specs.definitions.Encoding.{Refutation, complement, priceBytes, pricesBytes, refutationBytes, pricesOf}
+use Rattle.rules.specs.definitions.CertificateAt.{entriesFrom, refutationAt}
 use Rattle.rules.specs.definitions.Accepted.{RuleSays, GoodRefutation}
-use Rattle.rules.specs.argument.EntryLists.{entriesFrom, length-entriesFrom, length-listBytes, entries-stand, entries-read}
+use Rattle.rules.specs.argument.EntryLists.{length-entriesFrom, length-listBytes, entries-stand, entries-read}
 use Rattle.rules.specs.definitions.SoundModel.{Each}
 
 -- the prices that stand from a place on
@@ -58,15 +59,6 @@ prices-read : (C : List ℕ) (zs : List ℤ) (at : ℕ) → Each (λ z. mag z < 
 prices-read C zs at g h i less =
     sym (pricesFrom-get C (length zs) at i less)
     ∙ ap (λ (l : List ℤ). getD l i (pos 0)) (entries-read ℤ 4 priceBytes length-price C (signedAt C) (λ z. mag z < 2 ^ 31) (price-read C) zs at g h)
-
--- the refutation that stands at a place
-unfoldable pub refutationAt : FileRule → Automaton → List ℕ → ℕ → Refutation
-refutationAt file A C at =
-    record {
-      challenger = challengerAt C at;
-      defender = defenderAt C at;
-      prices = pricesFrom C (file .priceCount A (challengerAt C at)) (at + 5);
-    }
 
 pub length-refutation : (x : Refutation) → length (refutationBytes x) ≡ 5 + 4 * length (x .prices)
 unfolding refutationBytes

@@ -9,13 +9,16 @@ use Rattle.bisimulation.specs.definitions.Choice.{ifSame}
 use Rattle.bisimulation.specs.argument.ChoiceLaws.{same, notSame}
 use Rattle.bisimulation.specs.definitions.Sum.{sum}
 use Rattle.bisimulation.specs.definitions.Automaton.{SoundAutomaton}
-use Rattle.rules.specs.definitions.Limits.{Limits, limits}
+use Rattle.rules.specs.definitions.Limits.{Terms, anyTerms, lowestTerms, Limits, limits, withTerms, current}
 use Rattle.rules.specs.definitions.Bytes.{byteAt, twoBytes}
 use Rattle.rules.specs.definitions.Model.{Entry, Transition, Model, entriesBytes, transitionBytes, transitionsBytes, headBytes, labelsBytes, modelBytes, weightOf, noTransition, automatonOf}
-use Rattle.rules.specs.definitions.SoundModel.{Each, Along, sumOver, Bytes, TransitionRules, SoundModel, FitsWidths}
+use Rattle.rules.specs.definitions.SoundModel.{Each, Along, sumOver, Bytes, TransitionRules, LowestTerms, HasTerms, SoundModel, FitsWidths}
 
 pub limits-fit : FitsWidths limits
 limits-fit = omega arith
+
+pub current-fit : FitsWidths current
+current-fit = omega arith
 
 -- what holds of each element holds of the one at a position
 pub each-at : {A : Type 0} (P : A → Type 0) (xs : List A) (i : ℕ) (d : A) → Each P xs → i < length xs → P (getD xs i d)
@@ -192,3 +195,35 @@ sound-bytes L M fits ok i less =
     (each-append _ (M .labels) _ (each-map (λ (b : ℕ). b ≤ L .label) (λ (b : ℕ). b < 256) (λ b h. omega (arith, fits .label)) (M .labels) (ok .labels))
     (transitions-bytes (length (M .labels)) (M .actions) (omega arith) (omega arith) (M .transitions) (ok .transitions))))))))))
     less
+
+-- limits with other terms fit too
+pub with-fits : (terms : Terms) (L : Limits) → FitsWidths L → FitsWidths (withTerms terms L)
+with-fits terms L fits = record { states = fits .states; actions = fits .actions; transitions = fits .transitions; label = fits .label }
+
+-- any transitions have any terms
+pub each-any : (ts : List Transition) → Each (HasTerms anyTerms) ts
+unfolding Each HasTerms
+each-any [] = tt
+each-any (t ∷ ts) = (tt, each-any ts)
+
+-- a model that is sound in some terms is sound in any
+pub sound-any : (L : Limits) (M : Model) → SoundModel L M → SoundModel (withTerms anyTerms L) M
+sound-any L M ok =
+    record {
+      someState = ok .someState;
+      states = ok .states;
+      someAction = ok .someAction;
+      actions = ok .actions;
+      count = ok .count;
+      labels = ok .labels;
+      transitions = ok .transitions;
+      sources = ok .sources;
+      entries = ok .entries;
+      terms = each-any (M .transitions);
+    }
+
+-- lowest terms are terms of either kind
+pub lowest-has : (terms : Terms) (t : Transition) → LowestTerms t → HasTerms terms t
+unfolding HasTerms
+lowest-has anyTerms t low = tt
+lowest-has lowestTerms t low = low

@@ -10,10 +10,12 @@ use Rattle.bisimulation.specs.definitions.Choice.{ifLess, ifSame, ifTrue, allBe
 use Rattle.bisimulation.specs.definitions.Sum.{sum, sumℤ}
 use Rattle.bisimulation.specs.definitions.StepRule.{arriving, leaving, overTargets, overSources, beforeMove, afterMove, internalMove, atTarget}
 use Rattle.bisimulation.specs.definitions.Prices.{priceAt, priceOfTargets}
+use Rattle.numbers.specs.definitions.Divisor.{divisorWithin, divisor, divisorOf}
+use Rattle.rules.specs.definitions.LowestTerms.{divisorIn}
 use Rattle.rules.specs.definitions.Limits.{limits}
 use Rattle.rules.specs.definitions.Bytes.{byteAt, twoAt, threeAt, fourAt, signedAt}
 use Rattle.rules.specs.definitions.Model.{weightOf, automatonOf}
-use Rattle.rules.specs.definitions.Reading.{statesOf, actionsOf, countOf, rangeFault, headFault, labelFault, labelsFault, sourceAt, actionAt, denominatorAt, entryCountAt, afterTransition, fixedFault, fixedFaultAt, entriesFault, transitionFault, refuseAt, scanTransitions, scanModel, refuseBytesLeft, scanWhole, entriesAt, transitionAt, transitionsAt, modelAt, readingOf, readWhole, placeOf, firstNotBelow, runFirst, runPast, runStart, runEnd}
+use Rattle.rules.specs.definitions.Reading.{statesOf, actionsOf, countOf, rangeFault, headFault, labelFault, labelsFault, sourceAt, actionAt, denominatorAt, entryCountAt, afterTransition, fixedFault, fixedFaultAt, entriesFault, termsFault, transitionFault, refuseAt, scanTransitions, scanModel, refuseBytesLeft, scanWhole, entriesAt, transitionAt, transitionsAt, modelAt, readingOf, readWhole, placeOf, firstNotBelow, runFirst, runPast, runStart, runEnd}
 use Rattle.bisimulation.specs.definitions.Pairs.{equalLabels, isPair, removed}
 use Rattle.rules.specs.definitions.Certificate.{refutationCount, certificateHeadFault, challengerAt, defenderAt, pricesAt, afterRefutation, pairFault, refutationFault, pairsAfter, blocksAt, numberedFault, sameBlock, agree, pairsFault, blocksFault, kCountAt, afterK, wCountAt, afterFlow, kOf, wOf, flowAt, kFault, wFault, flowFault}
 use Rattle.rules.specs.definitions.Faults.{faultBy, fault, firstOf, openFault}
@@ -149,7 +151,7 @@ outcomeCases =
 
 -- the tables, computed case by case, with C1 to C10 once more: a refusal shows the case that fails
 pub more-cases : Each (λ (c : Case). judged c ≡ c .expected) cases × Each (λ (c : FilesCase). judge limits (readWhole limits) plainRule (c .model) (c .certificate) ≡ c .expected) moreCases × Each (λ (c : FetchCase). (fetchAnswer limits (c .model) (c .state) ≡ c .expected) × (stretchIn (c .model) (c .expected) ≡ c .handed)) fetchCases × Each (λ (c : OutcomeCase). pairOutcome limits (readWhole limits) plainRule writesBlocks modelS (c .certificate) (c .before ∷ []) ≡ c .expected) outcomeCases
-unfolding ifLess ifSame ifTrue allBelow sum sumℤ arriving leaving overTargets overSources beforeMove afterMove internalMove atTarget priceAt priceOfTargets byteAt twoAt threeAt fourAt signedAt weightOf automatonOf openFault statesOf actionsOf countOf rangeFault headFault labelFault labelsFault sourceAt actionAt denominatorAt entryCountAt afterTransition fixedFault fixedFaultAt entriesFault transitionFault refuseAt scanTransitions scanModel refuseBytesLeft scanWhole entriesAt transitionAt transitionsAt modelAt readingOf readWhole firstOf both equalLabels isPair removed refutationCount certificateHeadFault challengerAt defenderAt pricesAt afterRefutation pairFault refutationFault pairsAfter blocksAt numberedFault sameBlock agree pairsFault blocksFault kCountAt afterK wCountAt afterFlow kOf wOf flowAt kFault wFault flowFault byKind plainPriceCount priceCondition allWithAction allRelated below lastFault internalPricesFault externalPricesFault plainPricesFault internalInQuestion externalInQuestion plainInQuestion breakFrom firstBreak internalEquationsFault externalEquationsFault plainEquationsFault refuseRecordAt questionsOfPair questionsOfState questionsFrom questions judgeFlows judgeBlocks judgeRefutations judgeCertificate judgeReading judge modelS certificateS between cases judged oneStep roundTrip blocksOnly stayFlow placeOf firstNotBelow runFirst runPast runStart runEnd refusalIn answerWithoutPlace stretchIn runAnswer fetchReading fetchAnswer fileOf judgementAnswer unwritten filledWith filledEach filled judgedOutcome readOutcome pairOutcome Each moreCases fetchCases outcomeCases
+unfolding ifLess ifSame ifTrue allBelow sum sumℤ arriving leaving overTargets overSources beforeMove afterMove internalMove atTarget priceAt priceOfTargets byteAt twoAt threeAt fourAt signedAt weightOf automatonOf openFault statesOf actionsOf countOf rangeFault headFault labelFault labelsFault sourceAt actionAt denominatorAt entryCountAt afterTransition fixedFault fixedFaultAt entriesFault divisorWithin divisor divisorOf divisorIn termsFault transitionFault refuseAt scanTransitions scanModel refuseBytesLeft scanWhole entriesAt transitionAt transitionsAt modelAt readingOf readWhole firstOf both equalLabels isPair removed refutationCount certificateHeadFault challengerAt defenderAt pricesAt afterRefutation pairFault refutationFault pairsAfter blocksAt numberedFault sameBlock agree pairsFault blocksFault kCountAt afterK wCountAt afterFlow kOf wOf flowAt kFault wFault flowFault byKind plainPriceCount priceCondition allWithAction allRelated below lastFault internalPricesFault externalPricesFault plainPricesFault internalInQuestion externalInQuestion plainInQuestion breakFrom firstBreak internalEquationsFault externalEquationsFault plainEquationsFault refuseRecordAt questionsOfPair questionsOfState questionsFrom questions judgeFlows judgeBlocks judgeRefutations judgeCertificate judgeReading judge modelS certificateS between cases judged oneStep roundTrip blocksOnly stayFlow placeOf firstNotBelow runFirst runPast runStart runEnd refusalIn answerWithoutPlace stretchIn runAnswer fetchReading fetchAnswer fileOf judgementAnswer unwritten filledWith filledEach filled judgedOutcome readOutcome pairOutcome Each moreCases fetchCases outcomeCases
 more-cases = (
   (refl, (refl, (refl, (refl, (refl, (refl, (refl, (refl, (refl, (refl, tt)))))))))),
   (refl, (refl, (refl, (refl, (refl, (refl, (refl, (refl, (refl, (refl, (refl, (refl, (refl, (refl, tt)))))))))))))),

@@ -7,10 +7,11 @@ use mathlib.Core.List.{List, [], _∷_, _++_, map}
 use lib.ListN.{length, take, drop, getD}
 use lib.IntN.{ℤ, pos}
 use Rattle.bisimulation.specs.definitions.Choice.{ifLess, ifTrue, unlessLess}
-use Rattle.rules.specs.definitions.Limits.{Limits}
+use Rattle.rules.specs.definitions.Limits.{Terms, Limits}
 use Rattle.rules.specs.definitions.Model.{Model}
 use Rattle.rules.specs.definitions.Faults.{Fault}
-use Rattle.rules.specs.definitions.Reading.{Scan, sound, refused, Reading, model, noModel, readWhole, runStart, runEnd}
+use Rattle.rules.specs.definitions.Accepted.{Among}
+use Rattle.rules.specs.definitions.Reading.{ReadNumber, Scan, sound, refused, Reading, model, noModel, readWhole, runStart, runEnd}
 use Rattle.rules.specs.definitions.Certificate.{FileRule}
 use Rattle.rules.specs.definitions.Judging.{Judgement, accepted, refusedIn, Reader, judge}
 
@@ -142,8 +143,8 @@ pub record Follows : Type 0 where
   pub blockRoom : Model → ℕ
   -- what the model and its accepted blocks come to, with what the lent buffers held
   pub outcome : Model → (blocks : List ℕ) → (before : List (List ℕ)) → Outcome
-  -- the number that refuses after acceptance, 0 where none does
-  pub late : ℕ
+  -- the numbers that refuse after acceptance
+  pub late : List ℕ
 
 -- the first lent buffer, empty where none is lent; a block buffer is the first
 abbrev pub firstLent : List (List ℕ) → List ℕ
@@ -167,24 +168,24 @@ pairOutcome L read rule follows M C before = readOutcome follows M C before (rea
 
 -- the call that judges, with a lent block buffer
 abbrev pub writesBlocks : Follows
-writesBlocks = record { blockRoom = λ N. length (N .labels); outcome = λ N blocks before. filled (blocks ∷ []) before; late = 0 }
+writesBlocks = record { blockRoom = λ N. length (N .labels); outcome = λ N blocks before. filled (blocks ∷ []) before; late = [] }
 
 -- a call that writes a file of the model and its blocks lends this buffer and no block buffer
 abbrev pub writesFile : (short : ℕ) → (Model → (blocks : List ℕ) → List ℕ) → Follows
-writesFile short file = record { blockRoom = λ N. 0; outcome = λ N blocks before. filesOutcome short (file N blocks ∷ []) before; late = short }
+writesFile short file = record { blockRoom = λ N. 0; outcome = λ N blocks before. filesOutcome short (file N blocks ∷ []) before; late = short ∷ [] }
 
 -- the call that fetches lends no buffer
 abbrev pub fetchOutcome : Limits → List ℕ → ℕ → Outcome
 fetchOutcome L s state = record { answer = fetchAnswer L s state; lent = [] }
 
 -- the numbers that document 01 gives for a fetch
-unfoldable pub FetchNumber : ℕ → Type 0
-FetchNumber k = (k ≤ 9) ⊎ (k ≡ 24)
+unfoldable pub FetchNumber : Terms → ℕ → Type 0
+FetchNumber terms k = ReadNumber terms k ⊎ (k ≡ 24)
 
 -- for the call that judges by document 01's rule
-unfoldable pub JudgeNumber : ℕ → Type 0
-JudgeNumber k = k ≤ 22
+unfoldable pub JudgeNumber : Terms → ℕ → Type 0
+JudgeNumber terms k = ReadNumber terms k ⊎ ((10 ≤ k) × (k ≤ 22))
 
--- for a call of document 02 that judges, with the number that its request gives after acceptance; no 10, since no block buffer is lent
-unfoldable pub LateNumber : (late : ℕ) → ℕ → Type 0
-LateNumber late k = (k ≤ 9) ⊎ (((11 ≤ k) × (k ≤ 22)) ⊎ (k ≡ late))
+-- for a call that judges and lends no block buffer, so that there is no 10, with the numbers that it has after acceptance
+unfoldable pub LateNumber : Terms → (late : List ℕ) → ℕ → Type 0
+LateNumber terms late k = ReadNumber terms k ⊎ (((11 ≤ k) × (k ≤ 22)) ⊎ Among k late)

@@ -7,14 +7,14 @@ use lib.ListN.{length}
 use Rattle.rules.specs.definitions.Model.{Model, automatonOf}
 use Rattle.rules.specs.definitions.SoundModel.{Bytes}
 use Rattle.rules.specs.definitions.Judging.{NameSameBlocks}
-use Rattle.rules.specs.definitions.Accepted.{Kept}
+use Rattle.rules.specs.definitions.Accepted.{Among, Kept}
 use Rattle.rules.specs.definitions.JudgedBy.{JudgedBy, AcceptedBy}
 use Rattle.rules.specs.definitions.Answers.{Outcome, leftIn, Follows, firstLent, pairOutcome}
 use Rattle.rules.specs.definitions.Demand3.{HoldsModel, LargestBlockPairs}
 
--- a number that tells of acceptance: 0, or the one that refuses after it
+-- a number that tells of acceptance: 0, or one that refuses after it
 unfoldable pub Accepting : Follows → ℕ → Type 0
-Accepting follows number = (number ≡ 0) ⊎ (number ≡ follows .late)
+Accepting follows number = (number ≡ 0) ⊎ Among number (follows .late)
 
 -- what a call that judges a pair keeps when it answers a number, with these bytes in the lent buffers before and after it
 abbrev pub PairDemands : Type 1

@@ -13,7 +13,7 @@ use Rattle.rules.specs.definitions.Answers.{stretchIn, fetchAnswer, Fetc
 -- what it keeps when it answers this number; its answer is `fetchAnswer`
 pub record FetchDemands (L : Limits) (file : List ℕ) (state number : ℕ) : Type 0 where
   -- demand 1: the number is one of the call's
-  pub known : FetchNumber number
+  pub known : FetchNumber (L .terms) number
   -- it is 0 exactly when the bytes are the file of a sound model and the state is one of its states
   pub found : (number ≡ 0) ↔ ((M : Model) × FileOf L file M × (state < length (M .labels)))
   -- 24, 'state not below n', 'after the model'

@@ -2,7 +2,7 @@
 use Prim.Native.Nat.{ℕ}
 use mathlib.Core.List.{List}
 use Rattle.bisimulation.specs.definitions.StepRule.{StepRule, Met}
-use Rattle.rules.specs.definitions.Limits.{Limits, limits}
+use Rattle.rules.specs.definitions.Limits.{Limits, limits, current}
 use Rattle.rules.specs.definitions.Model.{Model, HoldOneAutomaton}
 use Rattle.rules.specs.definitions.Reading.{readWhole}
 use Rattle.rules.specs.definitions.Certificate.{FileRule}
@@ -35,9 +35,13 @@ plainPairsAt L =
       oneAutomaton = λ model other. HoldOneAutomaton;
     }
 
--- within today's
+-- as the calls judge them
 abbrev pub plainPairs : JudgedBy
-plainPairs = plainPairsAt limits
+plainPairs = plainPairsAt current
+
+-- with whatever terms
+abbrev pub storedPairs : JudgedBy
+storedPairs = plainPairsAt limits
 
 -- a certificate accepted for a model, with its accepted blocks: judged by that model's rule
 abbrev pub AcceptedBy : JudgedBy → (model certificate blocks : List ℕ) → Type 0

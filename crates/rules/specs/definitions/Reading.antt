@@ -1,11 +1,14 @@
 -- Document 01, 'Refused, and where': the model file. 'Checks run in table order within a record and record by record.'
-use Prim.Native.Nat.{ℕ, zero, suc, _+_, _*_, _-_}
+use Prim.Native.Nat.{ℕ, zero, suc, _+_, _*_, _-_, _≤_}
+use mathlib.Core.Path.{_≡_}
+use mathlib.Core.Logic.{_⊎_}
 use mathlib.Core.List.{List, [], _∷_, _++_}
 use lib.ListN.{length, take, drop}
 use Rattle.bisimulation.specs.definitions.Choice.{ifLess, ifSame, unlessLess, unlessSame}
-use Rattle.rules.specs.definitions.Limits.{Limits}
+use Rattle.rules.specs.definitions.Limits.{Terms, anyTerms, lowestTerms, Limits}
 use Rattle.rules.specs.definitions.Bytes.{byteAt, twoAt}
 use Rattle.rules.specs.definitions.Model.{Entry, Transition, Model}
+use Rattle.rules.specs.definitions.LowestTerms.{divisorIn}
 use Rattle.rules.specs.definitions.Faults.{Fault, fault, noFault, firstOf, modelRecord, openFault}
 
 -- 'model head': n
@@ -91,13 +94,34 @@ entriesFault s n d (suc left) at lowest total =
     (unlessLess 0 (twoAt s (at + 1)) (fault 6)
     (entriesFault s n d left (at + 3) (byteAt s at + 1) (total + twoAt s (at + 1)))))
 
--- 'transition': 1, 2, 5, 8, 6, 7, after the last source and so many entries
+-- the value that stands in a record's bytes: the entries left at a place
+unfoldable pub entriesAt : List ℕ → ℕ → ℕ → List Entry
+entriesAt s zero at = []
+entriesAt s (suc left) at = record { state = byteAt s at; weight = twoAt s (at + 1) } ∷ entriesAt s left (at + 3)
+
+-- the transition at a place
+unfoldable pub transitionAt : List ℕ → ℕ → Transition
+transitionAt s at =
+    record {
+      source = sourceAt s at;
+      action = actionAt s at;
+      denominator = denominatorAt s at;
+      entries = entriesAt s (entryCountAt s at) (at + 7);
+    }
+
+-- document 02, K10: 34, 'the divisor', of 'A transition whose weights have a common divisor above 1', where terms are to be lowest
+unfoldable pub termsFault : Terms → Transition → Fault
+termsFault anyTerms t = noFault
+termsFault lowestTerms t = unlessSame (divisorIn t) 1 (fault 34) noFault
+
+-- 'transition': 1, 2, 5, 8, 6, 7, and 34 'after 7', after the last source and so many entries
 unfoldable pub transitionFault : Limits → List ℕ → (n m last entries at : ℕ) → Fault
 transitionFault L s n m last entries at =
     firstOf (openFault modelRecord 0x5452 7 s at)
     (firstOf (fixedFaultAt L s n m last entries at)
     (ifLess (length s) (afterTransition s at) (fault 1)
-    (entriesFault s n (denominatorAt s at) (entryCountAt s at) (at + 7) 0 0)))
+    (firstOf (entriesFault s n (denominatorAt s at) (entryCountAt s at) (at + 7) 0 0)
+    (termsFault (L .terms) (transitionAt s at)))))
 
 -- what the records of a model file are: sound, with n, m, the transition count and the place where the records end;
 -- or a refusal, with its fault and 'the byte place where the record at fault begins'
@@ -116,7 +140,7 @@ scanTransitions L s n m count (suc left) last entries at =
     refuseAt (transitionFault L s n m last entries at) at
     (scanTransitions L s n m count left (sourceAt s at) (entries + entryCountAt s at) (afterTransition s at))
 
--- 'head', 'labels', then as many transitions as the head says: refusals 1 to 8
+-- 'head', 'labels', then as many transitions as the head says: refusals 1 to 8 and 34
 unfoldable pub scanModel : Limits → List ℕ → Scan
 scanModel L s =
     refuseAt (headFault L s) 0
@@ -128,24 +152,14 @@ unfoldable pub refuseBytesLeft : List ℕ → Scan → Scan
 refuseBytesLeft s (sound n m count end) = ifLess end (length s) (refused (fault 9) end) (sound n m count end)
 refuseBytesLeft s (refused f place) = refused f place
 
--- a file that holds a model and nothing else: refusals 1 to 9
+-- a file that holds a model and nothing else: refusals 1 to 9, and 34
 unfoldable pub scanWhole : Limits → List ℕ → Scan
 scanWhole L s = refuseBytesLeft s (scanModel L s)
 
--- the value that stands in the bytes of a sound model: the entries left at a place
-unfoldable pub entriesAt : List ℕ → ℕ → ℕ → List Entry
-entriesAt s zero at = []
-entriesAt s (suc left) at = record { state = byteAt s at; weight = twoAt s (at + 1) } ∷ entriesAt s left (at + 3)
-
--- the transition at a place
-unfoldable pub transitionAt : List ℕ → ℕ → Transition
-transitionAt s at =
-    record {
-      source = sourceAt s at;
-      action = actionAt s at;
-      denominator = denominatorAt s at;
-      entries = entriesAt s (entryCountAt s at) (at + 7);
-    }
+-- the numbers that reading a model gives: none, 1 to 9, and 34 where terms are to be lowest
+unfoldable pub ReadNumber : Terms → ℕ → Type 0
+ReadNumber anyTerms k = k ≤ 9
+ReadNumber lowestTerms k = (k ≤ 9) ⊎ (k ≡ 34)
 
 -- the transitions left from a place on
 unfoldable pub transitionsAt : List ℕ → ℕ → ℕ → List Transition

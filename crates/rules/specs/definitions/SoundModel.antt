@@ -3,7 +3,8 @@ use Prim.Native.Nat.{ℕ, _+_, _≤_, _<_}
 use mathlib.Core.Path.{_≡_}
 use mathlib.Core.List.{List, [], _∷_}
 use lib.ListN.{length}
-use Rattle.rules.specs.definitions.Limits.{Limits}
+use Rattle.numbers.specs.definitions.Divisor.{Divides}
+use Rattle.rules.specs.definitions.Limits.{Terms, anyTerms, lowestTerms, Limits}
 use Rattle.rules.specs.definitions.Bytes.{byteAt}
 use Rattle.rules.specs.definitions.Model.{Entry, Transition, Model}
 
@@ -40,11 +41,20 @@ pub record TransitionRules (n m : ℕ) (t : Transition) : Type 0 where
   pub weights : Each (λ (e : Entry). 1 ≤ e .weight) (t .entries)
   pub whole : sumOver (λ (e : Entry). e .weight) (t .entries) ≡ t .denominator
 
+-- document 02, K10, 'Lowest terms only': every common divisor of the weights is 1
+unfoldable pub LowestTerms : Transition → Type 0
+LowestTerms t = (k : ℕ) → Each (λ (e : Entry). Divides k (e .weight)) (t .entries) → k ≡ 1
+
+-- a transition is written in these terms
+unfoldable pub HasTerms : Terms → Transition → Type 0
+HasTerms anyTerms t = Unit
+HasTerms lowestTerms t = LowestTerms t
+
 -- how many entries the transitions of a model have
 abbrev pub entryCount : Model → ℕ
 entryCount M = sumOver (λ (t : Transition). length (t .entries)) (M .transitions)
 
--- the rows 'head' and 'labels'; each transition; 'Sources never descend along the file'; the most entries in a file
+-- the rows 'head' and 'labels'; each transition; 'Sources never descend along the file'; the most entries in a file; the terms
 pub record SoundModel (L : Limits) (M : Model) : Type 0 where
   pub someState : 1 ≤ length (M .labels)
   pub states : length (M .labels) ≤ L .states
@@ -55,6 +65,7 @@ pub record SoundModel (L : Limits) (M : Model) : Type 0 where
   pub transitions : Each (TransitionRules (length (M .labels)) (M .actions)) (M .transitions)
   pub sources : Along (λ (t u : Transition). t .source ≤ u .source) (M .transitions)
   pub entries : entryCount M ≤ L .entries
+  pub terms : Each (HasTerms (L .terms)) (M .transitions)
 
 -- limits that the fields of a model's records have room for: n, m and labels 1 byte, the transition count 2
 pub record FitsWidths (L : Limits) : Type 0 where

@@ -18,7 +18,7 @@ returns c =
     let files = c .before .before in
     let a = files .before .before .before .before .args in
     pair-refused (λ i h. omega (arith, files .before .before .before .shared-slice-known .given i)) (λ i h. omega (arith, files .before .before .shared-slice-known2 .given i))
-    (now (a .out)) (files .head-answer .ensures .refused (c .if1 .taken) _ _ _)
+    (now (a .out)) (files .head-answer .ensures .refused (c .if1 .taken) _ _ _ _)
 
 judge-files-requires : tie.Need-judge-files-requires
 judge-files-requires c κs = c .before .before .head-answer .ensures .good (c .if1 .left)

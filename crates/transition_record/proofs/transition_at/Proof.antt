@@ -1,6 +1,6 @@
 -- `transition_at` meets its contract: each return is one way out of `transitionFault`.
 use native.Mathlib.Omega.{arith}
-use Rattle.transition_record.specs.TransitionLaws.{not-opened, fixed-whole, not-fixed, cut, stands}
+use Rattle.transition_record.specs.TransitionLaws.{not-opened, fixed-whole, not-fixed, cut, not-entries, stands}
 use borrow.Author.Needs.{needs}
 use Rattle.transition_record.proofs.transition_at.Statement.{statement}
 use Rattle.transition_record.proofs.transition_at.Tie as tie
@@ -12,7 +12,7 @@ refused-requires : tie.Need-refused-requires
 refused-requires c κs = search needs
 
 returns : tie.Need-returns
-returns c = not-opened _ _ _ _ _ _ (c .before .before .before .open-model .result) (c .before .before .before .open-model .ensures) _ (c .refused .ensures) (c .before .if1 .taken)
+returns c = not-opened _ _ _ _ _ _ _ (c .before .before .before .open-model .result) (c .before .before .before .open-model .ensures) _ (c .refused .ensures) (c .before .if1 .taken)
 
 fixed-fault-requires : tie.Need-fixed-fault-requires
 fixed-fault-requires c κs = (fixed-whole _ _ (c .before .before .open-model .result) (c .before .before .open-model .ensures) (c .if1 .left), omega arith)
@@ -25,7 +25,7 @@ returns-2 c =
     let fixed = c .before .before .before in
     let passed = fixed .before in
     let opens = passed .before .before .open-model in
-    not-fixed _ _ _ _ _ _ (opens .result) (opens .ensures) (passed .if1 .left) (fixed .fixed-fault .result) (fixed .fixed-fault .ensures) _ (c .refused2 .ensures) (c .before .if2 .taken)
+    not-fixed _ _ _ _ _ _ _ (opens .result) (opens .ensures) (passed .if1 .left) (fixed .fixed-fault .result) (fixed .fixed-fault .ensures) _ (c .refused2 .ensures) (c .before .if2 .taken)
 
 fields-at-requires : tie.Need-fields-at-requires
 fields-at-requires c κs =
@@ -55,7 +55,7 @@ returns-3 c =
     let fixed = sound .before .before in
     let passed = fixed .before in
     let opens = passed .before .before .open-model in
-    cut _ _ _ _ _ _ (opens .result) (opens .ensures) (passed .if1 .left) (fixed .fixed-fault .result) (fixed .fixed-fault .ensures) (sound .if2 .left) (fields .fields-at .result) (fields .fields-at .ensures)
+    cut _ _ _ _ _ _ _ (opens .result) (opens .ensures) (passed .if1 .left) (fixed .fixed-fault .result) (fixed .fixed-fault .ensures) (sound .if2 .left) (fields .fields-at .result) (fields .fields-at .ensures)
     (c .before .refusal .result) _ (c .refused3 .ensures) (c .before .refusal .ensures) (omega arith)
 
 entries-at-requires : tie.Need-entries-at-requires
@@ -65,20 +65,44 @@ entries-at-requires c κs =
     let whole = fixed-whole _ _ (opens .result) (opens .ensures) (passed .if1 .left) in
     (omega arith, omega arith)
 
-at-requires : tie.Need-at-requires
-at-requires c κs = search needs
+refused-requires-4 : tie.Need-refused-requires-4
+refused-requires-4 c κs = search needs
 
 returns-4 : tie.Need-returns-4
 returns-4 c =
-    let read = c .before .before .before in
+    let read = c .before .before .before .before .before in
     let fields = read .before .before .before in
     let sound = fields .before in
     let fixed = sound .before .before in
     let passed = fixed .before in
     let opens = passed .before .before .open-model in
-    stands _ _ _ _ _ _ (opens .result) (opens .ensures) (passed .if1 .left) (fixed .fixed-fault .result) (fixed .fixed-fault .ensures) (sound .if2 .left) (fields .fields-at .result) (fields .fields-at .ensures)
-    (read .entries-at .result) _ (read .entries-at .ensures) (c .at .ensures)
-    (omega (arith, fixed-whole _ _ (opens .result) (opens .ensures) (passed .if1 .left)))
+    not-entries _ _ _ _ _ _ _ (opens .result) (opens .ensures) (passed .if1 .left) (fixed .fixed-fault .result) (fixed .fixed-fault .ensures) (sound .if2 .left) (fields .fields-at .result) (fields .fields-at .ensures)
+    (read .entries-at .result) (read .entries-at .ensures) (omega (arith, fixed-whole _ _ (opens .result) (opens .ensures) (passed .if1 .left))) _ (c .refused4 .ensures) (c .before .if4 .taken)
+
+terms-fault-requires : tie.Need-terms-fault-requires
+terms-fault-requires c κs =
+    let read = c .before .before .before .before in
+    let fields = read .before .before .before in
+    let sound = fields .before in
+    let fixed = sound .before .before in
+    let passed = fixed .before in
+    let opens = passed .before .before .open-model in
+    omega (arith, fixed-whole _ _ (opens .result) (opens .ensures) (passed .if1 .left), fields .fields-at .ensures .entries)
+
+at-requires : tie.Need-at-requires
+at-requires c κs = search needs
+
+returns-5 : tie.Need-returns-5
+returns-5 c =
+    let read = c .before .before .before .before .before .before in
+    let fields = read .before .before .before in
+    let sound = fields .before in
+    let fixed = sound .before .before in
+    let passed = fixed .before in
+    let opens = passed .before .before .open-model in
+    stands _ _ _ _ _ _ _ (opens .result) (opens .ensures) (passed .if1 .left) (fixed .fixed-fault .result) (fixed .fixed-fault .ensures) (sound .if2 .left) (fields .fields-at .result) (fields .fields-at .ensures)
+    (read .entries-at .result) (read .entries-at .ensures) (omega (arith, fixed-whole _ _ (opens .result) (opens .ensures) (passed .if1 .left)))
+    (c .before .before .if4 .left) (c .before .terms-fault .result) _ (c .before .terms-fault .ensures) (c .at .ensures)
 
 pub transition-at-spec : {M : Type 1} → statement M
 transition-at-spec =
@@ -97,5 +121,8 @@ transition-at-spec =
     refused-requires-3
     returns-3
     entries-at-requires
+    refused-requires-4
+    returns-4
+    terms-fault-requires
     at-requires
-    returns-4)
+    returns-5)

@@ -2,6 +2,7 @@
 use native.Mathlib.Omega.{arith}
 use Rattle.rules.specs.definitions.Bytes.{byteAt}
 use Rattle.rules.specs.definitions.SoundModel.{Bytes}
+use Rattle.limits.specs.TermsBy.{currentTerms}
 use Rattle.transition.specs.ModelRead.{refused-told}
 use Rattle.answer.specs.AnsweredLaws.{refusal-as}
 use Rattle.two_models.specs.TwoModelsLaws.{both-sound, refused-second}
@@ -19,7 +20,7 @@ enum-known-read-2 : tie.Need-enum-known-read-2
 enum-known-read-2 c = search needs
 
 refusal-in-requires : tie.Need-refusal-in-requires
-refusal-in-requires c κs = refused-told _ (c .before .before .before .scan-file .ensures) _ (c .before .read2 .given .1) .1
+refusal-in-requires c κs = refused-told currentTerms _ (c .before .before .before .scan-file .ensures) _ (c .before .read2 .given .1) .1
 
 returns : tie.Need-returns
 unfolding Bytes byteAt
@@ -30,7 +31,7 @@ returns c =
 returns-2 : tie.Need-returns-2
 returns-2 c =
     let scan = c .before .before .before .before in
-    let told = refused-told _ (scan .scan-file .ensures) _ (c .before .before .read2 .given .1) in
+    let told = refused-told currentTerms _ (scan .scan-file .ensures) _ (c .before .before .read2 .given .1) in
     refused-second _ _ _ (scan .before .before .before .before .pre .0) (told .0) (told .1) (refusal-as _ 3 _ _ (c .refusal-in .ensures) (omega arith) (omega arith))
 
 pub read-second-spec : {M : Type 1} → statement M

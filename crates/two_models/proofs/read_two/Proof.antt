@@ -2,6 +2,7 @@
 use native.Mathlib.Omega.{arith}
 use Rattle.rules.specs.definitions.Bytes.{byteAt}
 use Rattle.rules.specs.definitions.SoundModel.{Bytes}
+use Rattle.limits.specs.TermsBy.{currentTerms}
 use Rattle.transition.specs.ModelRead.{refused-told}
 use Rattle.answer.specs.AnsweredLaws.{refusal-as}
 use Rattle.two_models.specs.TwoModelsLaws.{sound-file, refused-first}
@@ -25,7 +26,7 @@ enum-known-scanned-2 : tie.Need-enum-known-scanned-2
 enum-known-scanned-2 c = search needs
 
 refusal-in-requires : tie.Need-refusal-in-requires
-refusal-in-requires c κs = refused-told _ (c .before .before .before .scan-file .ensures) _ (c .before .scanned2 .given .1) .1
+refusal-in-requires c κs = refused-told currentTerms _ (c .before .before .before .scan-file .ensures) _ (c .before .scanned2 .given .1) .1
 
 returns : tie.Need-returns
 returns c = search needs
@@ -33,7 +34,7 @@ returns c = search needs
 returns-2 : tie.Need-returns-2
 returns-2 c =
     let scan = c .before .before .before .before in
-    let told = refused-told _ (scan .scan-file .ensures) _ (c .before .before .scanned2 .given .1) in
+    let told = refused-told currentTerms _ (scan .scan-file .ensures) _ (c .before .before .scanned2 .given .1) in
     refused-first _ _ _ (told .0) (told .1) (refusal-as _ 1 _ _ (c .refusal-in .ensures) (omega arith) (omega arith))
 
 pub read-two-spec : {M : Type 1} → statement M

@@ -12,6 +12,7 @@ use Rattle.rules.specs.definitions.Reading.{Reading, model, noModel, readWhole}
 use Rattle.rules.specs.definitions.JudgedBy.{JudgedBy, AcceptedBy}
 use Rattle.rules.specs.definitions.Answers.{refusalIn, answerWithoutPlace, fetchReading, fetchAnswer, unwritten, Follows, readOutcome, pairOutcome}
 use Rattle.rules.specs.definitions.Demands.{outcomeBy, Accepting}
+use Rattle.rules.specs.argument.ReadingLaws.{read-number}
 use Rattle.rules.specs.argument.AnyRule.{PairRules, pairsOf}
 use Rattle.rules.specs.argument.PlainRules.{ModelNumber, refusal-told}
 use Rattle.rules.specs.definitions.Made.{passesLimit, madeOutcome, OfTwo, readingsOutcome, twoOutcome}
@@ -50,12 +51,12 @@ outcome-stays by newer wider follows laws M C before z =
 
 -- the calls that judge nothing
 module _ (L W : Limits) (within : Within L W) where
-  -- a file that is not read is refused with 1 to 9
-  unread : (s : List ℕ) (f : Fault) (place late : ℕ) → readWhole L s ≡ noModel f place → 9 < late → (f .number ≡ 0) ⊎ (f .number ≡ late) → ⊥
+  -- a file that is not read is refused with a number of reading
+  unread : (s : List ℕ) (f : Fault) (place late : ℕ) → readWhole L s ≡ noModel f place → 9 < late → (late ≡ 34 → ⊥) → (f .number ≡ 0) ⊎ (f .number ≡ late) → ⊥
   unfolding ModelNumber
-  unread s f place late e l z =
+  unread s f place late e l other z =
       let k = refusal-told L s f place e .1 in
-      ⊎-elim (λ x. omega (arith, k, x)) (λ x. omega (arith, k, x)) z
+      ⊎-elim (λ x. omega (arith, k, x)) (λ x. ⊎-elim (λ w. omega (arith, w, x)) (λ w. other (sym x ∙ w)) (read-number (L .terms) _ (k .1))) z
 
   -- the call that fetches: 0, or 24 after the model
   pub fetch-wider : (s : List ℕ) (state : ℕ) → (fetchAnswer L s state .number ≡ 0) ⊎ (fetchAnswer L s state .number ≡ 24) → fetchAnswer W s state ≡ fetchAnswer L s state
@@ -64,7 +65,7 @@ module _ (L W : Limits) (within : Within L W) where
     where
       go : (r : Reading) → readWhole L s ≡ r → (fetchReading s state r .number ≡ 0) ⊎ (fetchReading s state r .number ≡ 24) → fetchReading s state (readWhole W s) ≡ fetchReading s state (readWhole L s)
       go (model M end) e z = ap (fetchReading s state) (read-wider L W within s M end e ∙ sym e)
-      go (noModel f place) e z = absurd (unread s f place 24 e (omega arith) z)
+      go (noModel f place) e z = absurd (unread s f place 24 e (omega arith) (λ w. omega (arith, w)) z)
 
   -- the call that joins: 0, or 26 after the limits
   joined-wider : (J : Model) (before : List (List ℕ)) → (madeOutcome 25 26 (passesLimit L J) J before .answer .number ≡ 0) ⊎ (madeOutcome 25 26 (passesLimit L J) J before .answer .number ≡ 26) → madeOutcome 25 26 (passesLimit W J) J before ≡ madeOutcome 25 26 (passesLimit L J) J before
@@ -91,5 +92,5 @@ module _ (L W : Limits) (within : Within L W) where
           ap₂ (readingsOutcome (ofTwo W) first second (buffer ∷ [])) (read-wider L W within first M end e) (read-wider L W within second N last f)
           ∙ joined-wider (joined M N) (buffer ∷ []) z
           ∙ sym (ap₂ (readingsOutcome (ofTwo L) first second (buffer ∷ [])) e f)
-      go (model M end) (noModel g place) e f z = absurd (unread second g place 26 f (omega arith) z)
-      go (noModel g place) q e f z = absurd (unread first g place 26 e (omega arith) z)
+      go (model M end) (noModel g place) e f z = absurd (unread second g place 26 f (omega arith) (λ w. omega (arith, w)) z)
+      go (noModel g place) q e f z = absurd (unread first g place 26 e (omega arith) (λ w. omega (arith, w)) z)

@@ -7,9 +7,9 @@ use lib.ListN.{length, take}
 use native.Mathlib.Decide.{decLt}
 use native.Mathlib.Omega.{arith}
 use Rattle.bisimulation.specs.argument.ChoiceLaws.{less, notLess}
-use Rattle.rules.specs.definitions.Limits.{Limits}
+use Rattle.rules.specs.definitions.Limits.{Terms, Limits}
 use Rattle.rules.specs.definitions.Model.{Transition, Model, modelBytes}
-use Rattle.rules.specs.definitions.SoundModel.{Each, sumOver, entryCount, SoundModel, FitsWidths}
+use Rattle.rules.specs.definitions.SoundModel.{Each, sumOver, HasTerms, entryCount, SoundModel, FitsWidths}
 use Rattle.rules.specs.definitions.Faults.{fault, modelRecord}
 use Rattle.rules.specs.argument.FaultLaws.{first-none, first-stops, opens}
 use Rattle.rules.specs.definitions.Reading.{statesOf, actionsOf, countOf, rangeFault, headFault, sourceAt, entryCountAt, fixedFault, fixedFaultAt, transitionFault, Scan, sound, refused, scanTransitions, scanModel, refuseBytesLeft, scanWhole, transitionAt, transitionsAt, modelAt, Reading, model, readingOf, readWhole, placeOf}
@@ -66,7 +66,7 @@ transition-over L W s n m last entries at p over =
     refl)))))))
     (omega arith))
 
-module _ (L W : Limits) (s : List ℕ) where
+module _ (L W : Limits) (terms : W .terms ≡ L .terms) (s : List ℕ) where
   -- a head that passes within other limits, with more states than the limit: 3
   states-over : (n m count end : ℕ) → sound n m count end ≡ scanModel W s → L .states < statesOf s → scanModel L s ≡ refused (fault 3) 0
   unfolding scanModel headFault rangeFault
@@ -117,7 +117,7 @@ module _ (L W : Limits) (s : List ℕ) where
             with = omega (arith, x .with, size);
             scan =
                 ap (λ (j : ℕ). refused (fault 8) (placeOf s j)) z
-                ∙ refuse-passes _ refl (transition-passes L W s n m last entries (placeOf s r) p (omega arith)) (x .scan);
+                ∙ refuse-passes _ refl (transition-passes L W s n m last entries (placeOf s r) terms p (omega arith)) (x .scan);
           }
 
 module _ (L W : Limits) (within : Within L W) (others : OthersStay L W) (widths : FitsWidths W) where
@@ -143,6 +143,7 @@ module _ (L W : Limits) (within : Within L W) (others : OthersStay L W) (widths 
         transitions = ok .transitions;
         sources = ok .sources;
         entries = entries;
+        terms = subst (λ (t : Terms). Each (HasTerms t) (M .transitions)) (sym (within .terms)) (ok .terms);
       }
 
   -- a file that begins with the records of such a model
@@ -154,7 +155,7 @@ module _ (L W : Limits) (within : Within L W) (others : OthersStay L W) (widths 
     told = subst (Tells W s) (sym (back .scan)) (scan-tells W s)
 
     three : L .states < length (M .labels) → scanModel L s ≡ refused (fault 3) 0
-    three over = states-over L W s _ _ _ _ (back .scan) (omega (arith, over, told .states))
+    three over = states-over L W (sym (within .terms)) s _ _ _ _ (back .scan) (omega (arith, over, told .states))
 
     -- the transitions that stand in the file
     transitions-are : transitionsAt s (countOf s) (placeOf s 0) ≡ M .transitions
@@ -168,8 +169,8 @@ module _ (L W : Limits) (within : Within L W) (others : OthersStay L W) (widths 
         let a = refuse-past n (M .actions) (length (M .transitions)) (length (modelBytes M)) _ 0 _ (back .scan) in
         let b = refuse-past n (M .actions) (length (M .transitions)) (length (modelBytes M)) _ 6 _ (a .1) in
         let h = head-passed W s (a .0) in
-        let x : Stops L W s (statesOf s) (actionsOf s) (countOf s) (countOf s) 0 0 0 =
-        entries-over L W s (statesOf s) (actionsOf s) (countOf s) (countOf s) 0 0 0 n (M .actions) (length (M .transitions)) (length (modelBytes M)) (b .1)
+        let x : Stops L W (sym (within .terms)) s (statesOf s) (actionsOf s) (countOf s) (countOf s) 0 0 0 =
+        entries-over L W (sym (within .terms)) s (statesOf s) (actionsOf s) (countOf s) (countOf s) 0 0 0 n (M .actions) (length (M .transitions)) (length (modelBytes M)) (b .1)
         (omega arith) (omega (arith, over, ap entriesIn transitions-are)) in
         let z : 0 + x .k ≡ x .k = omega arith in (
           x .k,

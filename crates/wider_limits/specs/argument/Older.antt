@@ -13,13 +13,13 @@ use Rattle.rules.specs.argument.SoundModelLaws.{limits-fit}
 use Rattle.rules.specs.definitions.Reading.{model, readWhole}
 use Rattle.rules.specs.definitions.PlainRule.{plainRule}
 use Rattle.rules.specs.definitions.Accepted.{FileOf}
-use Rattle.rules.specs.definitions.JudgedBy.{JudgedBy, plainPairsAt, plainPairs, AcceptedBy}
+use Rattle.rules.specs.definitions.JudgedBy.{JudgedBy, plainPairsAt, storedPairs, AcceptedBy}
 use Rattle.rules.specs.definitions.Answers.{fetchAnswer, fetchOutcome, Follows, writesBlocks}
 use Rattle.quotient.specs.definitions.ReduceAnswer.{writesMerged}
 use Rattle.rules.specs.definitions.Demands.{outcomeBy, Accepting}
-use Rattle.rules.specs.argument.PlainRules.{plainRulesAt, plainRules}
+use Rattle.rules.specs.argument.PlainRules.{plainRulesAt}
 use Rattle.rules.specs.argument.PairOutcome.{FollowsLaws}
-use Rattle.rules.specs.argument.DemandsHold.{blocks-follow, follow-at}
+use Rattle.rules.specs.argument.DemandsHold.{blocks-follow}
 use Rattle.quotient.specs.argument.ReduceAnswerLaws.{merged-follow}
 use Rattle.block_sheet.specs.definitions.SheetAnswer.{writesSheet}
 use Rattle.block_sheet.specs.argument.SheetJudgedLaws.{sheet-follow}
@@ -29,7 +29,7 @@ use Rattle.joined.specs.argument.AlikeAnswerLaws.{parts-follow}
 use Rattle.cost_files.specs.definitions.CostModel.{CostFileOf, costsIn}
 use Rattle.cost_files.specs.definitions.CostReading.{readCosts}
 use Rattle.cost_files.specs.definitions.CostFile.{costFile}
-use Rattle.cost_files.specs.definitions.CostPairs.{costPairsAt, costPairs}
+use Rattle.cost_files.specs.definitions.CostPairs.{costPairsAt, storedCosts}
 use Rattle.cost_files.specs.argument.CostRules.{costRulesAt}
 use Rattle.wider_limits.specs.definitions.Wider.{within-older, others-stay, Widens, Meets, Larger, ThreeOrEight, RefusesLarger}
 use Rattle.wider_limits.specs.argument.ReadingWider.{read-wider, cost-read-wider}
@@ -44,16 +44,16 @@ olderPairs = plainPairsAt olderLimits
 abbrev pub olderCostPairs : JudgedBy
 olderCostPairs = costPairsAt olderLimits
 
-older-widens : Widens olderPairs plainPairs
+older-widens : Widens olderPairs storedPairs
 older-widens = plain-widens olderLimits limits within-older
 
-older-cost-widens : Widens olderCostPairs costPairs
+older-cost-widens : Widens olderCostPairs storedCosts
 older-cost-widens = cost-widens olderLimits limits within-older
 
-older-fit : FitsWidths olderLimits
+pub older-fit : FitsWidths olderLimits
 older-fit = omega arith
 
-older-count : olderLimits .refutations < 65536
+pub older-count : olderLimits .refutations < 65536
 older-count = omega arith
 
 -- 'Stored files are read as they are'
@@ -64,45 +64,45 @@ pub older-cost-read-stays : (s : List ℕ) (M : Model) (end : ℕ) → readCosts
 older-cost-read-stays = cost-read-wider olderLimits limits within-older
 
 -- 'a pair accepted before is accepted with the same blocks', without costs and with them
-pub older-accepted-stays : (M C blocks : List ℕ) → AcceptedBy olderPairs M C blocks → AcceptedBy plainPairs M C blocks
-older-accepted-stays = accepted-wider olderPairs plainPairs older-widens
+pub older-accepted-stays : (M C blocks : List ℕ) → AcceptedBy olderPairs M C blocks → AcceptedBy storedPairs M C blocks
+older-accepted-stays = accepted-wider olderPairs storedPairs older-widens
 
-pub older-cost-accepted-stays : (M C blocks : List ℕ) → AcceptedBy olderCostPairs M C blocks → AcceptedBy costPairs M C blocks
-older-cost-accepted-stays = accepted-wider olderCostPairs costPairs older-cost-widens
+pub older-cost-accepted-stays : (M C blocks : List ℕ) → AcceptedBy olderCostPairs M C blocks → AcceptedBy storedCosts M C blocks
+older-cost-accepted-stays = accepted-wider olderCostPairs storedCosts older-cost-widens
 
 -- every call that judges an accepted pair answers the same, and leaves the same in the lent buffers
-pub older-outcome-stays : (M C blocks : List ℕ) → AcceptedBy olderPairs M C blocks → (follows : Follows) (before : List (List ℕ)) → outcomeBy plainPairs follows M C before ≡ outcomeBy olderPairs follows M C before
-older-outcome-stays = outcome-wider olderPairs plainPairs older-widens
+pub older-outcome-stays : (M C blocks : List ℕ) → AcceptedBy olderPairs M C blocks → (follows : Follows) (before : List (List ℕ)) → outcomeBy storedPairs follows M C before ≡ outcomeBy olderPairs follows M C before
+older-outcome-stays = outcome-wider olderPairs storedPairs older-widens
 
 -- so too where all that is known is a number that tells of acceptance
-pub older-stays : (follows : Follows) → FollowsLaws plainRules follows → (M C : List ℕ) (before : List (List ℕ)) → Accepting follows (outcomeBy olderPairs follows M C before .answer .number) → outcomeBy plainPairs follows M C before ≡ outcomeBy olderPairs follows M C before
-older-stays follows laws = outcome-stays (plainRulesAt olderLimits older-fit older-count) plainPairs older-widens follows (follow-at olderLimits older-fit older-count laws)
+pub older-stays : (follows : Follows) → FollowsLaws (plainRulesAt olderLimits older-fit older-count) follows → (M C : List ℕ) (before : List (List ℕ)) → Accepting follows (outcomeBy olderPairs follows M C before .answer .number) → outcomeBy storedPairs follows M C before ≡ outcomeBy olderPairs follows M C before
+older-stays follows laws = outcome-stays (plainRulesAt olderLimits older-fit older-count) storedPairs older-widens follows laws
 
 module _ (M C : List ℕ) where
   -- the blocks in the lent buffer
-  pub older-blocks-stay : (before : List (List ℕ)) → outcomeBy olderPairs writesBlocks M C before .answer .number ≡ 0 → outcomeBy plainPairs writesBlocks M C before ≡ outcomeBy olderPairs writesBlocks M C before
+  pub older-blocks-stay : (before : List (List ℕ)) → outcomeBy olderPairs writesBlocks M C before .answer .number ≡ 0 → outcomeBy storedPairs writesBlocks M C before ≡ outcomeBy olderPairs writesBlocks M C before
   unfolding Accepting
   older-blocks-stay before z = older-stays writesBlocks blocks-follow M C before (inl z)
 
   -- with costs
-  pub older-cost-blocks-stay : (before : List (List ℕ)) → outcomeBy olderCostPairs writesBlocks M C before .answer .number ≡ 0 → outcomeBy costPairs writesBlocks M C before ≡ outcomeBy olderCostPairs writesBlocks M C before
+  pub older-cost-blocks-stay : (before : List (List ℕ)) → outcomeBy olderCostPairs writesBlocks M C before .answer .number ≡ 0 → outcomeBy storedCosts writesBlocks M C before ≡ outcomeBy olderCostPairs writesBlocks M C before
   unfolding Accepting
   older-cost-blocks-stay before z =
-      outcome-stays (costRulesAt olderLimits older-fit older-count) costPairs older-cost-widens writesBlocks blocks-follow M C before (inl z)
+      outcome-stays (costRulesAt olderLimits older-fit older-count) storedCosts older-cost-widens writesBlocks blocks-follow M C before (inl z)
 
   -- the merged file: 0 or 23
-  pub older-merged-stays : (before : List (List ℕ)) → Accepting writesMerged (outcomeBy olderPairs writesMerged M C before .answer .number) → outcomeBy plainPairs writesMerged M C before ≡ outcomeBy olderPairs writesMerged M C before
-  older-merged-stays = older-stays writesMerged merged-follow M C
+  pub older-merged-stays : (before : List (List ℕ)) → Accepting writesMerged (outcomeBy olderPairs writesMerged M C before .answer .number) → outcomeBy storedPairs writesMerged M C before ≡ outcomeBy olderPairs writesMerged M C before
+  older-merged-stays = older-stays writesMerged (merged-follow olderLimits older-fit older-count) M C
 
   -- the sheet: 0 or 28
-  pub older-sheet-stays : (before : List (List ℕ)) → Accepting (writesSheet plainRule C) (outcomeBy olderPairs (writesSheet plainRule C) M C before .answer .number) → outcomeBy plainPairs (writesSheet plainRule C) M C before ≡ outcomeBy olderPairs (writesSheet plainRule C) M C before
-  older-sheet-stays = older-stays (writesSheet plainRule C) (sheet-follow C) M C
+  pub older-sheet-stays : (before : List (List ℕ)) → Accepting (writesSheet plainRule C) (outcomeBy olderPairs (writesSheet plainRule C) M C before .answer .number) → outcomeBy storedPairs (writesSheet plainRule C) M C before ≡ outcomeBy olderPairs (writesSheet plainRule C) M C before
+  older-sheet-stays = older-stays (writesSheet plainRule C) (sheet-follow olderLimits older-fit older-count C) M C
 
   -- two states compared: 0 or 27, and yes or no
-  pub older-alike-stays : (x : Named) (before : List (List ℕ)) → Accepting (testsParts x) (outcomeBy olderPairs (testsParts x) M C before .answer .number) → (outcomeBy plainPairs (testsParts x) M C before ≡ outcomeBy olderPairs (testsParts x) M C before) × (alikeSays plainPairs x M C ≡ alikeSays olderPairs x M C)
+  pub older-alike-stays : (x : Named) (before : List (List ℕ)) → Accepting (testsParts x) (outcomeBy olderPairs (testsParts x) M C before .answer .number) → (outcomeBy storedPairs (testsParts x) M C before ≡ outcomeBy olderPairs (testsParts x) M C before) × (alikeSays storedPairs x M C ≡ alikeSays olderPairs x M C)
   older-alike-stays x before z =
-      let a = told-accepted (plainRulesAt olderLimits older-fit older-count) (testsParts x) (follow-at olderLimits older-fit older-count (parts-follow x)) M C before z in
-      (older-outcome-stays M C (a .0) (a .1) (testsParts x) before, alike-wider olderPairs plainPairs older-widens M C (a .0) (a .1) x)
+      let a = told-accepted (plainRulesAt olderLimits older-fit older-count) (testsParts x) (parts-follow olderLimits older-fit older-count x) M C before z in
+      (older-outcome-stays M C (a .0) (a .1) (testsParts x) before, alike-wider olderPairs storedPairs older-widens M C (a .0) (a .1) x)
 
 -- the call that fetches: 0 or 24
 pub older-fetch-stays : (s : List ℕ) (state : ℕ) → (fetchAnswer olderLimits s state .number ≡ 0) ⊎ (fetchAnswer olderLimits s state .number ≡ 24) → fetchAnswer limits s state ≡ fetchAnswer olderLimits s state

@@ -1,14 +1,14 @@
 -- Document 02, K7: 'Stored files are read as they are'. Reading is monotone in the limits.
 use Prim.Native.Nat.{ℕ, zero, suc, _+_, _≤_}
-use mathlib.Core.Path.{_≡_, refl, sym, _∙_, ap}
+use mathlib.Core.Path.{_≡_, refl, sym, _∙_, ap, subst}
 use mathlib.Core.List.{List}
 use native.Mathlib.Omega.{arith}
 use Rattle.bisimulation.specs.argument.ChoiceLaws.{less, notLess}
-use Rattle.rules.specs.definitions.Limits.{Limits}
+use Rattle.rules.specs.definitions.Limits.{Terms, Limits}
 use Rattle.rules.specs.definitions.Model.{Model}
 use Rattle.rules.specs.definitions.Faults.{Passes, modelRecord}
 use Rattle.rules.specs.argument.FaultLaws.{none-first, first-none, pass-on, pass-ifLess, opens}
-use Rattle.rules.specs.definitions.Reading.{statesOf, actionsOf, countOf, rangeFault, headFault, labelFault, labelsFault, sourceAt, entryCountAt, afterTransition, fixedFault, fixedFaultAt, transitionFault, Scan, sound, scanTransitions, scanModel, refuseBytesLeft, scanWhole, model, readingOf, readWhole}
+use Rattle.rules.specs.definitions.Reading.{statesOf, actionsOf, countOf, rangeFault, headFault, labelFault, labelsFault, sourceAt, entryCountAt, afterTransition, fixedFault, fixedFaultAt, transitionAt, termsFault, transitionFault, Scan, sound, scanTransitions, scanModel, refuseBytesLeft, scanWhole, model, readingOf, readWhole}
 use Rattle.rules.specs.argument.ReadingLaws.{PassedTransition, transition-passed, PassedHead, head-passed, refuse-passes}
 use Rattle.rules.specs.argument.ReadSound.{refuse-past, read-scan, none-left}
 use Rattle.cost_files.specs.definitions.CostReading.{scanCostRecord, scanCostModel, readCosts}
@@ -42,9 +42,9 @@ unfolding labelsFault
 labels-pass L W h s n p = let a = none-first _ _ p in pass-on (first-none _ _ (a .0) refl) (label-passes L W h s n 8 (a .1))
 
 -- a transition that passes elsewhere passes here, where the entries so far are within the limit
-pub transition-passes : (L W : Limits) (s : List ℕ) (n m last entries at : ℕ) → PassedTransition W s n m last entries at → entries + entryCountAt s at ≤ L .entries → Passes (transitionFault L s n m last entries at)
+pub transition-passes : (L W : Limits) (s : List ℕ) (n m last entries at : ℕ) → W .terms ≡ L .terms → PassedTransition W s n m last entries at → entries + entryCountAt s at ≤ L .entries → Passes (transitionFault L s n m last entries at)
 unfolding transitionFault fixedFaultAt fixedFault
-transition-passes L W s n m last entries at p few =
+transition-passes L W s n m last entries at terms p few =
     pass-on
     (first-none _ _ (opens modelRecord 0x5452 7 s at (omega arith) (p .mark) (p .fixed))
     (first-none _ _
@@ -58,8 +58,9 @@ transition-passes L W s n m last entries at p few =
     (notLess _ few
     refl)))))))
     refl)
-    (notLess _ (p .whole) refl)))
-    (p .shares)
+    (notLess _ (p .whole)
+    (first-none _ _ (p .shares) refl))))
+    (subst (λ (t : Terms). Passes (termsFault t (transitionAt s at))) terms (p .terms))
 
 module _ (L W : Limits) (within : Within L W) (s : List ℕ) where
   transitions-wider : (n m count left last entries at n₁ m₁ count₁ end : ℕ) → sound n₁ m₁ count₁ end ≡ scanTransitions L s n m count left last entries at → sound n₁ m₁ count₁ end ≡ scanTransitions W s n m count left last entries at
@@ -68,7 +69,7 @@ module _ (L W : Limits) (within : Within L W) (s : List ℕ) where
   transitions-wider n m count (suc left) last entries at n₁ m₁ count₁ end e =
       let a = refuse-past n₁ m₁ count₁ end _ at _ e in
       let p = transition-passed L s n m last entries at (a .0) in
-      refuse-passes at refl (transition-passes W L s n m last entries at p (omega (arith, p .few, within .entries)))
+      refuse-passes at refl (transition-passes W L s n m last entries at (within .terms) p (omega (arith, p .few, within .entries)))
       (transitions-wider n m count left (sourceAt s at) (entries + entryCountAt s at) (afterTransition s at) n₁ m₁ count₁ end (a .1))
 
   -- a scan without a refusal is the same within wider limits

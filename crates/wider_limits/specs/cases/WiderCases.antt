@@ -4,11 +4,13 @@ use mathlib.Core.Path.{_≡_, refl}
 use mathlib.Core.List.{List, [], _∷_}
 use lib.ListN.{replicate}
 use Rattle.bisimulation.specs.definitions.Choice.{ifLess, ifSame}
-use Rattle.rules.specs.definitions.Limits.{Limits, limits, olderLimits}
+use Rattle.numbers.specs.definitions.Divisor.{divisorWithin, divisor, divisorOf}
+use Rattle.rules.specs.definitions.LowestTerms.{divisorIn}
+use Rattle.rules.specs.definitions.Limits.{anyTerms, Limits, limits, olderLimits}
 use Rattle.rules.specs.definitions.Bytes.{byteAt, twoAt, twoBytes}
 use Rattle.rules.specs.definitions.Model.{Model, entriesBytes, transitionBytes, transitionsBytes, headBytes, labelsBytes, modelBytes}
 use Rattle.rules.specs.definitions.Faults.{fault, firstOf, openFault}
-use Rattle.rules.specs.definitions.Reading.{statesOf, actionsOf, countOf, rangeFault, headFault, labelFault, labelsFault, sourceAt, actionAt, denominatorAt, entryCountAt, afterTransition, fixedFault, fixedFaultAt, entriesFault, transitionFault, refuseAt, scanTransitions, scanModel, refuseBytesLeft, scanWhole, entriesAt, transitionAt, transitionsAt, modelAt, Reading, model, noModel, readingOf, readWhole}
+use Rattle.rules.specs.definitions.Reading.{statesOf, actionsOf, countOf, rangeFault, headFault, labelFault, labelsFault, sourceAt, actionAt, denominatorAt, entryCountAt, afterTransition, fixedFault, fixedFaultAt, entriesFault, termsFault, transitionFault, refuseAt, scanTransitions, scanModel, refuseBytesLeft, scanWhole, entriesAt, transitionAt, transitionsAt, modelAt, Reading, model, noModel, readingOf, readWhole}
 use Rattle.rules.specs.definitions.SoundModel.{Each}
 
 -- so many states with label 0 and no transitions
@@ -30,7 +32,7 @@ fiveEntries =
 
 -- K7's limits with so many entries
 abbrev pub withEntries : ℕ → Limits
-withEntries k = record { states = 128; actions = 32; transitions = 256; entries = k; refutations = 8128; label = 63 }
+withEntries k = record { states = 128; actions = 32; transitions = 256; entries = k; refutations = 8128; label = 63; terms = anyTerms }
 
 -- limits, a model, and what reading its file gives
 pub record WiderCase : Type 0 where
@@ -56,5 +58,5 @@ widerCases =
     ∷ []
 
 pub wider-cases : Each (λ (c : WiderCase). readWhole (c .within) (modelBytes (c .holds)) ≡ c .expected) widerCases
-unfolding ifLess ifSame byteAt twoAt twoBytes headBytes labelsBytes entriesBytes transitionBytes transitionsBytes modelBytes firstOf openFault statesOf actionsOf countOf rangeFault headFault labelFault labelsFault sourceAt actionAt denominatorAt entryCountAt afterTransition fixedFault fixedFaultAt entriesFault transitionFault refuseAt scanTransitions scanModel refuseBytesLeft scanWhole entriesAt transitionAt transitionsAt modelAt readingOf readWhole Each widerCases
+unfolding ifLess ifSame byteAt twoAt twoBytes headBytes labelsBytes entriesBytes transitionBytes transitionsBytes modelBytes firstOf openFault statesOf actionsOf countOf rangeFault headFault labelFault labelsFault sourceAt actionAt denominatorAt entryCountAt afterTransition fixedFault fixedFaultAt entriesFault divisorWithin divisor divisorOf divisorIn termsFault transitionFault refuseAt scanTransitions scanModel refuseBytesLeft scanWhole entriesAt transitionAt transitionsAt modelAt readingOf readWhole Each widerCases
 wider-cases = (refl, (refl, (refl, (refl, (refl, (refl, (refl, (refl, (refl, (refl, (refl, tt)))))))))))

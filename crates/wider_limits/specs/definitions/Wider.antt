@@ -1,7 +1,7 @@
 -- Document 02, K7: 'Stored files are read as they are, and a pair accepted before is accepted with the same blocks. An older part meets a
 -- larger sound model with 3 or 8.' What is said of two sets of limits.
 use Prim.Native.Nat.{ℕ, suc, _≤_, _<_}
-use mathlib.Core.Path.{_≡_}
+use mathlib.Core.Path.{_≡_, refl}
 use mathlib.Core.Logic.{_⊎_}
 use mathlib.Core.List.{List}
 use lib.ListN.{length, take}
@@ -15,7 +15,7 @@ use Rattle.rules.specs.definitions.Judging.{Reader}
 use Rattle.rules.specs.definitions.JudgedBy.{JudgedBy}
 use Rattle.rules.specs.definitions.Answers.{Outcome, refusalIn, unwritten}
 
--- each limit of L is at most that of W
+-- each limit of L is at most that of W, and the terms are the same
 pub record Within (L W : Limits) : Type 0 where
   pub states : L .states ≤ W .states
   pub actions : L .actions ≤ W .actions
@@ -23,9 +23,19 @@ pub record Within (L W : Limits) : Type 0 where
   pub entries : L .entries ≤ W .entries
   pub refutations : L .refutations ≤ W .refutations
   pub label : L .label ≤ W .label
+  pub terms : L .terms ≡ W .terms
 
 pub within-older : Within olderLimits limits
-within-older = omega arith
+within-older =
+    record {
+      states = omega arith;
+      actions = omega arith;
+      transitions = omega arith;
+      entries = omega arith;
+      refutations = omega arith;
+      label = omega arith;
+      terms = refl;
+    }
 
 -- 'The limits become 128 states, 2,048 entries and 8,128 refutations; transitions stay at 256': the other limits are the same
 pub record OthersStay (L W : Limits) : Type 0 where

@@ -6,8 +6,9 @@
  * lent buffer.
  *
  * Stack. zolkirta_judge, zolkirta_judge_costs and zolkirta_alike use at most 12,500 bytes each, zolkirta_sheet 16,500, zolkirta_reduce
- * 23,500, zolkirta_read_prism 11,000, zolkirta_join and zolkirta_fetch 2,500 (measured, rounded up). In a dynamically linked program the
- * loader adds some 3 KiB when it binds memcpy or memset at the first call. No heap is used.
+ * 23,500, zolkirta_rewrite and zolkirta_rewrite_costs 18,500, zolkirta_read_prism 11,000, zolkirta_join and zolkirta_fetch 2,500
+ * (measured, rounded up). In a dynamically linked program the loader adds some 3 KiB when it binds memcpy or memset at the first
+ * call. No heap is used.
  *
  * Threads. The library has no state and keeps no pointer: any number of calls may run at once.
  *
@@ -19,8 +20,8 @@
 #include <stddef.h>
 #include <stdint.h>
 
-#define ZOLKIRTA_VERSION "0.9.0"
-#define ZOLKIRTA_VERSION_NUMBER 900 /* major * 10000 + minor * 100 + patch */
+#define ZOLKIRTA_VERSION "0.10.0"
+#define ZOLKIRTA_VERSION_NUMBER 1000 /* major * 10000 + minor * 100 + patch */
 
 /* The most states that a model has: a block buffer of this length is always long enough. */
 #define ZOLKIRTA_STATES 128
@@ -30,8 +31,9 @@
 #define ZOLKIRTA_MODEL 8072
 /* The bytes of the longest sheet, 128 lines of 73: a sheet buffer of this length is always long enough. */
 #define ZOLKIRTA_SHEET 9344
-/* Versions before 0.7.0 have 64 states, 1,024 entries and 2,016 refutations for limits. What they accept is accepted with the same blocks;
- * they refuse a larger sound model with 3 or 8. */
+/* Versions before 0.7.0 have 64 states, 1,024 entries and 2,016 refutations for limits, and versions before 0.10.0 take fractions in any terms.
+ * What they accept is accepted with the same blocks, once zolkirta_rewrite has put it into lowest terms where it is not; they refuse a larger
+ * sound model with 3 or 8. */
 
 #ifdef __cplusplus
 extern "C" {
@@ -80,7 +82,12 @@ enum zolkirta_number {
     ZOLKIRTA_LINE = 31,                 /* a line breaks the form or a limit, or the head's counts are not the text's */
     ZOLKIRTA_CHOICE_SUM = 32,           /* the probabilities of a choice do not add up to 1 */
     /* of the call, no file and no place */
-    ZOLKIRTA_MODEL_BUFFER = 33          /* the text is sound, and the buffer is shorter than its model's file */
+    ZOLKIRTA_MODEL_BUFFER = 33,         /* the text is sound, and the buffer is shorter than its model's file */
+    /* in a model, after 7, by every call but the two that rewrite: file 1, or file 3 for the second of two */
+    ZOLKIRTA_TERMS = 34,                /* a transition's weights have a common divisor above 1 */
+    /* of the two calls that rewrite: in the certificate, file 2, then of the call, no file and no place */
+    ZOLKIRTA_REWRITTEN_K = 35,          /* the certificate is accepted, and a k of the rewritten flow is above 4,294,967,295 */
+    ZOLKIRTA_REWRITTEN_BUFFER = 36      /* the certificate is accepted, and a buffer is shorter than its rewritten file */
 };
 
 /* What a call answers.
@@ -103,7 +110,7 @@ typedef struct zolkirta_answer {
                               cost; for 31 where only the head's counts are wrong, the text's length */
     size_t stretch_start;  /* the stretch from that place to the file's end, or the run that was fetched: */
     size_t stretch_length; /* where it starts in its file and how long it is; both 0 where it is empty and has no file */
-    size_t written;        /* bytes written into the lent buffer; 0 on refusal, and where none is lent */
+    size_t written;        /* bytes written into the lent buffer, of two the model's; 0 on refusal, and where none is lent */
     uint32_t state;        /* for 16, 20 and 21 the state whose condition or equation breaks; else 0 */
     int64_t remainder;     /* for 16, 20 and 21 its left side less its right one; else 0 */
 } zolkirta_answer;
@@ -114,13 +121,19 @@ typedef struct zolkirta_alike_answer {
     uint32_t alike; /* 1 for yes, 0 for no; 0 on refusal */
 } zolkirta_alike_answer;
 
+/* What zolkirta_rewrite and zolkirta_rewrite_costs answer: 64 bytes, certificate_written at 56. */
+typedef struct zolkirta_pair_answer {
+    zolkirta_answer answer;     /* its `written` is of the model's buffer */
+    size_t certificate_written; /* bytes written into the certificate's buffer; 0 on refusal */
+} zolkirta_pair_answer;
+
 /* The run of the model's bytes that holds the transitions that leave a state: number 0, with the run in stretch_start and
- * stretch_length, length 0 where none leave. Refusals 1 to 9 with file 1, and 24 where the state is not below the model's
+ * stretch_length, length 0 where none leave. Refusals 1 to 9 and 34 with file 1, and 24 where the state is not below the model's
  * state count. */
 zolkirta_answer zolkirta_fetch(const uint8_t *model, size_t model_length, uint32_t state);
 
 /* Judges a certificate for a model. Number 0: accepted, and the first `written` bytes of the block buffer, one a state, are the
- * blocks; its later bytes stay. Else a refusal, which writes nothing: 1 to 9 in the model (file 1), 10 where the block buffer is
+ * blocks; its later bytes stay. Else a refusal, which writes nothing: 1 to 9 and 34 in the model (file 1), 10 where the block buffer is
  * shorter than the state count (no file, no place), 11 to 22 in the certificate (file 2). */
 zolkirta_answer zolkirta_judge(const uint8_t *model, size_t model_length, const uint8_t *certificate, size_t certificate_length,
                                uint8_t *blocks, size_t blocks_length);
@@ -131,19 +144,20 @@ zolkirta_answer zolkirta_judge(const uint8_t *model, size_t model_length, const 
  * one more price L, 4 bytes signed: in the conditions, L times cost times d of a transition is added to the side of its targets, and in
  * the last one L times the challenger's cost times d0 to the side of G. Number 0: accepted, and the first `written` bytes of the block
  * buffer, one a state, are the blocks, each of which lies inside a block of the same model without its costs; its later bytes stay. Else
- * a refusal, which writes nothing: 1 to 9 and 29 in the model (file 1), 10 where the block buffer is shorter than the state count (no
+ * a refusal, which writes nothing: 1 to 9, 29 and 34 in the model (file 1), 10 where the block buffer is shorter than the state count (no
  * file, no place), 11 to 22 and 30 in the certificate (file 2). The record of costs is read after the transitions: 1 and 2, then 29 at
  * the byte of the first cost above 63, then 9. 30 comes after 21, without a state and a remainder.
  *
- * No merged file is written for cost pairs, and no other call takes a cost model: it is refused with 9 where its costs begin. */
+ * No merged file is written for cost pairs, and no other call but zolkirta_rewrite_costs takes a cost model: it is refused with 9 where its
+ * costs begin. */
 zolkirta_answer zolkirta_judge_costs(const uint8_t *model, size_t model_length, const uint8_t *certificate, size_t certificate_length,
                                      uint8_t *blocks, size_t blocks_length);
 
 /* Judges a certificate for a model and writes the model with each block merged into one state. Of the transitions of a block with one
- * action and the same probabilities, in whatever terms, the first is kept, in its own terms. Number 0: accepted, and the first
- * `written` bytes of `out` are the merged model's file, which is no longer than the model's; its later bytes stay. Else a refusal,
- * which writes nothing: 1 to 9 in the model (file 1), 11 to 22 in the certificate (file 2), and 23 where the certificate is accepted
- * and `out` is shorter than the file (no file, no place).
+ * action and the same probabilities the first is kept. Weights are added up by block, then divided: the file is in lowest terms. Number 0:
+ * accepted, and the first `written` bytes of `out` are the merged model's file, which is no longer than the model's; its later bytes stay.
+ * Else a refusal, which writes nothing: 1 to 9 and 34 in the model (file 1), 11 to 22 in the certificate (file 2), and 23 where the
+ * certificate is accepted and `out` is shorter than the file (no file, no place).
  *
  * The merged model may be used for the model: each state behaves as the merged state that has its block's number. So where the two are
  * joined and certified, zolkirta_alike says yes of a state s and n + the block of s, n being the model's state count. */
@@ -153,22 +167,22 @@ zolkirta_answer zolkirta_reduce(const uint8_t *model, size_t model_length, const
 /* Judges a certificate for a model and writes its blocks as a sheet, text in ASCII to print. Each line has 72 characters and a newline:
  * block number in 4 columns, its size in 4, and up to 16 of its states in 4 each, all right-aligned; further lines of a block leave the
  * first 8 columns blank, and what is left of its last line is spaces. Blocks and their states ascend. Number 0: accepted, and the first
- * `written` bytes of `sheet` are the sheet; its later bytes stay, and no byte 0 follows. Else a refusal, which writes nothing: 1 to 9 in
- * the model (file 1), 11 to 22 in the certificate (file 2), and 28 where the certificate is accepted and `sheet` is shorter than the
+ * `written` bytes of `sheet` are the sheet; its later bytes stay, and no byte 0 follows. Else a refusal, which writes nothing: 1 to 9 and
+ * 34 in the model (file 1), 11 to 22 in the certificate (file 2), and 28 where the certificate is accepted and `sheet` is shorter than the
  * sheet (no file, no place). */
 zolkirta_answer zolkirta_sheet(const uint8_t *model, size_t model_length, const uint8_t *certificate, size_t certificate_length,
                                uint8_t *sheet, size_t sheet_length);
 
 /* Writes two models as one: the second's states and transitions follow the first's, its state numbers raised by the first's state
  * count; labels are kept, and the action count is the larger one. Number 0: the first `written` bytes of `out` are the joined
- * model's file; its later bytes stay. Else a refusal, which writes nothing: 1 to 9 in the first model (file 1), then 1 to 9 in the
- * second (file 3), then 25 where the joined model passes a limit and 26 where `out` is shorter than the file (no file, no place). */
+ * model's file; its later bytes stay. Else a refusal, which writes nothing: 1 to 9 and 34 in the first model (file 1), then the
+ * same in the second (file 3), then 25 where the joined model passes a limit and 26 where `out` is shorter than the file (no file, no place). */
 zolkirta_answer zolkirta_join(const uint8_t *first, size_t first_length, const uint8_t *second, size_t second_length, uint8_t *out,
                               size_t out_length);
 
 /* Judges a certificate for a joined model and says whether a state of the first part behaves as one of the second. `first_count` is
  * the state count of the first part; both states go by their numbers in the joined model. Number 0: accepted, and `alike` is 1 where
- * the two share a block, else 0. Other numbers refuse: 1 to 9 in the model (file 1), 11 to 22 in the certificate (file 2), and 27
+ * the two share a block, else 0. Other numbers refuse: 1 to 9 and 34 in the model (file 1), 11 to 22 in the certificate (file 2), and 27
  * where the certificate is accepted, but `first_count` is above the state count, `first_state` is not below `first_count`, or
  * `second_state` is below it or not below the state count (no file, no place). */
 zolkirta_alike_answer zolkirta_alike(const uint8_t *model, size_t model_length, uint32_t first_count, const uint8_t *certificate,
@@ -192,6 +206,23 @@ zolkirta_alike_answer zolkirta_alike(const uint8_t *model, size_t model_length, 
  * begin with the choice's source, a space, its number and a space, and it comes ahead of 31 there. Both have file 1. Then 33, where `out`
  * is shorter than the file (no file, no place). */
 zolkirta_answer zolkirta_read_prism(const uint8_t *text, size_t text_length, uint8_t *out, size_t out_length);
+
+/* Judges a stored pair by the rules from before version 0.10.0, without 34, and writes it in lowest terms: the weights and d of each transition
+ * are divided by their greatest common divisor g, and each k of a flow for that transition is multiplied by g; all else stays. Number 0:
+ * accepted, and the first `answer.written` bytes of `model_out` and the first `certificate_written` bytes of `certificate_out` are the
+ * rewritten files, each as long as the stored one; later bytes stay. The rewritten pair is accepted, with the same blocks, by zolkirta_judge
+ * and every other call. Else a refusal, which writes nothing into either buffer: 1 to 9 in the model (file 1), 11 to 22 in the certificate
+ * (file 2); then, the certificate being accepted, 35 at the first flow record in which a k times g is above 4,294,967,295 (file 2); then 36
+ * where a buffer is shorter than its file (no file, no place). */
+zolkirta_pair_answer zolkirta_rewrite(const uint8_t *model, size_t model_length, const uint8_t *certificate, size_t certificate_length,
+                                      uint8_t *model_out, size_t model_out_length, uint8_t *certificate_out,
+                                      size_t certificate_out_length);
+
+/* The same for a cost pair, judged by the rule with costs: 29 in the model and 30 in the certificate as well. Costs and L stay, and
+ * zolkirta_judge_costs accepts the rewritten pair, with the same blocks. */
+zolkirta_pair_answer zolkirta_rewrite_costs(const uint8_t *model, size_t model_length, const uint8_t *certificate,
+                                            size_t certificate_length, uint8_t *model_out, size_t model_out_length,
+                                            uint8_t *certificate_out, size_t certificate_out_length);
 
 #ifdef __cplusplus
 }

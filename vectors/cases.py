@@ -3,16 +3,20 @@
 
 C1 to C10 of document 01; the cases that it lists under 'Also run', at the limits of K7 and at the older ones, files of the most bytes that the
 program reads, a pair with states that reach a move only by internal steps, refutations and blocks on either side of state 64, transitions
-that are the same in other terms, models joined at the limits, sheets of blocks of 1, 16, 17, 33 and 128 states and of 112 blocks, three
-cost pairs, one with a model above 8,192 bytes, and what other calls say to the first, and every truncation of model S, with their answers by
-hand; and the lines of base.txt, k1.txt, k3.txt, k4.txt, k6.txt and k7.txt with the answers that stand there, but for refusals 10, 23, 26 and 28: the program lends buffers that are always
-long enough. Merged models of base.txt, which is older than K3, lose what K3 drops, and lines about the limits that K7 raised are left out.
+that are the same in other terms once they are merged, models that are not in lowest terms, models joined at the limits, sheets of blocks of 1, 16,
+17, 33 and 128 states and of 112 blocks, three cost pairs, one with a model above 8,192 bytes, and what other calls say to the first, and every
+truncation of model S, with their answers by
+hand; and the lines of base.txt, k1.txt, k3.txt, k4.txt, k6.txt, k7.txt and k10.txt with the answers that stand there, but for refusals 10, 23, 26
+and 28: the program lends buffers that are always long enough, and does not rewrite. Merged models of base.txt, which is older than K3, lose what K3
+drops, and lines about the limits that K7 raised are left out. A line from before K10 whose models are not in lowest terms gets 34; and its own
+answer once models and certificate are rewritten here.
 
 With the name of a folder the two files are written there, and not into crates/cases.
 """
 import os
 import sys
 from fractions import Fraction
+from math import gcd
 
 from files import FIRST, MEETS, S, S_CERTIFICATE, SECOND, STAYS, certificate, flow, model, refutation
 
@@ -190,29 +194,59 @@ def internal_steps():
 
 
 def halves_and_quarters():
-    """Transitions of one block in other terms (K3). No two states are alike, but for the last pair's first two."""
-    half, quarters = [(0, 1), (1, 1)], [(0, 2), (1, 2)]
+    """Transitions of one block in other terms (K3), which are so once the targets 1 and 2 are merged, and are written in lowest terms (K10). But for
+    these two and the last pair's first two no states are alike."""
+    half, quarters = [(0, 1), (1, 1)], [(0, 2), (1, 1), (2, 1)]
 
     def merged(transitions, kept):
-        files = [model(3, 3, (0, 1, 2), x) for x in (transitions, kept)]
-        return reduce(files[0], certificate([], (0, 1, 2), []), (0, 0, 0), files[1])
+        original, small = model(4, 3, (0, 1, 1, 2), transitions), model(3, 3, (0, 1, 2), kept)
+        return reduce(original, certificate([], (0, 1, 1, 2), []), (0, 0, 0), small)
 
     yield merged([(0, 1, 2, half), (0, 1, 4, quarters)], [(0, 1, 2, half)])
-    yield merged([(0, 1, 4, quarters), (0, 1, 2, half)], [(0, 1, 4, quarters)])
-    shares = [(0, 1, 2, half), (0, 1, 4, [(0, 1), (1, 3)]), (0, 1, 4, [(0, 3), (1, 1)]), (0, 1, 2, [(0, 2)]), (0, 1, 2, [(1, 2)])]
-    shares += [(0, 1, 2, [(0, 1), (2, 1)]), (0, 1, 4, [(0, 2), (1, 1), (2, 1)])]
-    yield merged(shares, shares)
-    yield merged(shares + [(0, 1, 6, [(0, 3), (1, 3)])], shares)
-    yield merged([(0, 1, 6, [(0, 2), (1, 4)]), (0, 1, 9, [(0, 3), (1, 6)])], [(0, 1, 6, [(0, 2), (1, 4)])])
+    yield merged([(0, 1, 4, quarters), (0, 1, 2, half)], [(0, 1, 2, half)])
+    shares = [(0, 1, 2, half), (0, 1, 4, [(0, 1), (1, 3)]), (0, 1, 4, [(0, 3), (1, 1)]), (0, 1, 1, [(0, 1)]), (0, 1, 1, [(1, 1)])]
+    kept = shares + [(0, 1, 2, [(0, 1), (2, 1)]), (0, 1, 4, [(0, 2), (1, 1), (2, 1)])]
+    shares += [(0, 1, 2, [(0, 1), (3, 1)]), (0, 1, 4, [(0, 2), (1, 1), (3, 1)])]
+    yield merged(shares, kept)
+    yield merged(shares + [(0, 1, 6, [(0, 3), (1, 1), (2, 2)]), (0, 1, 2, [(1, 1), (2, 1)]), (0, 1, 65535, [(1, 1), (2, 65534)])], kept)
+    yield merged([(0, 1, 6, [(0, 2), (1, 1), (2, 3)]), (0, 1, 9, [(0, 3), (1, 1), (2, 5)])], [(0, 1, 3, [(0, 1), (1, 2)])])
+    # divided though no other is the same: 2/2, 65,535/65,535, and 6, 10 and 14, but not 6, 10 and 15
+    yield merged([(0, 1, 2, [(1, 1), (2, 1)])], [(0, 1, 1, [(1, 1)])])
+    yield merged([(0, 1, 65535, [(1, 32768), (2, 32767)])], [(0, 1, 1, [(1, 1)])])
+    yield merged([(0, 1, 30, [(0, 6), (1, 3), (2, 7), (3, 14)])], [(0, 1, 15, [(0, 3), (1, 5), (2, 7)])])
+    yield merged([(0, 1, 31, [(0, 6), (1, 3), (2, 7), (3, 15)])], [(0, 1, 31, [(0, 6), (1, 10), (2, 15)])])
     # products that are the same in two bytes, and fractions that hardly differ
-    near = [(0, 1, 256, [(0, 200), (1, 56)]), (0, 1, 512, [(0, 144), (1, 368)])]
+    near = [(0, 1, 257, [(0, 241), (1, 16)]), (0, 1, 273, [(0, 1), (1, 272)])]
     near += [(0, 1, 65535, [(0, 32768), (1, 32767)]), (0, 1, 65533, [(0, 32767), (1, 32766)])]
     yield merged(near, near)
-    actions = [(0, 2, 4, quarters), (0, 1, 2, half)]
-    yield merged(actions, actions)
-    both = model(3, 2, (0, 0, 1), [(0, 1, 2, [(0, 1), (2, 1)]), (1, 1, 4, [(1, 2), (2, 2)])])
-    flows = [flow(4, [(1, 1, 1)], [(1, 0, 2), (2, 2, 2)]), flow(2, [(1, 0, 1)], [(0, 1, 1), (2, 2, 1)])]
+    yield merged([(0, 2, 4, quarters), (0, 1, 2, half)], [(0, 2, 2, half), (0, 1, 2, half)])
+    both = model(3, 2, (0, 0, 1), [(0, 1, 2, [(0, 1), (2, 1)]), (1, 1, 4, [(0, 1), (1, 1), (2, 2)])])
+    flows = [flow(4, [(1, 1, 1)], [(0, 0, 1), (1, 0, 1), (2, 2, 2)]), flow(4, [(1, 0, 2)], [(0, 0, 1), (0, 1, 1), (2, 2, 2)])]
     yield reduce(both, certificate([], (0, 0, 1), flows), (0, 0, 0), model(2, 2, (0, 1), [(0, 1, 2, half)]))
+
+
+def lowest_terms():
+    """34 in every call, after 7 and before the next record."""
+    def of(*transitions):
+        return model(3, 1, [0] * 3, [(0, 0, sum(p for _, p in entries), entries) for entries in transitions])
+
+    sound, even = [(0, 6), (1, 10), (2, 15)], [(0, 6), (1, 10), (2, 14)]
+    yield no_state(of(sound), 3)
+    for m, place in (of(even), 11), (of(sound, even), 27), (of(sound, [(2, 65535)], even), 27), (of([(1, 2)]), 11):
+        yield unsound(m, 34, place)
+        yield refused(m, S_CERTIFICATE, 34, 1, place)
+        yield judge_costs(m + b'CO' + bytes(m[5]), b'CC' + S_CERTIFICATE[2:], (34, 1, place))
+        yield reduce(m, S_CERTIFICATE, (34, 1, place), b'')
+        yield sheet(m, S_CERTIFICATE, (34, 1, place))
+        yield alike(m, S_CERTIFICATE, (1, 0, 1), (34, 1, place), False)
+        yield join(m, S, (34, 1, place))
+        yield join(S, m, (34, 3, place))
+    both = of(even, even)
+    yield unsound(both[:16] + b'\x1f' + both[17:], 7, 11)
+    yield unsound(both[:26], 1, 11)
+    yield unsound(both[:27], 34, 11)
+    yield unsound(both[:32] + b'\x1f' + both[33:], 34, 11)
+    yield unsound(both + b'\0', 34, 11)
 
 
 def truncations():
@@ -358,27 +392,97 @@ def about_the_limits(first, second, answer):
     return False
 
 
+def transitions_before(m, end):
+    """The places of the transitions of a model that begin before a place, and where each ends; those before it are whole."""
+    at = 8 + m[2] if len(m) > 2 else end
+    for _ in range(two(m, 4) if len(m) > 5 else 0):
+        if at >= end:
+            return
+        yield at, at + 7 + 3 * m[at + 6]
+        at += 7 + 3 * m[at + 6]
+
+
+def weights(m, at, end):
+    return [two(m, e + 1) for e in range(at + 7, end, 3)]
+
+
+def in_lowest_terms(m, end):
+    """The model with its transitions before a place divided, and by what each is."""
+    out, divisors = bytearray(m), []
+    for at, past in transitions_before(m, end):
+        divisors.append(gcd(*weights(m, at, past)))
+        for e in (at + 4, *range(at + 8, past, 3)):
+            out[e:e + 2] = (two(m, e) // divisors[-1]).to_bytes(2, 'big')
+    return bytes(out), divisors
+
+
+def with_k(m, c, divisors):
+    """A certificate for the model in lowest terms, as far as its records are whole: each k times its transition's divisor. None where one does not
+    fit."""
+    n, actions, out = m[2], [m[at + 3] for at, _ in transitions_before(m, len(m))][:len(divisors)], bytearray(c)
+    at = 4
+    while c[at:at + 2] == b'PX' and len(c) >= at + 4 and two(c, at + 2) < len(actions):
+        at += 5 + 4 * n * (2 if actions[two(c, at + 2)] == 0 else 3) + (4 if c[:2] == b'CC' else 0)
+    at += 2 + n
+    while c[at:at + 2] == b'FL' and len(c) >= at + 8:
+        past = at + 8 + 7 * two(c, at + 6)
+        for e in range(at + 8, min(past, len(c) - 6), 7):
+            if two(c, e + 1) < len(divisors):
+                k = int.from_bytes(c[e + 3:e + 7], 'big') * divisors[two(c, e + 1)]
+                if k >= 1 << 32:
+                    return None
+                out[e + 3:e + 7] = k.to_bytes(4, 'big')
+        if len(c) < past + 2:
+            break
+        at = past + 2 + 6 * two(c, past)
+    return bytes(out)
+
+
+def stored(call, arguments, first, second, answer, where, yes, out):
+    """The cases of a line from before K10: its own, or where a model is not in lowest terms 34, and its own once it is rewritten."""
+    file = answer[1]
+    lowest, divisors, told = [first, second], [], []
+    models = [(0, 1), (1, 3)] if call == 'join' else [(0, 1)]
+    for i, number in models[:1] if file == 1 else models:
+        m = (first, second)[i]
+        end = answer[2] if file == number and answer[0] not in (9, 29) else len(m)
+        lowest[i], divided = in_lowest_terms(m, end)
+        divisors += divided
+        told += [(34, number, at) for (at, _), g in zip(transitions_before(m, end), divided) if g > 1][:1]
+    out = in_lowest_terms(out, len(out))[0] if call in ('reduce', 'join') else out
+    if told:
+        rest = (second if told[0][1] == 3 else first)[told[0][2]:]
+        yield case_of(call, arguments, first, second, told[0], (told[0][2], len(rest)), False, b'')
+    if call not in ('join', 'fetch') and file != 1:
+        lowest[1] = with_k(first, second, divisors)
+    if lowest[1] is not None:
+        yield case_of(call, arguments, *lowest, answer, where, yes, out)
+
+
 def lines(name):
-    """The call, arguments, files, answer, run or stretch, yes and bytes written of each line that the program can answer."""
+    """The call, arguments, files, answer, place and length of the run or stretch, yes and bytes written of each line that the program can answer."""
     about = 0
     for line in open(os.path.join(HERE, name)):
         call, arguments, *rest = line.split()
+        if call in ('rewrite', 'rewrite_costs'):
+            continue
         files, numbers, outs = (rest[:2], rest[2:7], rest[7:]) if name == 'base.txt' else (rest[0].split(','), rest[1:9], rest[9:])
         first, second, out = (b'' if x == '-' else bytes.fromhex(x) for x in [*files, '-'][:2] + outs)
         number, file, place, stretch, run, *told = map(int, numbers)
-        if name != 'k7.txt' and about_the_limits(first, second, (number, file, place)):
+        if name not in ('k7.txt', 'k10.txt') and about_the_limits(first, second, (number, file, place)):
             about += 1
         elif number not in (10, 23, 26, 28):
-            start = run if number == 0 else place
-            part = (second if file > 1 else first)[start:start + stretch]
-            assert len(part) == stretch
-            yield call, tuple(map(int, arguments.split(','))), first, second, (number, file, place), part, told[-1:] == [1], out
+            where = run if number == 0 else place, stretch
+            yield call, tuple(map(int, arguments.split(','))), first, second, (number, file, place), where, told[-1:] == [1], out
     # as many as tests/vectors.rs of hosts/rust finds
     assert about == {'base.txt': 46, 'k1.txt': 10, 'k3.txt': 9, 'k6.txt': 18}.get(name, 0)
 
 
-def case_of(call, arguments, first, second, answer, part, yes, out):
+def case_of(call, arguments, first, second, answer, where, yes, out):
     if call == 'fetch':
+        start, stretch = where
+        part = first[start:start + stretch]
+        assert len(part) == stretch
         return fetch(first, *arguments, answer, part)
     if call == 'alike':
         return alike(first, second, arguments, answer, yes)
@@ -390,7 +494,9 @@ def case_of(call, arguments, first, second, answer, part, yes, out):
 def from_requests():
     for name in 'k1.txt', 'k3.txt', 'k4.txt', 'k6.txt', 'k7.txt':
         for line in lines(name):
-            yield case_of(*line)
+            yield from stored(*line)
+    for line in lines('k10.txt'):
+        yield case_of(*line)
 
 
 def as_fractions(merged):
@@ -406,13 +512,14 @@ def as_fractions(merged):
 
 
 def from_vectors():
-    for call, arguments, m, c, answer, part, yes, out in lines('base.txt'):
+    for call, arguments, m, c, answer, where, yes, out in lines('base.txt'):
         merged = as_fractions(out) if call == 'reduce' and answer[0] == 0 else out
-        yield case_of(call, arguments, m, c, answer, part, yes, merged)
+        yield from stored(call, arguments, m, c, answer, where, yes, merged)
         if call != 'fetch':
             # and its model by itself
             number, file, place = answer
-            yield unsound(m, number, place) if file == 1 else no_state(m, ABSENT)
+            told = (answer, (place, len(m) - place)) if file == 1 else ((24, 0, 0), (0, 0))
+            yield from stored('fetch', (0 if file == 1 else ABSENT,), m, b'', *told, False, b'')
 
 
 def all_cases():
@@ -420,7 +527,7 @@ def all_cases():
     found = {}
     by_hand = (
         proved_cases(), pairs_also_run(), internal_steps(), on_either_side_of_state_64(), halves_and_quarters(), models_also_run(), truncations(),
-        joined_at_the_limits(), sheets(), costs())
+        joined_at_the_limits(), sheets(), costs(), lowest_terms())
     for source in (*by_hand, from_vectors(), from_requests()):
         for data, text in source:
             assert found.setdefault(data, text) == text

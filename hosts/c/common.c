@@ -13,6 +13,8 @@ ASSERT(answer_fields, offsetof(zolkirta_answer, number) == 0 && offsetof(zolkirt
 ASSERT(answer_size, sizeof(zolkirta_answer) == 56);
 ASSERT(alike_fields, offsetof(zolkirta_alike_answer, answer) == 0 && offsetof(zolkirta_alike_answer, alike) == 56);
 ASSERT(alike_size, sizeof(zolkirta_alike_answer) == 64);
+ASSERT(pair_fields, offsetof(zolkirta_pair_answer, answer) == 0 && offsetof(zolkirta_pair_answer, certificate_written) == 56);
+ASSERT(pair_size, sizeof(zolkirta_pair_answer) == 64);
 
 /* Far more bytes than any model has, and more than a certificate is likely to have. */
 #define ROOM ((size_t)16 << 20)

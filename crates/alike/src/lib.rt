@@ -79,7 +79,7 @@ pub fn alike_answer(
             alike: 0,
         };
     }
-    let found = judgement::judge_files(Kind::Plain, Terms::Any, model, certificate, STATES);
+    let found = judgement::judge_files(Kind::Plain, Terms::Lowest, model, certificate, STATES);
     match found {
         Verdict::Accepted {
             states,

@@ -23,6 +23,13 @@ pub struct Answer {
     pub remainder: i64,
 }
 
+// What a call that lends two buffers answers: beside the answer, how many bytes were written into the second.
+#[repr(C)]
+pub struct PairAnswer {
+    pub answer: Answer,
+    pub certificate_written: usize,
+}
+
 pub fn without_place(number: u32, written: usize) -> Answer
     ensures { λ r. ⌜ Says (answerWithoutPlace number) written r ⌝ }
 {

@@ -40,6 +40,16 @@ pub fn broken(number: u32, state: usize, remainder: i64) -> Fault
     }
 }
 
+// The first of two faults in reading order.
+pub fn first_of(first: Fault, next: Fault) -> Fault
+    ensures { λ r. ⌜ faultOf r ≡ rules.firstOf (faultOf first) (faultOf next) ⌝ }
+{
+    if first.number != 0 {
+        return first;
+    }
+    next
+}
+
 impl Fault {
     // The same, with its place.
     pub fn at(self, place: usize) -> Fault

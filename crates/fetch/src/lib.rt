@@ -64,7 +64,7 @@ fn fetch_run(s: &[u8], state: usize) -> Fetched
         return Fetched::Unsound(wrong);
     }
     let mut places = model::no_places();
-    let scanned = model::scan_whole(s, Terms::Any, &mut places);
+    let scanned = model::scan_whole(s, Terms::Lowest, &mut places);
     match scanned {
         Scanned::Sound(m) => {
             let n = m.states;

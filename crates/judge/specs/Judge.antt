@@ -6,7 +6,7 @@ use Rattle.rules.specs.definitions.Limits.{current}
 use Rattle.rules.specs.definitions.JudgedBy.{plainPairs}
 use Rattle.rules.specs.definitions.Answers.{writesBlocks, JudgeNumber}
 use Rattle.rules.specs.definitions.Demands.{PairDemands, outcomeBy, Demands}
-use Rattle.cost_files.specs.definitions.CostAnswer.{CostDemands}
+use Rattle.cost_files.specs.definitions.CostAnswer.{CostJudgeDemands}
 use Rattle.limits.specs.TermsBy.{currentTerms}
 use Rattle.rule_kind.specs.Kinds.{pairsBy}
 use Rattle.rule_kind.specs.declared.Kind.{Kind}
@@ -18,7 +18,7 @@ use Rattle.judgement.specs.Verdicts.{PairAnswered}
 -- their demands, by the step rule
 abbrev pub judgeDemands : Kind → PairDemands
 judgeDemands Plain = Demands plainPairs writesBlocks (JudgeNumber (current .terms))
-judgeDemands Costs = CostDemands
+judgeDemands Costs = CostJudgeDemands
 
 -- a pair judged by the step rule, the blocks written into the lent block buffer
 abbrev pub JudgeAnswered : Kind → (model certificate before after : List ℕ) → Answer → Type 0

@@ -29,7 +29,7 @@ fn judge_headed(kind: Kind, model: &[u8], certificate: &[u8], blocks: &mut [u8])
     requires { ⌜ headFault limits (now model) .number ≡ 0 ⌝ }
     ensures { λ r. ⌜ JudgeAnswered kind (now (model .entry)) (now (certificate .entry)) (now (blocks .entry)) (now (blocks .exit)) r ⌝ }
 {
-    let found = judgement::judge_files(kind, Terms::Any, model, certificate, blocks.len());
+    let found = judgement::judge_files(kind, Terms::Lowest, model, certificate, blocks.len());
     match found {
         Verdict::Accepted {
             states,

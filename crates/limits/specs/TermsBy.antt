@@ -10,7 +10,7 @@ termsOf Lowest = lowestTerms
 
 -- those of the calls
 abbrev pub currentTerms : Terms
-currentTerms = Any
+currentTerms = Lowest
 
 -- the limits, with these terms
 abbrev pub limitsBy : Terms → Limits

@@ -1,17 +1,16 @@
 -- Laws of the merged transitions in a buffer: what a transition that is looked at comes to.
-use Prim.Native.Nat.{ℕ, zero, suc, _+_, _*_, _-_, _≤_, _<_}
+use Prim.Native.Nat.{ℕ, _+_, _*_, _-_, _≤_, _<_}
 use mathlib.Core.Path.{_≡_, refl, sym, _∙_, ap, ap₂, subst}
 use mathlib.Core.Bool.{Bool, true, false}
 use mathlib.Core.List.{List, [], _∷_, _++_, append-assoc, append-nil}
 use lib.ListN.{length, getD, take, drop, length-append}
-use lib.Seq.{length-take-le, take-append-seam, drop-append-seam, take-all}
+use lib.Seq.{take-append-seam, drop-append-seam, take-all}
 use native.Mathlib.Omega.{arith}
-use Rattle.bisimulation.specs.definitions.Choice.{ifSame, ifTrue}
+use Rattle.bisimulation.specs.definitions.Choice.{ifTrue}
 use Rattle.bisimulation.specs.argument.ChoiceLaws.{same, notSame, isTrue, isFalse}
-use Rattle.rules.specs.definitions.Limits.{limits}
-use Rattle.rules.specs.definitions.Model.{Entry, Transition, Model, transitionBytes, transitionsBytes, noTransition, automatonOf}
-use Rattle.rules.specs.definitions.Reading.{statesOf, countOf, entryCountAt, transitionAt, modelAt, placeOf}
-use Rattle.rules.specs.definitions.SoundModel.{Each, sumOver, TransitionRules, SoundModel}
+use Rattle.rules.specs.definitions.Model.{Transition, transitionBytes, transitionsBytes, noTransition, automatonOf}
+use Rattle.rules.specs.definitions.Reading.{entryCountAt, transitionAt, modelAt, placeOf}
+use Rattle.rules.specs.definitions.SoundModel.{Each, sumOver, TransitionRules, LowestTerms}
 use Rattle.rules.specs.argument.SoundModelLaws.{each-at, each-map}
 use Rattle.rules.specs.argument.ReadBack.{transitionBytes-length}
 use Rattle.rules.specs.argument.ModelAutomaton.{transition-is}
@@ -19,14 +18,14 @@ use Rattle.rules.specs.argument.FetchedRun.{length-entriesAt}
 use Rattle.quotient.specs.argument.KeyedSums.{each-all, sumOver-most, sumOver-length}
 use Rattle.rules.specs.definitions.BlockCount.{blockCount}
 use Rattle.quotient.specs.definitions.Quotient.{mergedTransition, fromBlock, isAmong, distinct, byBlock}
-use Rattle.quotient.specs.argument.QuotientLaws.{merged-few, merged-rules, each-distinct, each-from, transitions-length}
+use Rattle.quotient.specs.argument.QuotientLaws.{merged-few, merged-rules, merged-lowest, each-distinct, each-from, transitions-length}
 use Rattle.limits.specs.Sizes.{records}
 use Rattle.transition_record.specs.declared.Fields.{Fields}
-use Rattle.transition.specs.Known.{Known, KnownTransition, FieldsOf}
-use Rattle.transition.specs.KnownLaws.{known-own, known-states, known-transitions, known-transition, few-transitions}
+use Rattle.transition.specs.Known.{Known, FieldsOf}
+use Rattle.transition.specs.KnownLaws.{known-states, known-transitions, known-transition}
 use Rattle.writer.specs.Appends.{Appends}
 use Rattle.writer.specs.AppendsLaws.{front-kept, appended-part, appended-front, transitions-append}
-use Rattle.merged_transition.specs.MergedTransition.{NoWeights, BlocksBelow, CanMerge, Merged}
+use Rattle.merged_transition.specs.MergedTransition.{BlocksBelow, CanMerge, Merged}
 use Rattle.same_transition.specs.SameTransition.{StandAs, IsRepeated}
 use Rattle.merged_transitions.specs.declared.Kept.{Kept}
 use Rattle.merged_transitions.specs.MergedTransitions.{transitionsIn, Holds, before, here, InBlock, CanKeep, Keeps}
@@ -85,10 +84,18 @@ module _ {s places : List ℕ} {n count : ℕ} (k : Known s n count places) wher
     merged-sound : (t : Transition) → TransitionRules (length (modelAt s .labels)) (modelAt s .actions) t → TransitionRules (blockCount blocks) (modelAt s .actions) (mergedTransition blocks t)
     merged-sound t h = merged-rules blocks (length (modelAt s .labels)) (modelAt s .actions) t h below-count
 
+    -- in lowest terms
+    merged-in-lowest : (t : Transition) → TransitionRules (length (modelAt s .labels)) (modelAt s .actions) t → LowestTerms (mergedTransition blocks t)
+    merged-in-lowest t h = merged-lowest blocks (length (modelAt s .labels)) (modelAt s .actions) t h below-count
+
+    -- what merged transitions have, those of a block have
+    block-each : (P : Transition → Type 0) → ((t : Transition) → TransitionRules (length (modelAt s .labels)) (modelAt s .actions) t → P (mergedTransition blocks t)) → (c r : ℕ) → Each P (fromBlock blocks (take r (transitionsIn s)) c)
+    block-each P f c r =
+        each-from blocks P c (take r (transitionsIn s))
+        (each-first _ r (transitionsIn s) (each-map _ _ (λ t h e. f t h) (transitionsIn s) (k .sound .transitions)))
+
     block-sound : (c r : ℕ) → Each (TransitionRules (blockCount blocks) (modelAt s .actions)) (fromBlock blocks (take r (transitionsIn s)) c)
-    block-sound c r =
-        each-from blocks _ c (take r (transitionsIn s))
-        (each-first _ r (transitionsIn s) (each-map _ _ (λ t h e. merged-sound t h) (transitionsIn s) (k .sound .transitions)))
+    block-sound = block-each _ merged-sound
 
 -- a transition of another block changes nothing
 pub keep-other : {s places : List ℕ} {n count : ℕ} {blocks : List ℕ} {k b r : ℕ} {weights out : List ℕ} {start : ℕ} {kept : Kept} → CanKeep s places n count blocks k b r weights out start kept → r < count → (getD blocks (getD (transitionsIn s) r noTransition .source) 0 ≡ b → ⊥) → Keeps s blocks b r weights out out start kept
@@ -164,6 +171,9 @@ module _ {s places : List ℕ} {n count : ℕ} {blocks : List ℕ} {k b r : ℕ}
           record-bytes = appended-part appended;
           rules = merged-sound (c .known) (c .merging) (getD (transitionsIn s) r noTransition) next-rules;
           alike = each-distinct (blockCount blocks) _ [] (fromBlock blocks (take r (transitionsIn s)) b) (block-sound (c .known) (c .merging) b r);
+          lowest = merged-in-lowest (c .known) (c .merging) (getD (transitionsIn s) r noTransition) next-rules;
+          allLowest =
+              each-distinct (blockCount blocks) _ [] (fromBlock blocks (take r (transitionsIn s)) b) (block-each (c .known) (c .merging) LowestTerms (merged-in-lowest (c .known) (c .merging)) b r);
         }
 
     one-more : here blocks (transitionsIn s) b (r + 1) ≡ here blocks (transitionsIn s) b r ++ ifTrue (isAmong (blockCount blocks) added (here blocks (transitionsIn s) b r)) [] (added ∷ [])

@@ -2,6 +2,7 @@
 pub mod KeyedSums
 pub mod Lists
 pub mod SameTransitions
+pub mod MergedTerms
 pub mod QuotientLaws
 pub mod KeptTransitions
 pub mod MergedSpelling

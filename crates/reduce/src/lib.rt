@@ -32,7 +32,7 @@ pub fn reduce_answer(model: &[u8], certificate: &[u8], out: &mut [u8]) -> Answer
     if head.number != 0 {
         return head;
     }
-    let found = judgement::judge_files(Kind::Plain, Terms::Any, model, certificate, STATES);
+    let found = judgement::judge_files(Kind::Plain, Terms::Lowest, model, certificate, STATES);
     match found {
         Verdict::Accepted {
             states,

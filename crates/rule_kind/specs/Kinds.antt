@@ -34,6 +34,7 @@ pairsBy kind terms =
     record {
       limits = limitsBy terms;
       read = pairsAt kind (limitsBy terms) .read;
+      spelled = pairsAt kind (limitsBy terms) .spelled;
       isFile = pairsAt kind (limitsBy terms) .isFile;
       file = ruleOf kind;
       says = pairsAt kind (limitsBy terms) .says;

@@ -1,3 +1,4 @@
 -- Computed cases.
 pub mod Cases
 pub mod MoreCases
+pub mod TermsCases

@@ -1,3 +1,2 @@
 pub mod SameTransition
-pub mod SharesLaws
 pub mod SameTransitionLaws

@@ -1,40 +1,25 @@
--- Laws of records in a buffer: they agree exactly when their transitions are the same, and they are walked one after the other.
+-- Laws of records in a buffer: they are the same bytes exactly when their transitions are the same, and they are walked one after the other.
 use Prim.Native.Nat.{ℕ, zero, suc, _+_, _*_, _-_, _≤_, _<_}
 use mathlib.Core.Path.{_≡_, refl, sym, _∙_, ap, ap₂, subst}
-use mathlib.Core.Bool.{Bool, true, false, cond}
+use mathlib.Core.Bool.{Bool, true, false}
 use mathlib.Core.List.{List, [], _∷_, _++_, append-assoc}
-use lib.Dec.{eqb}
-use lib.ListN.{length, getD, take, drop, length-drop, length-append, take-append-drop}
-use lib.Seq.{length-take-le, drop-drop}
+use lib.ListN.{length, getD, take, drop, length-drop, length-append, take-append-drop, List·getD-append}
+use lib.Seq.{length-take-le, drop-drop, getD-drop}
 use borrow.Author.Tests.{eqb-true, eq-eqb, ne-eqb}
 use native.Mathlib.Decide.{ℕ-discrete}
-use native.Mathlib.Nat.{mul-le-mul, eq-of-mul-eq-mul-right}
 use native.Mathlib.Omega.{arith}
-use Rattle.bisimulation.specs.definitions.Choice.{ifTrue, both, allBelow}
-use Rattle.bisimulation.specs.argument.ChoiceLaws.{isTrue, isFalse, false-not, one-test, both-true, true-both, all-below, below-all, not-all}
+use Rattle.bisimulation.specs.definitions.Choice.{ifTrue}
+use Rattle.bisimulation.specs.argument.ChoiceLaws.{isTrue, isFalse, one-test, all-below, below-all, not-all}
 use Rattle.rules.specs.definitions.Bytes.{byteAt, twoAt, twoBytes}
 use Rattle.rules.specs.argument.BytesLaws.{past, past-all, first-byte, first-two}
-use Rattle.rules.specs.definitions.Model.{Entry, Transition, weightOf, entriesBytes, transitionBytes, transitionsBytes}
+use Rattle.rules.specs.definitions.Model.{Entry, Transition, entriesBytes, transitionBytes, transitionsBytes}
 use Rattle.rules.specs.definitions.Reading.{sourceAt, actionAt, denominatorAt, entryCountAt, afterTransition, entriesAt, transitionAt}
-use Rattle.rules.specs.definitions.SoundModel.{Each, sumOver, TransitionRules}
-use Rattle.rules.specs.argument.SoundModelLaws.{each-map, from-along}
-use Rattle.quotient.specs.argument.Lists.{Paired, paired-length, paired-at, at-paired}
-use Rattle.rules.specs.argument.FetchedRun.{length-entriesAt}
+use Rattle.rules.specs.definitions.SoundModel.{Each, sumOver, TransitionRules, LowestTerms}
+use Rattle.rules.specs.argument.SoundModelLaws.{each-map}
 use Rattle.quotient.specs.definitions.Quotient.{sameTransition, isAmong}
-use Rattle.quotient.specs.argument.SameTransitions.{Same, same-tells, tells-same}
+use Rattle.quotient.specs.argument.MergedTerms.{SameFields, same-fields}
 use Rattle.rules.specs.argument.ReadBack.{transitionBytes-length}
-use Rattle.transition_record.specs.declared.Fields.{Fields}
-use Rattle.transition_record.specs.Fields.{FieldsAt}
-use Rattle.same_transition.specs.SameTransition.{StandAs, Stand, IsRepeated, EndsInside, EndsDiffer, sameEntry, sameEntries, sameRecord}
-use Rattle.same_transition.specs.SharesLaws.{Share, Ascending, entries-shares, shares-entries}
-
--- the product of two fields of two bytes fits four
-pub product-fits : {x y : ℕ} → x < 65536 → y < 65536 → x * y < 4294967296
-product-fits {x} {y} h k =
-    let a : x ≤ 65535 = omega arith in
-    let b : y ≤ 65535 = omega arith in
-    let l = mul-le-mul {n₂ = 65535} {m₂ = 65535} a b in
-    omega arith
+use Rattle.same_transition.specs.SameTransition.{StandAs, Stand, IsRepeated, CanPass, Passed, sameBytes, sameRecord}
 
 -- what holds from a number on, and at the number before it, holds from there on
 pub from-more : {P : ℕ → Type 0} (left size i : ℕ) → i + 1 ≡ left → ((j : ℕ) → left ≤ j → j < size → P j) → P i → (j : ℕ) → i ≤ j → j < size → P j
@@ -44,165 +29,98 @@ from-more {P} left size i e h p j from less = go (ℕ-discrete j i)
     go (yes q) = subst P (sym q) p
     go (no q) = h j (omega arith) less
 
--- a test with another after it
-then-both : {a b : Bool} → a ≡ true → both a b ≡ b
-unfolding both
-then-both {b = b} e = ap (λ (x : Bool). cond x b false) e
+-- bytes are compared until two differ
+module _ (s : List ℕ) (first second count : ℕ) where
+  abbrev pub ByteAgrees : ℕ → Type 0
+  ByteAgrees i = byteAt s (first + i) ≡ byteAt s (second + i)
 
-not-both : {a : Bool} (b : Bool) → a ≡ false → false ≡ both a b
-unfolding both
-not-both b e = sym (ap (λ (x : Bool). cond x b false) e)
+  pub bytes-same : ((i : ℕ) → i < count → ByteAgrees i) → sameBytes s first second count ≡ true
+  unfolding sameBytes
+  bytes-same h = below-all count _ (λ i less. eq-eqb _ _ (h i less))
 
--- an entry agrees where state and share do
-module _ (s : List ℕ) (first second d e : ℕ) where
-  pub entry-same : getD s first 0 ≡ getD s second 0 → {r : Bool} → r ≡ eqb (twoAt s (first + 1) * e) (twoAt s (second + 1) * d) → r ≡ sameEntry s first second d e
-  unfolding sameEntry byteAt
-  entry-same state {r} h = h ∙ sym (then-both (eq-eqb _ _ state))
+  pub same-bytes : sameBytes s first second count ≡ true → (i : ℕ) → i < count → ByteAgrees i
+  unfolding sameBytes
+  same-bytes e i less = eqb-true _ _ (all-below count _ e i less)
 
-  pub entry-not : (getD s first 0 ≡ getD s second 0 → ⊥) → false ≡ sameEntry s first second d e
-  unfolding sameEntry byteAt
-  entry-not n = not-both _ (ne-eqb _ _ n)
+  pub bytes-not : (i : ℕ) → i < count → (ByteAgrees i → ⊥) → false ≡ sameBytes s first second count
+  unfolding sameBytes
+  bytes-not i less n = not-all count _ i less (ne-eqb _ _ n)
 
--- entries are compared until two differ
-module _ (s : List ℕ) (first second count d e : ℕ) where
-  abbrev pub EntryAgrees : ℕ → Type 0
-  EntryAgrees i = sameEntry s (first + 3 * i) (second + 3 * i) d e ≡ true
+-- entries of the same bytes are one
+entries-agree : (s : List ℕ) (count a b : ℕ) → ((i : ℕ) → i < 3 * count → byteAt s (a + i) ≡ byteAt s (b + i)) → entriesAt s count a ≡ entriesAt s count b
+unfolding entriesAt twoAt
+entries-agree s zero a b h = refl
+entries-agree s (suc count) a b h = go (entries-agree s count (a + 3) (b + 3) (λ i less. sym (at a (3 + i) _ (omega arith)) ∙ h (3 + i) (omega arith) ∙ at b (3 + i) _ (omega arith)))
+  where
+    at : (x j y : ℕ) → x + j ≡ y → byteAt s (x + j) ≡ byteAt s y
+    at x j y e = ap (byteAt s) e
 
-  pub entries-same : ((i : ℕ) → i < count → EntryAgrees i) → true ≡ sameEntries s first second count d e
-  unfolding sameEntries
-  entries-same h = sym (below-all count _ h)
+    state : byteAt s a ≡ byteAt s b
+    state = sym (at a 0 a (omega arith)) ∙ h 0 (omega arith) ∙ at b 0 b (omega arith)
 
-  pub entries-not : (i : ℕ) → i < count → sameEntry s (first + 3 * i) (second + 3 * i) d e ≡ false → false ≡ sameEntries s first second count d e
-  unfolding sameEntries
-  entries-not i less n = not-all count _ i less n
+    low : byteAt s (a + 1 + 1) ≡ byteAt s (b + 1 + 1)
+    low = sym (at a 2 (a + 1 + 1) (omega arith)) ∙ h 2 (omega arith) ∙ at b 2 (b + 1 + 1) (omega arith)
 
-abbrev noEntry : Entry
-noEntry = record { state = 0; weight = 0 }
+    go : entriesAt s count (a + 3) ≡ entriesAt s count (b + 3) → entriesAt s (suc count) a ≡ entriesAt s (suc count) b
+    go later = unfold entriesAt twoAt in λ i. record { state = state i; weight = h 1 (omega arith) i * 256 + low i } ∷ later i
 
--- the entry of a number
-entry-at : (s : List ℕ) (count at i : ℕ) → i < count → getD (entriesAt s count at) i noEntry ≡ record { state = byteAt s (at + 3 * i); weight = twoAt s (at + 3 * i + 1) }
-unfolding entriesAt
-entry-at s zero at i less = absurd (omega arith)
-entry-at s (suc count) at zero less =
-    let e : at ≡ at + 3 * 0 = omega arith in
-    ap (λ (x : ℕ). record { state = byteAt s x; weight = twoAt s (x + 1) }) e
-entry-at s (suc count) at (suc i) less =
-    let e : at + 3 + 3 * i ≡ at + 3 * suc i = omega arith in
-    entry-at s count (at + 3) i (omega arith) ∙ ap (λ (x : ℕ). record { state = byteAt s x; weight = twoAt s (x + 1) }) e
+-- records of the same bytes from the action on have the same fields
+module _ (s : List ℕ) (first second : ℕ) (agree : sameRecord s first second ≡ true) where
+  byte-agrees : (j : ℕ) → 3 ≤ j → j < 7 + 3 * entryCountAt s first → byteAt s (first + j) ≡ byteAt s (second + j)
+  unfolding sameRecord
+  byte-agrees j from less =
+      let a : first + 3 + (j - 3) ≡ first + j = omega arith in
+      let b : second + 3 + (j - 3) ≡ second + j = omega arith in
+      sym (ap (byteAt s) a) ∙ same-bytes s (first + 3) (second + 3) (4 + 3 * entryCountAt s first) agree (j - 3) (omega arith) ∙ ap (byteAt s) b
 
--- records agree exactly when their transitions are the same
-module _ (s : List ℕ) (first second k m : ℕ) (rules : TransitionRules k m (transitionAt s first)) (rules′ : TransitionRules k m (transitionAt s second)) where
-  abbrev t : Transition
-  t = transitionAt s first
-
-  abbrev u : Transition
-  u = transitionAt s second
-
-  size-first : length (t .entries) ≡ entryCountAt s first
-  unfolding transitionAt
-  size-first = length-entriesAt s (entryCountAt s first) (first + 7)
-
-  size-second : length (u .entries) ≡ entryCountAt s second
-  unfolding transitionAt
-  size-second = length-entriesAt s (entryCountAt s second) (second + 7)
-
-  ascending : (x : Transition) → TransitionRules k m x → Ascending (t .denominator) (u .denominator) k 0 (x .entries)
-  ascending x r = record { from = from-along _ _ (x .entries) (r .ascend); states = r .states; weights = r .weights }
-
-  bytes-agree : sameRecord s first second ≡ true → Same k t u
-  unfolding sameRecord sameEntries sameEntry transitionAt
-  bytes-agree e =
-      let h = both-true _ _ e in
-      let g = both-true _ _ (h .1) in
-      let count = eqb-true _ _ (g .0) in
-      let paired =
-      at-paired (Share (t .denominator) (u .denominator)) (t .entries) (u .entries) noEntry (size-first ∙ count ∙ sym (size-second))
-      (λ i less.
-      let here : i < entryCountAt s first = omega (arith, size-first) in
-      let a = entry-at s (entryCountAt s first) (first + 7) i here in
-      let b = entry-at s (entryCountAt s second) (second + 7) i (omega (arith, count)) in
-      let agree = both-true _ _ (all-below (entryCountAt s first) _ (g .1) i here) in
+  pub fields-agree : SameFields (transitionAt s first) (transitionAt s second)
+  unfolding transitionAt actionAt denominatorAt entryCountAt twoAt
+  fields-agree =
+      let a : first + 5 ≡ first + 4 + 1 = omega arith in
+      let b : second + 5 ≡ second + 4 + 1 = omega arith in
       record {
-        state = ap (λ (x : Entry). x .state) a ∙ eqb-true _ _ (agree .0) ∙ sym (ap (λ (x : Entry). x .state) b);
-        weight = ap (λ (x : Entry). x .weight * u .denominator) a ∙ eqb-true _ _ (agree .1) ∙ sym (ap (λ (x : Entry). x .weight * t .denominator) b);
-      }) in
-      record {
-        action = eqb-true _ _ (h .0);
-        probability = λ c l. entries-shares (t .denominator) (u .denominator) (t .entries) (u .entries) paired c;
+        action = byte-agrees 3 (omega arith) (omega arith);
+        denominator =
+            ap₂ (λ (x y : ℕ). x * 256 + y) (byte-agrees 4 (omega arith) (omega arith))
+            (sym (ap (byteAt s) a) ∙ byte-agrees 5 (omega arith) (omega arith) ∙ ap (byteAt s) b);
+        entries =
+            entries-agree s (entryCountAt s first) (first + 7) (second + 7)
+            (λ i less.
+            let p : first + (7 + i) ≡ first + 7 + i = omega arith in
+            let q : second + (7 + i) ≡ second + 7 + i = omega arith in
+            sym (ap (byteAt s) p) ∙ byte-agrees (7 + i) (omega arith) (omega arith) ∙ ap (byteAt s) q)
+            ∙ ap (λ (n : ℕ). entriesAt s n (second + 7)) (byte-agrees 6 (omega arith) (omega arith));
       }
 
-  agree-bytes : Same k t u → sameRecord s first second ≡ true
-  unfolding sameRecord sameEntries sameEntry transitionAt
-  agree-bytes h =
-      let paired = shares-entries (t .denominator) (u .denominator) k (rules .positive) (rules′ .positive) (t .entries) (u .entries) 0 (ascending t rules) (ascending u rules′) (h .probability) in
-      let count : entryCountAt s first ≡ entryCountAt s second = sym (size-first) ∙ paired-length _ (t .entries) (u .entries) paired ∙ size-second in
-      true-both (eq-eqb _ _ (h .action))
-      (true-both (eq-eqb _ _ count)
-      (below-all (entryCountAt s first) _
-      (λ i less.
-      let a = entry-at s (entryCountAt s first) (first + 7) i less in
-      let b = entry-at s (entryCountAt s second) (second + 7) i (omega (arith, count)) in
-      let share = paired-at _ (t .entries) (u .entries) noEntry paired i (omega (arith, size-first)) in
-      true-both (eq-eqb _ _ (sym (ap (λ (x : Entry). x .state) a) ∙ share .state ∙ ap (λ (x : Entry). x .state) b))
-      (eq-eqb _ _ (sym (ap (λ (x : Entry). x .weight * u .denominator) a) ∙ share .weight ∙ ap (λ (x : Entry). x .weight * t .denominator) b)))))
-
-  pub record-same : sameRecord s first second ≡ sameTransition k t u
-  record-same = one-test _ _ (λ e. tells-same k (bytes-agree e)) (λ e. agree-bytes (same-tells k t u e))
-
--- the fields of two records, and what their comparison comes to
-module _ {s : List ℕ} {first second : ℕ} {x y : Fields} (a : FieldsAt s first x) (b : FieldsAt s second y) where
-  pub actions-differ : (x .action ≡ y .action → ⊥) → false ≡ sameRecord s first second
-  unfolding sameRecord
-  actions-differ n = not-both _ (ne-eqb _ _ (λ e. n (a .action ∙ e ∙ sym (b .action))))
-
-  pub counts-differ : x .action ≡ y .action → (x .count ≡ y .count → ⊥) → false ≡ sameRecord s first second
-  unfolding sameRecord
-  counts-differ e n =
-      not-both _ (ne-eqb _ _ (λ f. n (a .count ∙ f ∙ sym (b .count)))) ∙ sym (then-both (eq-eqb _ _ (sym (a .action) ∙ e ∙ b .action)))
-
-  pub fields-agree : {r : Bool} → x .action ≡ y .action → x .count ≡ y .count → r ≡ sameEntries s (x .entries .at) (y .entries .at) (x .count) (x .denominator) (y .denominator) → r ≡ sameRecord s first second
-  unfolding sameRecord
-  fields-agree e f h =
-      h
-      ∙ ap₂ (λ (i j : ℕ). sameEntries s i j (x .count) (x .denominator) (y .denominator)) (a .entries) (b .entries)
-      ∙ ap (λ (n : ℕ). sameEntries s (first + 7) (second + 7) n (x .denominator) (y .denominator)) (a .count)
-      ∙ ap₂ (λ (d d′ : ℕ). sameEntries s (first + 7) (second + 7) (entryCountAt s first) d d′) (a .denominator) (b .denominator)
-      ∙ sym (then-both (eq-eqb _ _ (sym (a .count) ∙ f ∙ b .count)))
-      ∙ sym (then-both (eq-eqb _ _ (sym (a .action) ∙ e ∙ b .action)))
-
--- records of one d that are the same end in the same byte
-module _ {s : List ℕ} {first second d e count : ℕ} (h : EndsInside s first second d e count) where
-  same-ends : d ≡ e → byteAt s (first + (6 + 3 * count)) < 256 → byteAt s (second + (6 + 3 * count)) < 256 → sameRecord s first second ≡ true → byteAt s (first + (6 + 3 * count)) ≡ byteAt s (second + (6 + 3 * count))
-  unfolding sameRecord sameEntries sameEntry entryCountAt twoAt
-  same-ends one small small′ agree = go count refl
-    where
-      go : (c : ℕ) → count ≡ c → byteAt s (first + (6 + 3 * count)) ≡ byteAt s (second + (6 + 3 * count))
-      go zero none =
-          let i : first + (6 + 3 * count) ≡ first + 6 = omega arith in
-          let j : second + 6 ≡ second + (6 + 3 * count) = omega arith in
-          ap (byteAt s) i ∙ eqb-true _ _ (both-true _ _ (both-true _ _ agree .1) .0) ∙ ap (byteAt s) j
-      go (suc m) some =
-          let less : m < byteAt s (first + 6) = omega (arith, h .counted) in
-          let weights = eqb-true _ _ (both-true _ _ (all-below (byteAt s (first + 6)) _ (both-true _ _ (both-true _ _ agree .1) .1) m less) .1) in
-          let same-d : denominatorAt s second ≡ denominatorAt s first = sym (h .other) ∙ sym one ∙ h .denominator in
-          let positive : 0 < denominatorAt s first = omega (arith, h .denominator, h .some) in
-          let equal = eq-of-mul-eq-mul-right (denominatorAt s first) positive _ _ (ap (λ (x : ℕ). twoAt s (first + 7 + 3 * m + 1) * x) (sym same-d) ∙ weights) in
-          let i : first + 7 + 3 * m + 1 + 1 ≡ first + (6 + 3 * count) = omega arith in
-          let j : second + 7 + 3 * m + 1 + 1 ≡ second + (6 + 3 * count) = omega arith in
-          omega (arith, equal, ap (byteAt s) i, ap (byteAt s) j, small, small′)
-
-  pub ends-parted : {p q : ℕ} {r : Bool} → d ≡ e → p ≡ byteAt s (first + (6 + 3 * count)) → q ≡ byteAt s (second + (6 + 3 * count)) → p < 256 → q < 256 → (r ≡ true → p ≡ q → ⊥) → EndsDiffer s first second r
-  ends-parted one isP isQ smallP smallQ n =
+-- what a record is passed with
+module _ {s : List ℕ} {at count place : ℕ} (h : CanPass s at count place) where
+  -- another entry count
+  pub pass-longer : {x next : ℕ} → x ≡ byteAt s (place + 6) → (x ≡ count → ⊥) → next ≡ afterTransition s place → Passed s at place next
+  unfolding sameRecord entryCountAt afterTransition
+  pass-longer {x} {next} read n e =
+      let a : at + 3 + 3 ≡ at + 6 = omega arith in
+      let b : place + 3 + 3 ≡ place + 6 = omega arith in
       record {
-        parted = λ t. untrue _ (λ agree. n t (isP ∙ same-ends one (omega (arith, isP)) (omega (arith, isQ)) agree ∙ sym isQ));
+        same = λ q. absurd (omega (arith, e, q));
+        other = λ q. (e, sym (bytes-not s (at + 3) (place + 3) _ 3 (omega arith) (λ z. n (read ∙ sym (ap (byteAt s) b) ∙ sym z ∙ ap (byteAt s) a ∙ sym (h .counted)))));
       }
-    where
-      untrue : (b : Bool) → (b ≡ true → ⊥) → false ≡ b
-      untrue true k = absurd (k refl)
-      untrue false k = refl
 
-  pub not-tested : EndsDiffer s first second false
-  not-tested = record { parted = λ t. absurd (false-not t) }
+  compared-bytes : sameBytes s (at + 3) (place + 3) (4 + 3 * count) ≡ sameRecord s at place
+  unfolding sameRecord
+  compared-bytes = ap (λ (n : ℕ). sameBytes s (at + 3) (place + 3) (4 + 3 * n)) (h .counted)
+
+  -- the same bytes
+  pub pass-same : sameBytes s (at + 3) (place + 3) (4 + 3 * count) ≡ true → Passed s at place place
+  pass-same e = record { same = λ q. sym compared-bytes ∙ e; other = λ n. absurd (n refl) }
+
+  -- other bytes
+  pub pass-other : {x next : ℕ} → x ≡ byteAt s (place + 6) → x ≡ count → sameBytes s (at + 3) (place + 3) (4 + 3 * count) ≡ false → next ≡ place + 7 + 3 * count → Passed s at place next
+  unfolding entryCountAt afterTransition
+  pass-other {x} {next} read one e f =
+      record {
+        same = λ q. absurd (omega (arith, f, q));
+        other = λ n. (omega (arith, f, read, one), sym compared-bytes ∙ e);
+      }
 
 -- a weight is at most the sum
 pub part-most : (es : List Entry) → Each (λ (e : Entry). e .weight ≤ sumOver (λ (x : Entry). x .weight) es) es
@@ -248,6 +166,32 @@ module _ (s : List ℕ) where
         entries = (ap (λ (k : ℕ). entriesAt s k (place + 7)) count ∙ entries) i;
       }
 
+-- the byte of what stands at a place
+stands-byte : (s : List ℕ) (place : ℕ) (xs rest : List ℕ) → drop place s ≡ xs ++ rest → (i : ℕ) → i < length xs → byteAt s (place + i) ≡ getD xs i 0
+unfolding byteAt
+stands-byte s place xs rest e i less = sym (getD-drop place s i 0) ∙ ap (λ (l : List ℕ). getD l i 0) e ∙ List·getD-append xs rest 0 i less
+
+-- a record from the action on
+fieldBytes : Transition → List ℕ
+fieldBytes t = t .action ∷ (twoBytes (t .denominator) ++ (length (t .entries) ∷ entriesBytes (t .entries)))
+
+-- records of transitions with the same fields are the same bytes from the action on
+agree-fields : (s : List ℕ) (first second : ℕ) (t u : Transition) (rest rest′ : List ℕ) → drop first s ≡ transitionBytes t ++ rest → drop second s ≡ transitionBytes u ++ rest′ → SameFields t u → sameRecord s first second ≡ true
+unfolding sameRecord transitionBytes fieldBytes
+agree-fields s first second t u rest rest′ stands stands′ f =
+    bytes-same s (first + 3) (second + 3) _
+    (λ i less.
+    let inside : i < length (fieldBytes t) = omega (arith, less, size) in
+    stands-byte s (first + 3) (fieldBytes t) rest (past s first 3 stands) i inside
+    ∙ ap (λ (l : List ℕ). getD l i 0) same
+    ∙ sym (stands-byte s (second + 3) (fieldBytes u) rest′ (past s second 3 stands′) i (omega (arith, inside, ap length same))))
+  where
+    same : fieldBytes t ≡ fieldBytes u
+    same = λ i. f .action i ∷ (twoBytes (f .denominator i) ++ (length (f .entries i) ∷ entriesBytes (f .entries i)))
+
+    size : 4 + 3 * entryCountAt s first ≡ length (fieldBytes t)
+    size = omega (arith, transitionBytes-length t, count-read s t first rest stands)
+
 -- what a slice holds stands at its place, up to its end
 slice-stands : (s : List ℕ) (first end : ℕ) {xs : List ℕ} → first ≤ end → end ≤ length s → take (end - first) (drop first s) ≡ xs → (drop first s ≡ xs ++ drop end s) × (first + length xs ≡ end)
 slice-stands s first end {xs} ordered inside e =
@@ -266,6 +210,7 @@ record Left (s : List ℕ) (at place k m : ℕ) (last : Transition) (among : Boo
   stands : drop place s ≡ transitionsBytes rest ++ drop at s
   end : place + length (transitionsBytes rest) ≡ at
   alike : Each (TransitionRules k m) rest
+  lowest : Each LowestTerms rest
   same : isAmong k last rest ≡ among
 
 -- a record is compared, and the others are left
@@ -282,17 +227,19 @@ module _ {s : List ℕ} {start at next k m : ℕ} {kept : List Transition} {last
   last-after = omega (arith, after-read s last at (drop next s) (last-stands .0), last-stands .1, h .inside)
 
   -- what is compared agrees exactly when the transitions are the same
-  compared-same : (u : Transition) (place : ℕ) (rest : List ℕ) → drop place s ≡ transitionBytes u ++ rest → TransitionRules k m u → sameRecord s at place ≡ sameTransition k last u
-  compared-same u place rest stands rules =
+  compared-same : (u : Transition) (place : ℕ) (rest : List ℕ) → drop place s ≡ transitionBytes u ++ rest → TransitionRules k m u → LowestTerms u → sameRecord s at place ≡ sameTransition k last u
+  compared-same u place rest stands rules low =
       let one = transition-read s k m last at (drop next s) (last-stands .0) (h .rules) in
       let other = transition-read s k m u place rest stands rules in
-      record-same s at place k m (subst (TransitionRules k m) (sym one) (h .rules)) (subst (TransitionRules k m) (sym other) rules)
-      ∙ ap₂ (sameTransition k) one other
+      let fields = same-fields k m m last u (h .rules) rules (h .lowest) low in
+      one-test _ _
+      (λ e. fields .1 (subst (SameFields last) other (subst (λ (t : Transition). SameFields t (transitionAt s place)) one (fields-agree s at place e))))
+      (λ e. agree-fields s at place last u (drop next s) rest (last-stands .0) stands (fields .0 e))
 
-  compared : (rest : List Transition) (place : ℕ) → drop place s ≡ transitionsBytes rest ++ drop at s → place + length (transitionsBytes rest) ≡ at → Each (TransitionRules k m) rest → place < at → Compared s at place k m last (isAmong k last rest)
+  compared : (rest : List Transition) (place : ℕ) → drop place s ≡ transitionsBytes rest ++ drop at s → place + length (transitionsBytes rest) ≡ at → Each (TransitionRules k m) rest → Each LowestTerms rest → place < at → Compared s at place k m last (isAmong k last rest)
   unfolding transitionsBytes isAmong Each
-  compared [] place stands end alike before = absurd (omega arith)
-  compared (u ∷ us) place stands end alike before =
+  compared [] place stands end alike low before = absurd (omega arith)
+  compared (u ∷ us) place stands end alike low before =
       let here = stands ∙ append-assoc (transitionBytes u) (transitionsBytes us) (drop at s) in
       let after = after-read s u place _ here in
       record {
@@ -303,17 +250,15 @@ module _ {s : List ℕ} {start at next k m : ℕ} {kept : List Transition} {last
               stands = ap (λ (x : ℕ). drop x s) (sym after) ∙ past-all s place (transitionBytes u) here;
               end = omega (arith, length-append (transitionBytes u) (transitionsBytes us));
               alike = alike .1;
+              lowest = low .1;
               same = refl;
             };
-        same = ap (λ (b : Bool). ifTrue b true (isAmong k last us)) (compared-same u place _ here (alike .0));
+        same = ap (λ (b : Bool). ifTrue b true (isAmong k last us)) (compared-same u place _ here (alike .0) (low .0));
       }
 
--- the last record lies in the buffer, and has a denominator
-pub last-inside : {s : List ℕ} {start at : ℕ} → Stand s start at → (afterTransition s at ≤ length s) × (0 < denominatorAt s at)
-unfolding transitionAt
-last-inside {s} {start} {at} h =
-    let read = transition-read s (h .states) (h .actions) (h .last) at _ (last-stands (h .stands) .0) (h .stands .rules) in
-    (last-after (h .stands), omega (arith, ap (λ (t : Transition). t .denominator) read, h .stands .rules .positive))
+-- the last record lies in the buffer
+pub last-inside : {s : List ℕ} {start at : ℕ} → Stand s start at → afterTransition s at ≤ length s
+last-inside h = last-after (h .stands)
 
 -- none of the records before the place is the same as the last
 pub record Walked (s : List ℕ) (start at place : ℕ) : Type 0 where
@@ -325,14 +270,14 @@ module _ {s : List ℕ} {start at : ℕ} where
       record {
         left = λ next k m kept last h.
             let stands = slice-stands s start at (h .first) (omega (arith, h .second, h .inside)) (h .records) in
-            record { rest = kept; stands = stands .0; end = stands .1; alike = h .alike; same = refl };
+            record { rest = kept; stands = stands .0; end = stands .1; alike = h .alike; lowest = h .allLowest; same = refl };
       }
 
   module _ {place : ℕ} (w : Walked s start at place) (before : place < at) where
     walk-next : (next k m : ℕ) (kept : List Transition) (last : Transition) → StandAs s start at next k m kept last → Compared s at place k m last (isAmong k last kept)
     walk-next next k m kept last h =
         let l = w .left next k m kept last h in
-        subst (Compared s at place k m last) (l .same) (compared h (l .rest) place (l .stands) (l .end) (l .alike) before)
+        subst (Compared s at place k m last) (l .same) (compared h (l .rest) place (l .stands) (l .end) (l .alike) (l .lowest) before)
 
     -- the record at the place lies before the last
     pub walk-inside : Stand s start at → afterTransition s place ≤ at

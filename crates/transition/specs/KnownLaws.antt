@@ -83,7 +83,8 @@ module _ {s table : List ℕ} {r : ℕ} (t : KnownTransition s table r) where
   below-count : r < countOf s
   below-count = omega (arith, t .below, t .known .transitions)
 
-  rules-of : TransitionRules (length (modelAt s .labels)) (modelAt s .actions) (transitionAt s (placeOf s r))
+  -- it keeps the rules
+  pub rules-of : TransitionRules (length (modelAt s .labels)) (modelAt s .actions) (transitionAt s (placeOf s r))
   unfolding modelAt
   rules-of =
       subst (TransitionRules (length (modelAt s .labels)) (modelAt s .actions)) (transition-is s r below-count)

@@ -1,6 +1,6 @@
 -- A transition record's ways out.
 use Prim.Native.Nat.{ℕ, _+_, _*_, _≤_, _<_}
-use mathlib.Core.Path.{_≡_, refl, sym, _∙_, ap}
+use mathlib.Core.Path.{_≡_, refl, sym, _∙_, ap, ap₂}
 use mathlib.Core.List.{List}
 use lib.ListN.{length}
 use native.Mathlib.Omega.{arith}
@@ -9,8 +9,8 @@ use Rattle.bisimulation.specs.argument.ChoiceLaws.{less, notLess}
 use Rattle.rules.specs.definitions.Limits.{limits}
 use Rattle.rules.specs.definitions.Faults as rules
 use Rattle.rules.specs.definitions.Faults.{fault, firstOf, modelRecord, openFault}
-use Rattle.rules.specs.definitions.Reading.{denominatorAt, entryCountAt, afterTransition, fixedFault, fixedFaultAt, entriesFault, transitionAt, transitionFault}
-use Rattle.rules.specs.argument.FaultLaws.{first-stops, first-passes, model-refuses, opened}
+use Rattle.rules.specs.definitions.Reading.{denominatorAt, entryCountAt, afterTransition, fixedFault, fixedFaultAt, entriesFault, transitionAt, termsFault, transitionFault}
+use Rattle.rules.specs.argument.FaultLaws.{none-first, pass-on, first-stops, first-passes, model-refuses, opened}
 use Rattle.fault.specs.Faults.{faultOf, Placed}
 use Rattle.fault.specs.FaultsLaws.{none-is, placed-some, placed-as}
 use Rattle.fault.specs.declared.Fault.{Fault}
@@ -64,16 +64,14 @@ module _ (terms : Terms) (s : List ℕ) (n m last entries at : ℕ) where
             unfolding afterTransition
             past-fixed q = first-passes _ _ opens z (first-passes _ _ fixed y (notLess _ (omega (arith, fields .count)) q))
 
-            pub not-entries : (r : Transition) → Placed (faultOf (e .fault)) at (r .fault) → (e .fault .number ≡ 0 → ⊥) → TransitionRead terms s n m last entries at r
-            unfolding transitionFault
-            not-entries r p some = refused (e .fault) r p some (past-fixed (first-stops _ _ entries-are some))
-
-            pub stands : e .fault .number ≡ 0 → (f g : Fault) → TermsJudged (termsOf terms) s (t .count) (t .entries .at) f → Placed (faultOf f) at g → TransitionRead terms s n m last entries at (record { fault = g; source = t .source; count = t .count; next = e .next })
+            pub stands : (f x g : Fault) → TermsJudged (termsOf terms) s (t .count) (t .entries .at) f → faultOf x ≡ firstOf (faultOf (e .fault)) (faultOf f) → Placed (faultOf x) at g → TransitionRead terms s n m last entries at (record { fault = g; source = t .source; count = t .count; next = e .next })
             unfolding transitionFault afterTransition transitionAt
-            stands none f g judged p =
+            stands f x g judged first p =
+                let both : faultOf x ≡ firstOf (entriesFault s n (denominatorAt s at) (entryCountAt s at) (at + 7) 0 0) (termsFault (termsOf terms) (transitionAt s at)) =
+                first ∙ ap₂ firstOf entries-are (judged .is (transitionAt s at) (rw (fields .count, fields .entries) refl)) in
                 record {
-                  fault = placed-as p (past-fixed (first-passes _ _ entries-are none (judged .is (transitionAt s at) (rw (fields .count, fields .entries) refl))));
+                  fault = placed-as p (past-fixed both);
                   source = λ _. fields .source;
                   count = λ _. fields .count;
-                  next = λ w. omega (arith, read .next none, fields .entries, fields .count);
+                  next = λ w. omega (arith, read .next (none-first _ _ (pass-on first (ap (λ (k : rules.Fault). k .number) (sym (p .is)) ∙ w)) .0), fields .entries, fields .count);
                 }

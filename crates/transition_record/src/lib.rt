@@ -125,14 +125,11 @@ pub fn transition_at(
         return refused(fault::refusal(1), place);
     }
     let read = transition_entries::entries_at(s, n, t.denominator, t.count, t.entries);
-    let wrong = read.fault;
-    let next = read.next;
-    if wrong.number != 0 {
-        return refused(wrong, place);
-    }
     let spelled = transition_terms::terms_fault(s, terms, t.count, t.entries);
+    let next = read.next;
+    let wrong = fault::first_of(read.fault, spelled);
     Transition {
-        fault: spelled.at(place.at),
+        fault: wrong.at(place.at),
         source: t.source,
         count: t.count,
         next,

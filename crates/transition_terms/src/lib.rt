@@ -11,7 +11,7 @@ use field::Cursor;
 use limits::Terms;
 
 // The divisor of the weights so far, 0 before the first, and one more. No division for the first, nor for a weight of 1.
-fn with_weight(shared: usize, weight: usize) -> usize
+pub fn with_weight(shared: usize, weight: usize) -> usize
     ensures { λ r. ⌜ r ≡ divisor shared weight ⌝ }
 {
     if weight == 1 {

@@ -20,7 +20,7 @@ fn read_second(first: &[u8], m: Model, second: &[u8], places: &mut Places) -> Tw
     requires { ⌜ SoundFile (now first) m × (length (now places) ≡ sizes.places) ⌝ }
     ensures { λ r. ⌜ TwoReadIs (now (first .entry)) (now (second .entry)) (now (places .exit)) r ⌝ }
 {
-    let read = model::scan_file(second, Terms::Any, places);
+    let read = model::scan_file(second, Terms::Lowest, places);
     match read {
         Scanned::Sound(n) => TwoRead::Sound {
             first: m,
@@ -35,7 +35,7 @@ pub fn read_two(first: &[u8], second: &[u8], places: &mut Places) -> TwoRead
     requires { ⌜ length (now places) ≡ sizes.places ⌝ }
     ensures { λ r. ⌜ TwoReadIs (now (first .entry)) (now (second .entry)) (now (places .exit)) r ⌝ }
 {
-    let scanned = model::scan_file(first, Terms::Any, places);
+    let scanned = model::scan_file(first, Terms::Lowest, places);
     match scanned {
         Scanned::Sound(m) => read_second(first, m, second, places),
         Scanned::Refused(wrong) => TwoRead::Refused(answer::refusal_in(wrong, 1, first.len())),

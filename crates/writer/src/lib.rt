@@ -4,6 +4,7 @@ ghost use Prim.Native.Nat.{_+_, _≤_, _<_};
 ghost use lib.ListN.{length};
 ghost use mathlib.Core.List.{[], _∷_};
 ghost use Rattle.rules.specs.definitions.Bytes.{twoBytes};
+ghost use Rattle.rules.specs.definitions.Encoding.{fourBytes};
 ghost use Rattle.writer.specs.Appends.{Appends, startBytes, fixedBytes, headBytesOf, CanWriteModel, WritesModel};
 
 // A field of one byte.
@@ -22,6 +23,15 @@ pub fn pair(out: &mut [u8], at: usize, x: usize) -> usize
 {
     let low = byte(out, at, x / 256);
     byte(out, low, x % 256)
+}
+
+// A field of four bytes.
+pub fn quad(out: &mut [u8], at: usize, x: usize) -> usize
+    requires { ⌜ (at + 4 ≤ length (now out)) × (x < 4294967296) ⌝ }
+    ensures { λ r. ⌜ Appends (fourBytes x) at (now (out .entry)) (now (out .exit)) r ⌝ }
+{
+    let low = pair(out, at, x / 65536);
+    pair(out, low, x % 65536)
 }
 
 // An entry of a transition.

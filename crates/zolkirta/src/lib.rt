@@ -4,12 +4,14 @@ ghost use Rattle.rule_kind.specs.declared.Kind.the-variants.{Plain, Costs};
 ghost use Rattle.fetch.specs.Fetched.{FetchAnswered};
 ghost use Rattle.judge.specs.Judge.{JudgeAnswered};
 ghost use Rattle.reduce.specs.Reduce.{ReduceAnswered};
+ghost use Rattle.rewrite.specs.Rewrite.{RewriteAnswered};
 ghost use Rattle.sheet.specs.Sheet.{SheetAnswered};
 ghost use Rattle.join.specs.Join.{JoinAnswered};
 ghost use Rattle.alike.specs.Alike.{named, AlikeAnswered};
 ghost use Rattle.read_prism.specs.Prism.{PrismAnswered};
 use alike::AlikeAnswer;
 use answer::Answer;
+use answer::PairAnswer;
 
 // The run of the model's bytes that holds the transitions that leave a state, or the stretch of a refusal, by where it starts in the model
 // and how long it is.
@@ -84,4 +86,30 @@ pub extern "C" fn zolkirta_read_prism(text: &[u8], out: &mut [u8]) -> Answer
     ensures { λ r. ⌜ PrismAnswered (now (text .entry)) (now (out .entry)) (now (out .exit)) r ⌝ }
 {
     read_prism::read_prism_answer(text, out)
+}
+
+// Rewrites a stored pair in lowest terms: it is judged, in whatever terms its model is, and both files are written, each as long as it was.
+#[no_mangle]
+pub extern "C" fn zolkirta_rewrite(
+    model: &[u8],
+    certificate: &[u8],
+    model_out: &mut [u8],
+    certificate_out: &mut [u8],
+) -> PairAnswer
+    ensures { λ r. ⌜ RewriteAnswered Plain (now (model .entry)) (now (certificate .entry)) (now («model_out» .entry)) (now («certificate_out» .entry)) (now («model_out» .exit)) (now («certificate_out» .exit)) r ⌝ }
+{
+    rewrite::rewrite_answer(model, certificate, model_out, certificate_out)
+}
+
+// The same of a stored cost pair, whose costs stay.
+#[no_mangle]
+pub extern "C" fn zolkirta_rewrite_costs(
+    model: &[u8],
+    certificate: &[u8],
+    model_out: &mut [u8],
+    certificate_out: &mut [u8],
+) -> PairAnswer
+    ensures { λ r. ⌜ RewriteAnswered Costs (now (model .entry)) (now (certificate .entry)) (now («model_out» .entry)) (now («certificate_out» .entry)) (now («model_out» .exit)) (now («certificate_out» .exit)) r ⌝ }
+{
+    rewrite::rewrite_costs_answer(model, certificate, model_out, certificate_out)
 }

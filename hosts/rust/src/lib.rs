@@ -4,8 +4,9 @@
 //! the certificate and names the block of each state, [`reduce`] writes the model with each block merged into one state, [`fetch`]
 //! finds the transitions that leave a state. [`sheet`] writes the blocks as text for paper. [`join`] writes two models as one, and
 //! [`alike`] says whether a state of the one behaves as a state of the other. [`judge_costs`] judges where each transition has a cost.
-//! [`read_prism`] makes a model of PRISM's transition file. What is not accepted gets one numbered [`Refusal`]. The tool `zolkirta` makes
-//! these calls by file name: `zolkirta --help` tells how.
+//! [`read_prism`] makes a model of PRISM's transition file. [`rewrite`] and [`rewrite_costs`] take a stored pair whose fractions are not in
+//! lowest terms, which every other call refuses, and write it in lowest terms. What is not accepted gets one numbered [`Refusal`]. The tool
+//! `zolkirta` makes these calls by file name: `zolkirta --help` tells how.
 //!
 //! The small pair S of document 01: state 0 moves to state 2 by action 1, state 1 moves to state 0 internally.
 //!
@@ -116,7 +117,7 @@ impl fmt::Display for Difference {
 #[derive(Clone, Copy, PartialEq, Eq)]
 #[non_exhaustive]
 pub struct Refusal<'a> {
-    /// 1 to 33: [`meaning`](Refusal::meaning) says it in words.
+    /// 1 to 36: [`meaning`](Refusal::meaning) says it in words.
     pub number: u32,
     /// The file at fault, if one is.
     pub file: Option<File>,
@@ -129,7 +130,7 @@ pub struct Refusal<'a> {
     pub difference: Option<Difference>,
 }
 
-const MEANINGS: [&str; 34] = [
+const MEANINGS: [&str; 37] = [
     "accepted",
     "the file ends inside a record",
     "a record has a wrong mark",
@@ -164,6 +165,9 @@ const MEANINGS: [&str; 34] = [
     "a line breaks the form or a limit, or the head's counts are not the text's",
     "the probabilities of a choice do not add up to 1",
     "the text is sound, and the buffer is shorter than its model's file",
+    "a transition's weights have a common divisor above 1",
+    "the certificate is accepted, and a k of the rewritten flow is above 4,294,967,295",
+    "the certificate is accepted, and a buffer is shorter than its rewritten file",
 ];
 
 fn meaning_of(number: u32) -> &'static str {
@@ -285,7 +289,7 @@ fn accepted<'a>(answer: raw::Answer, files: &[Handed<'a>]) -> Result<raw::Answer
 
 /// The run of the model's own bytes that holds the transitions that leave `state`, empty where none leave.
 ///
-/// Refusals: 1 to 9 in the model, and 24 where the model has no such state.
+/// Refusals: 1 to 9 and 34 in the model, and 24 where the model has no such state.
 ///
 /// ```
 /// let model = b"PA\x02\x01\0\x01LB\0\0TR\x01\0\0\x01\x01\0\0\x01"; // state 1 moves to state 0
@@ -302,7 +306,7 @@ pub fn fetch(model: &[u8], state: u32) -> Result<&[u8], Refusal<'_>> {
 /// Judges a certificate for a model. On acceptance the first bytes of `buffer`, one for each state, are the states' blocks, and they
 /// are what is handed back; the buffer's later bytes stay.
 ///
-/// Refusals: 1 to 9 in the model, 10 where the buffer is shorter than the state count ([`STATES`] is always enough), 11 to 22 in the
+/// Refusals: 1 to 9 and 34 in the model, 10 where the buffer is shorter than the state count ([`STATES`] is always enough), 11 to 22 in the
 /// certificate.
 ///
 /// ```
@@ -344,8 +348,9 @@ pub fn judge<'a, 'b>(model: &'a [u8], certificate: &'a [u8], buffer: &'b mut [u8
 /// are the states' blocks, and they are what is handed back; the buffer's later bytes stay. Each block lies inside one of the same model
 /// without its costs.
 ///
-/// Refusals: 1 to 9 and 29 in the model, 10 where the buffer is shorter than the state count ([`STATES`] is always enough), 11 to 22 and 30
-/// in the certificate. No merged model is written for cost pairs: every other call refuses a cost model with 9, where its costs begin.
+/// Refusals: 1 to 9, 29 and 34 in the model, 10 where the buffer is shorter than the state count ([`STATES`] is always enough), 11 to 22 and 30
+/// in the certificate. No merged model is written for cost pairs: every other call but [`rewrite_costs`] refuses a cost model with 9, where
+/// its costs begin.
 ///
 /// The small pair S with costs 5 and 0: behind the transitions stands the record of costs, the certificate begins with `CC`, and each
 /// refutation ends with one more price, here 0.
@@ -381,12 +386,12 @@ pub fn judge_costs<'a, 'b>(model: &'a [u8], certificate: &'a [u8], buffer: &'b m
 
 /// Judges a certificate for a model and writes the merged model: each block is one state. On acceptance the first bytes of `buffer`
 /// are the merged model's file, and they are what is handed back; the buffer's later bytes stay. Of the transitions of a block with one
-/// action and the same probabilities, in whatever terms, the first is kept, in its own terms.
+/// action and the same probabilities the first is kept. All are written in lowest terms: weights are added up by block, then divided.
 ///
 /// The merged model may be used for the model: each state behaves as the merged state that has its block's number, and [`alike`] says yes
 /// of the two wherever model and merged model are joined and certified.
 ///
-/// Refusals: 1 to 9 in the model, 11 to 22 in the certificate, and 23 where the certificate is accepted and the buffer is shorter
+/// Refusals: 1 to 9 and 34 in the model, 11 to 22 in the certificate, and 23 where the certificate is accepted and the buffer is shorter
 /// than the file. A buffer as long as the model is always enough, and so is one of [`MODEL`] bytes.
 ///
 /// ```
@@ -403,7 +408,7 @@ pub fn reduce<'a, 'b>(model: &'a [u8], certificate: &'a [u8], buffer: &'b mut [u
 /// columns, its size in 4, and up to 16 of its states in 4 each, all right-aligned; further lines of a block leave the first 8 columns
 /// blank. On acceptance the first bytes of `buffer` are the sheet, and its text is handed back; the buffer's later bytes stay.
 ///
-/// Refusals: 1 to 9 in the model, 11 to 22 in the certificate, and 28 where the certificate is accepted and the buffer is shorter than
+/// Refusals: 1 to 9 and 34 in the model, 11 to 22 in the certificate, and 28 where the certificate is accepted and the buffer is shorter than
 /// the sheet ([`SHEET`] bytes are always enough).
 ///
 /// ```
@@ -424,7 +429,7 @@ pub fn sheet<'a, 'b>(model: &'a [u8], certificate: &'a [u8], buffer: &'b mut [u8
 /// Writes two models as one: the second's states and transitions follow the first's, its state numbers raised by the first's state
 /// count. The first bytes of `buffer` are then the joined model's file, and they are what is handed back; the buffer's later bytes stay.
 ///
-/// Refusals: 1 to 9 in the first model, then in the second; 25 where the joined model passes a limit; 26 where the buffer is shorter than
+/// Refusals: 1 to 9 and 34 in the first model, then in the second; 25 where the joined model passes a limit; 26 where the buffer is shorter than
 /// the file ([`MODEL`] bytes are always enough).
 ///
 /// ```
@@ -451,7 +456,7 @@ fn lend<'a, 'b>(call: raw::Lending, files: [Handed<'a>; 2], buffer: &'b mut [u8]
 /// Judges a certificate for a joined model, and says whether a state of the first part behaves as a state of the second: whether the two
 /// share a block. `first_count` is the first's state count, and both states go by their numbers in the joined model.
 ///
-/// Refusals: 1 to 9 in the model, 11 to 22 in the certificate, and 27 where the certificate is accepted, but `first_count` is above the
+/// Refusals: 1 to 9 and 34 in the model, 11 to 22 in the certificate, and 27 where the certificate is accepted, but `first_count` is above the
 /// state count or a state is not in its part.
 ///
 /// ```
@@ -505,6 +510,72 @@ pub fn read_prism<'a, 'b>(text: &'a [u8], buffer: &'b mut [u8]) -> Result<&'b [u
     Ok(&buffer[..accepted(answer, &[(File::Text, text)])?.written])
 }
 
+/// Judges a stored pair by the rules from before lowest terms were asked for, without 34, and writes it in lowest terms: weights and d of each
+/// transition are divided by their greatest common divisor, and each k of a flow for that transition is multiplied by it; all else stays. On
+/// acceptance the first bytes of each buffer are the rewritten file, as long as the stored one, and they are what is handed back, the model
+/// first; later bytes stay. The rewritten pair is accepted, with the same blocks, by [`judge`] and by every other call.
+///
+/// Refusals: 1 to 9 in the model, 11 to 22 in the certificate; then 35 in the certificate, at the first flow in which a k times its
+/// transition's divisor is above 4,294,967,295; then 36, where a buffer is shorter than its file.
+///
+/// ```
+/// // State 0 moves to state 1 with 2/2, and state 1 meets that by staying.
+/// let (model, certificate) = (b"PA\x02\x01\0\x01LB\0\0TR\0\0\0\x02\x01\x01\0\x02", b"CT\0\0BK\0\0FL\0\0\0\x01\0\0\0\x01\x01\x01\0\0\0\x01");
+/// let refusal = zolkirta::judge(model, certificate, &mut [0; 2]).unwrap_err();
+/// assert_eq!(refusal.to_string(), "refusal 34: a transition's weights have a common divisor above 1 (model, byte 10)");
+///
+/// let (mut pa, mut ct) = (model.to_vec(), certificate.to_vec());
+/// let (lowest, same) = zolkirta::rewrite(model, certificate, &mut pa, &mut ct).unwrap();
+/// assert_eq!((&lowest[10..], same), (&b"TR\0\0\0\x01\x01\x01\0\x01"[..], &certificate[..])); // no k here
+/// assert_eq!(zolkirta::judge(lowest, same, &mut [0; 2]).unwrap(), [0, 0]);
+/// ```
+pub fn rewrite<'a, 'b>(
+    model: &'a [u8],
+    certificate: &'a [u8],
+    model_buffer: &'b mut [u8],
+    certificate_buffer: &'b mut [u8],
+) -> Result<(&'b [u8], &'b [u8]), Refusal<'a>> {
+    lend_two(raw::zolkirta_rewrite, model, certificate, model_buffer, certificate_buffer)
+}
+
+/// The same for a cost pair: judged by the rule with costs, without 34; costs and L stay as well. The rewritten pair is accepted, with the same
+/// blocks, by [`judge_costs`].
+///
+/// Refusals: as of [`rewrite`], with 29 in the model and 30 in the certificate too.
+///
+/// ```
+/// // A state that moves to itself with 3/3, at a cost of 7.
+/// let (model, certificate) = (b"PA\x01\x02\0\x01LB\0TR\0\x01\0\x03\x01\0\0\x03CO\x07", b"CC\0\0BK\0");
+/// let (mut pa, mut ct) = (model.to_vec(), certificate.to_vec());
+/// let (lowest, _) = zolkirta::rewrite_costs(model, certificate, &mut pa, &mut ct).unwrap();
+/// assert_eq!(lowest, b"PA\x01\x02\0\x01LB\0TR\0\x01\0\x01\x01\0\0\x01CO\x07");
+/// assert_eq!(zolkirta::rewrite_costs(model, certificate, &mut pa, &mut [0; 6]).unwrap_err().number, 36);
+/// ```
+pub fn rewrite_costs<'a, 'b>(
+    model: &'a [u8],
+    certificate: &'a [u8],
+    model_buffer: &'b mut [u8],
+    certificate_buffer: &'b mut [u8],
+) -> Result<(&'b [u8], &'b [u8]), Refusal<'a>> {
+    lend_two(raw::zolkirta_rewrite_costs, model, certificate, model_buffer, certificate_buffer)
+}
+
+/// Makes a call that lends two buffers, and hands back the part of each that was written.
+fn lend_two<'a, 'b>(
+    call: raw::LendingTwo,
+    model: &'a [u8],
+    certificate: &'a [u8],
+    model_buffer: &'b mut [u8],
+    certificate_buffer: &'b mut [u8],
+) -> Result<(&'b [u8], &'b [u8]), Refusal<'a>> {
+    let (m, c) = (model.as_ptr(), certificate.as_ptr());
+    let (m_out, c_out) = (model_buffer.as_mut_ptr(), certificate_buffer.as_mut_ptr());
+    // SAFETY: pointers and lengths are those of the slices, and a `&mut` overlaps no other slice.
+    let said = unsafe { call(m, model.len(), c, certificate.len(), m_out, model_buffer.len(), c_out, certificate_buffer.len()) };
+    let answer = accepted(said.answer, &[(File::Model, model), (File::Certificate, certificate)])?;
+    Ok((&model_buffer[..answer.written], &certificate_buffer[..said.certificate_written]))
+}
+
 #[cfg(test)]
 mod tests {
     use super::*;
@@ -553,10 +624,10 @@ mod tests {
 
     #[test]
     fn an_unknown_number_is_said() {
-        for number in [34, 35, u32::MAX] {
+        for number in [37, 38, u32::MAX] {
             assert_eq!(refusal(number, 0, 0).to_string(), format!("refusal {number}: unknown number"));
         }
-        assert_eq!(refusal(34, 2, 5).to_string(), "refusal 34: unknown number (certificate, byte 5)");
+        assert_eq!(refusal(37, 2, 5).to_string(), "refusal 37: unknown number (certificate, byte 5)");
     }
 
     #[test]
@@ -584,7 +655,7 @@ mod tests {
 
     #[test]
     fn only_16_20_and_21_have_a_difference() {
-        for number in (1..=34).chain([u32::MAX]) {
+        for number in (1..=37).chain([u32::MAX]) {
             let told = [16, 20, 21].contains(&number).then_some(Difference { state: 5, remainder: 9 });
             assert_eq!(off(number, 5, 9).difference, told, "{number}");
         }

@@ -39,6 +39,16 @@ pub struct AlikeAnswer {
     pub alike: u32,
 }
 
+/// What [`zolkirta_rewrite`] and [`zolkirta_rewrite_costs`] answer.
+#[repr(C)]
+#[derive(Clone, Copy, Debug, Default, PartialEq, Eq)]
+pub struct PairAnswer {
+    /// Its `written` is of the model's buffer.
+    pub answer: Answer,
+    /// Bytes written into the certificate's buffer; 0 on refusal.
+    pub certificate_written: usize,
+}
+
 // The library's layout: a build for another one stops here.
 const _: () = {
     let fields = [offset_of!(Answer, number), offset_of!(Answer, file), offset_of!(Answer, place), offset_of!(Answer, stretch_start)];
@@ -46,10 +56,15 @@ const _: () = {
     assert!(offset_of!(Answer, stretch_length) == 24 && offset_of!(Answer, written) == 32);
     assert!(offset_of!(Answer, state) == 40 && offset_of!(Answer, remainder) == 48 && size_of::<Answer>() == 56);
     assert!(offset_of!(AlikeAnswer, answer) == 0 && offset_of!(AlikeAnswer, alike) == 56 && size_of::<AlikeAnswer>() == 64);
+    let pair = [offset_of!(PairAnswer, answer), offset_of!(PairAnswer, certificate_written), size_of::<PairAnswer>()];
+    assert!(matches!(pair, [0, 56, 64]));
 };
 
 /// A call that lends a buffer: two files and the buffer, each a pointer and a length.
 pub type Lending = unsafe extern "C" fn(*const u8, usize, *const u8, usize, *mut u8, usize) -> Answer;
+
+/// A call that lends two buffers: model and certificate, then a buffer for each, all four a pointer and a length.
+pub type LendingTwo = unsafe extern "C" fn(*const u8, usize, *const u8, usize, *mut u8, usize, *mut u8, usize) -> PairAnswer;
 
 extern "C" {
     /// [`fetch`](crate::fetch): the run is in `stretch_start` and `stretch_length`.
@@ -111,4 +126,26 @@ extern "C" {
     ) -> AlikeAnswer;
     /// [`read_prism`](crate::read_prism)
     pub fn zolkirta_read_prism(text: *const u8, text_length: usize, out: *mut u8, out_length: usize) -> Answer;
+    /// [`rewrite`](crate::rewrite)
+    pub fn zolkirta_rewrite(
+        model: *const u8,
+        model_length: usize,
+        certificate: *const u8,
+        certificate_length: usize,
+        model_out: *mut u8,
+        model_out_length: usize,
+        certificate_out: *mut u8,
+        certificate_out_length: usize,
+    ) -> PairAnswer;
+    /// [`rewrite_costs`](crate::rewrite_costs)
+    pub fn zolkirta_rewrite_costs(
+        model: *const u8,
+        model_length: usize,
+        certificate: *const u8,
+        certificate_length: usize,
+        model_out: *mut u8,
+        model_out_length: usize,
+        certificate_out: *mut u8,
+        certificate_out_length: usize,
+    ) -> PairAnswer;
 }

@@ -3,12 +3,12 @@ mod compare;
 mod maker;
 mod plain;
 
-use compare::{accepted, accepted_costs, accepted_texts, alike, fetch, join, judge, judge_costs, lines, read_prism, reduce, sheet, Counts};
+use compare::{accepted, accepted_costs, accepted_texts, alike, fetch, join, judge, judge_costs, lines, read_prism, reduce, rewrite_by, sheet, Counts};
 use maker::families::{bytes, flow_heavy, half, largest, refutation_heavy, still};
 use plain::Answer;
 use std::ptr::{null, null_mut};
-use zolkirta::raw::{zolkirta_alike, zolkirta_fetch, zolkirta_join, zolkirta_judge, zolkirta_judge_costs, Lending};
-use zolkirta::raw::{zolkirta_read_prism, zolkirta_reduce, zolkirta_sheet};
+use zolkirta::raw::{zolkirta_alike, zolkirta_fetch, zolkirta_join, zolkirta_judge, zolkirta_judge_costs, zolkirta_read_prism};
+use zolkirta::raw::{zolkirta_reduce, zolkirta_rewrite, zolkirta_rewrite_costs, zolkirta_sheet, Lending, LendingTwo};
 use zolkirta::{MODEL, SHEET, STATES};
 
 /// Makes a call with buffers from none to one byte longer than what it writes, and with these: a shorter one is refused with a number.
@@ -123,6 +123,19 @@ fn null_pointers_at_length_0() {
         assert_eq!(zolkirta_alike(null(), 0, 1, null(), 0, 0, 1), alike(&[], &[], [1, 0, 1]));
         assert_eq!(zolkirta_alike(m, m_length, 1, null(), 0, 0, 1), alike(model, &[], [1, 0, 1]));
         assert_eq!(zolkirta_alike(null(), 0, 1, c, c_length, 0, 1), alike(&[], certificate, [1, 0, 1]));
+    }
+    let rewriting: [(LendingTwo, &str, &[u8], &[u8]); 2] =
+        [(zolkirta_rewrite, "rewrite", model, certificate), (zolkirta_rewrite_costs, "rewrite_costs", costly, its_certificate)];
+    for (call, name, one, other) in rewriting {
+        let same = |one: &[u8], other: &[u8], lengths| rewrite_by(name, one, other, lengths).0;
+        let (p, p_length, o, o_length) = (one.as_ptr(), one.len(), other.as_ptr(), other.len());
+        unsafe {
+            assert_eq!(call(null(), 0, null(), 0, null_mut(), 0, null_mut(), 0), same(&[], &[], [0, 0]));
+            assert_eq!(call(p, p_length, null(), 0, null_mut(), 0, null_mut(), 0), same(one, &[], [0, 0]));
+            assert_eq!(call(null(), 0, o, o_length, b, 0, b, 0), same(&[], other, [0, 0]));
+            assert_eq!(call(p, p_length, o, o_length, null_mut(), 0, b, STATES), same(one, other, [0, STATES]));
+            assert_eq!(call(p, p_length, o, o_length, b, STATES, null_mut(), 0), same(one, other, [STATES, 0]));
+        }
     }
     assert_eq!(blocks, [7; STATES]);
     let judged = [judge(model, certificate, 0).0, reduce(model, certificate, 0).0, sheet(model, certificate, 0).0];

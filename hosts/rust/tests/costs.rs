@@ -5,13 +5,13 @@ mod maker;
 mod plain;
 mod records;
 
-use compare::{accepted_costs, alike, changes, every_kind, fetch, join, judge, judge_costs, kind_by, reduce, rounds, sheet, Numbers};
+use compare::{accepted_costs, alike, changes, every_kind, fetch, join, judge, judge_costs, kind_by, reduce, rewrite_costs, rounds, sheet, Numbers};
 use maker::families::{
     bytes, copies, flow_heavy, flow_heavy_with_costs, internal_chain, largest, late_steps, most_copies, one_source, refutation_heavy, tolls,
     with_costs,
 };
 use maker::files::{Certificate, Flow, Model, Refutation, Transition};
-use maker::random::{random_cost_model, random_model};
+use maker::random::{in_any_terms, random_cost_model, random_model};
 use maker::Missed;
 use plain::{Answer, Rule, TODAY};
 use records::{crowded, each_damaged, respelled, split, Records};
@@ -24,6 +24,15 @@ fn accepted(model: &Model, certificate: &Certificate) {
     let (answer, blocks) = judge_costs(&pa, &ct, model.n());
     assert_eq!((answer.number, &blocks), (0, &certificate.blocks), "{model:?} {certificate:?}");
     assert_eq!(judge_costs(&pa, &ct, model.n() - 1).0.number, 10);
+}
+
+/// A cost pair in any terms is refused unless it is in lowest ones, and accepted once it is rewritten, where every k fits.
+fn accepted_rewritten(model: &Model, certificate: &Certificate) -> Option<(Model, Certificate)> {
+    let (pa, ct) = (model.bytes(), certificate.bytes());
+    assert_eq!(judge_costs(&pa, &ct, STATES).0.number, if model.lowest() == *model { 0 } else { 34 });
+    let (lowest, own) = maker::rewritten(model, certificate, rewrite_costs(&pa, &ct))?;
+    accepted(&lowest, &own);
+    Some((lowest, own))
 }
 
 /// Whether each of these blocks lies inside one of the others.
@@ -42,15 +51,22 @@ fn all_certificates_of_a_cost_model_name_the_same_blocks_inside_the_plain_ones()
     let mut missed = Missed::default();
     let (mut signs, mut layers) = (BTreeMap::new(), BTreeMap::new());
     let (mut several, mut apart, mut finer, mut same) = (0, 0, 0, 0);
+    let (mut rewritten, mut not_fitting) = (0, 0);
     let models = rounds(400);
     for _ in 0..models {
         let model = random_cost_model(&mut numbers, 8);
         let mut all = Vec::new();
-        for (file, times) in [(model.respelled(4), 1), (model.longest(), 1), (model.clone(), 2)] {
+        let spelled = [in_any_terms(&model, &mut numbers), model.longest()].map(|file| (file, 1));
+        for (file, times) in spelled.into_iter().chain([(model.clone(), 2)]) {
             let made: Vec<Certificate> = (0..times).filter_map(|_| missed.certificate(&file, &mut numbers)).collect();
             for certificate in &made {
-                accepted(&file, certificate);
-                let pair = (file.bytes(), certificate.bytes());
+                let Some(pair) = accepted_rewritten(&file, certificate) else {
+                    not_fitting += 1;
+                    continue;
+                };
+                assert_eq!(pair.0, model, "two spellings of one automaton are rewritten to one file");
+                rewritten += u64::from(file != model);
+                let pair = bytes(pair);
                 assert_eq!(judge_costs(&pair.0, &respelled(&pair, &mut numbers), STATES).1, certificate.blocks);
             }
             several += u64::from(made.iter().map(Certificate::bytes).collect::<BTreeSet<_>>().len() == 2);
@@ -75,6 +91,8 @@ fn all_certificates_of_a_cost_model_name_the_same_blocks_inside_the_plain_ones()
     }
     println!("{models} models, {several} with two different certificates, {apart} with more blocks than one and fewer than states");
     println!("{finer} with more blocks than without costs, {same} with the same; L by sign: {signs:?}; k that pay by layer: {layers:?}");
+    println!("{rewritten} pairs rewritten from other terms, {not_fitting} with a k that does not fit then");
+    assert!(2 * rewritten > models && 10 * not_fitting > models);
     assert!(2 * several > models && 4 * apart > models && 8 * finer > models && 4 * same > models);
     assert!([-1, 0, 1].iter().all(|sign| signs.get(sign) > Some(&models)));
     assert!([0, 1, 2].iter().all(|layer| layers.get(layer) > Some(&(models / 4))));
@@ -142,7 +160,7 @@ type Told = BTreeMap<(u32, u32), u64>;
 
 /// Every number that the call answers, with its file.
 fn every_number() -> BTreeSet<(u32, u32)> {
-    let (of_model, of_certificate) = ((1..=9).chain([29]), (11..=22).chain([30]));
+    let (of_model, of_certificate) = ((1..=9).chain([29, 34]), (11..=22).chain([30]));
     of_model.map(|number| (number, 1)).chain(of_certificate.map(|number| (number, 2))).chain([(0, 0), (10, 0)]).collect()
 }
 
@@ -279,13 +297,14 @@ fn the_first_cost_above_63_is_where_a_model_breaks() {
     }
 }
 
-/// The largest sum that a flow may pay, sums that only the cost equation refuses, and the largest prices.
+/// The largest sum that a flow may pay, sums that only the cost equation refuses, and the largest prices. They need transitions to one state in
+/// the longest terms, so the rewriting judges, without 34.
 #[test]
 fn the_largest_sums() {
     let wide = |source, action, target| Transition { cost: 63, ..Transition::step(source, action, target).times(65_535) };
     let model = Model::new(vec![0; 2], 2, [vec![wide(0, 1, 0), wide(1, 0, 0)], vec![wide(1, 0, 1); 254]].concat());
     let model = model.with_costs(|_, _| 63);
-    let says = |model: &Model, certificate: Certificate| told(judge_costs(&model.bytes(), &certificate.with_l(|_| i32::MIN).bytes(), 2).0);
+    let says = |model: &Model, certificate: Certificate| told(rewrite_costs(&model.bytes(), &certificate.with_l(|_| i32::MIN).bytes()).0.answer);
     let met = |ks: Vec<((u8, usize), u32)>| {
         Certificate::new(vec![], vec![0; 2], vec![Flow { d: u32::MAX, ks, ws: vec![((0, 0), u32::MAX)] }])
     };
@@ -317,7 +336,7 @@ fn the_largest_sums() {
         let refutation = Refutation::new(0, 1, sides).with_l(l);
         let certificate = Certificate { refutations: vec![refutation], ..Certificate::new(vec![], vec![0, 1], vec![]) };
         let certificate = Certificate { rule: Rule::Costs, ..certificate };
-        told(judge_costs(&model.bytes(), &certificate.bytes(), 2).0)
+        told(rewrite_costs(&model.bytes(), &certificate.bytes()).0.answer)
     };
     assert_eq!(refuted(0, 63, vec![vec![high; 2], vec![low; 2]], low), (16, 4, 1, 65_535 * (65 * (1 << 31) - 1)));
     assert_eq!(refuted(0, 63, vec![vec![high; 2], vec![low; 2]], high), (15, 4, 0, 0));

@@ -9,11 +9,14 @@ use maker::families::{
     refutation_heavy, still, tolls,
 };
 use maker::files::{by_appearance, Certificate, Flow, Model, Refutation, Transition};
-use plain::{Rule, BEFORE_K7, TODAY, TRANSITIONS};
+use plain::{Limits, Rule, TODAY, TRANSITIONS};
 use std::collections::BTreeMap;
 use zolkirta::{MODEL, SHEET, STATES};
 
 type Pair = (Vec<u8>, Vec<u8>);
+
+/// The limits from before K7, with today's terms: nothing but the limits makes a difference.
+const BEFORE_K7: Limits = Limits { terms: TODAY.terms, ..plain::BEFORE_K7 };
 
 /// Number and place by today's limits, from both, and by the older ones.
 fn now_and_before(model: &[u8], certificate: &[u8]) -> [(u32, usize); 2] {

@@ -1,16 +1,16 @@
 //! Certificates made for random automata and structured families: accepted by the library and the plain judge alike, with the maker's
-//! own blocks, whichever certificate it is and however the fractions are spelled; and what both answer once they are damaged.
+//! own blocks, whichever certificate it is and, once rewritten, however the fractions are spelled; and what both answer once they are damaged.
 mod compare;
 mod maker;
 mod plain;
 mod records;
 
-use compare::{every_kind, judge, reduce, rounds, Counts, Numbers};
+use compare::{every_kind, judge, reduce, rewrite, rounds, Counts, Numbers};
 use maker::families::{
     bytes, copies, flow_heavy, half, in_any_order, internal_chain, largest, most_copies, one_source, random_large, refutation_heavy, still,
 };
 use maker::files::{Certificate, Model};
-use maker::random::random_model;
+use maker::random::{in_any_terms, random_model};
 use maker::Missed;
 use records::{crowded, damaged, respelled};
 use std::collections::BTreeSet;
@@ -30,6 +30,18 @@ fn accepted(model: &Model, certificate: &Certificate) -> Vec<u8> {
     merged
 }
 
+/// A pair in any terms is refused unless it is in lowest ones, and accepted once it is rewritten, where every k fits: the new pair and its merged
+/// model.
+fn accepted_rewritten(model: &Model, certificate: &Certificate) -> Option<(Model, Certificate, Vec<u8>)> {
+    let (pa, ct) = (model.bytes(), certificate.bytes());
+    if model.lowest() != *model {
+        assert_eq!([judge(&pa, &ct, STATES).0, reduce(&pa, &ct, pa.len()).0].map(|answer| answer.number), [34; 2]);
+    }
+    let (lowest, own) = maker::rewritten(model, certificate, rewrite(&pa, &ct))?;
+    let merged = accepted(&lowest, &own);
+    Some((lowest, own, merged))
+}
+
 /// How many transitions the merged model leaves out that differ from an earlier one of their block in their terms alone.
 fn dropped_in_other_terms(model: &Model, blocks: &[u8], merged: &Model) -> usize {
     let mut fields = BTreeSet::new();
@@ -46,27 +58,33 @@ fn all_certificates_of_an_automaton_name_the_same_blocks() {
     let mut numbers = Numbers::new(1);
     let mut missed = Missed::default();
     let (mut several, mut apart, mut refuted, mut met, mut detours) = (0, 0, 0, 0, 0);
-    let (mut spellings, mut dropped) = (0, 0);
+    let (mut rewritten, mut not_fitting, mut dropped) = (0, 0, 0);
     let models = rounds(800);
     for _ in 0..models {
         let model = random_model(&mut numbers, 10);
         let (mut all, mut merged_files) = (Vec::new(), BTreeSet::new());
-        for (file, times) in [(model.respelled(1), 1), (model.respelled(4), 1), (model.longest(), 1), (model.clone(), 3)] {
+        let spelled = [in_any_terms(&model, &mut numbers), model.respelled(4), model.longest()].map(|file| (file, 1));
+        for (file, times) in spelled.into_iter().chain([(model.clone(), 3)]) {
             let made: Vec<Certificate> = (0..times).filter_map(|_| missed.certificate(&file, &mut numbers)).collect();
-            let merged: BTreeSet<Vec<u8>> = made.iter().map(|certificate| accepted(&file, certificate)).collect();
-            assert!(merged.len() <= 1, "one model file has one merged model: {file:?}");
-            merged_files.extend(merged.iter().cloned());
-            dropped += made.first().zip(merged.first()).map_or(0, |(one, merged)| dropped_in_other_terms(&file, &one.blocks, &Model::read(merged)));
             several += u64::from(made.iter().map(Certificate::bytes).collect::<BTreeSet<_>>().len() == 3);
             for certificate in &made {
                 let pair = (file.bytes(), certificate.bytes());
-                assert_eq!(judge(&pair.0, &respelled(&pair, &mut numbers), STATES).1, certificate.blocks);
+                if let Some((lowest, own, merged)) = accepted_rewritten(&file, certificate) {
+                    assert_eq!(lowest, model, "two spellings of one automaton are rewritten to one file");
+                    dropped += dropped_in_other_terms(&lowest, &own.blocks, &Model::read(&merged));
+                    merged_files.insert(merged);
+                    rewritten += u64::from(file != model);
+                    let pair = (lowest.bytes(), own.bytes());
+                    assert_eq!(judge(&pair.0, &respelled(&pair, &mut numbers), STATES).1, certificate.blocks);
+                } else {
+                    not_fitting += 1;
+                }
+                let number = rewrite(&pair.0, &respelled(&pair, &mut numbers)).0.answer.number;
+                assert!(matches!(number, 0 | 35), "accepted without 34 in either case");
             }
             all.extend(made);
         }
-        let automata: BTreeSet<Vec<u8>> = merged_files.iter().map(|merged| Model::read(merged).lowest().bytes()).collect();
-        assert!(automata.len() <= 1, "one automaton has one merged automaton: {model:?}");
-        spellings += u64::from(merged_files.len() > 1);
+        assert!(merged_files.len() <= 1, "one automaton has one merged file: {model:?}");
         let named: BTreeSet<&Vec<u8>> = all.iter().map(|certificate| &certificate.blocks).collect();
         assert!(named.len() <= 1, "{named:?} for {model:?}");
         apart += u64::from(named.iter().any(|blocks| (2..model.n()).contains(&BTreeSet::from_iter(*blocks).len())));
@@ -78,8 +96,9 @@ fn all_certificates_of_an_automaton_name_the_same_blocks() {
     }
     println!("{models} models, {several} with three different certificates, {apart} with more blocks than one and fewer than states");
     println!("{refuted} refutations, {met} flows, {detours} with internal steps");
-    println!("{spellings} merged models in several spellings, {dropped} transitions dropped that differed in their terms alone");
-    assert!(2 * spellings > models && dropped as u64 > models);
+    println!("{rewritten} pairs rewritten from other terms, {not_fitting} with a k that does not fit then");
+    println!("{dropped} transitions dropped that differed in their terms alone");
+    assert!(rewritten > models && 10 * not_fitting > models && dropped as u64 > models);
     assert!(4 * several > 3 * models && 4 * apart > models);
     assert!(refuted > 10 * models && met > 100 * models && detours > 50 * models);
 }

@@ -4,7 +4,7 @@ mod compare;
 mod maker;
 mod plain;
 
-use compare::{alike, every_kind, judge, kind, reduce, rounds, Kind, Numbers};
+use compare::{alike, every_kind, in_lowest_terms, judge, kind, reduce, rewrite, rounds, Kind, Numbers};
 use maker::files::{Certificate, Flow, Model, Refutation, Transition};
 use maker::random::random_model;
 use std::collections::{BTreeMap, BTreeSet};
@@ -13,11 +13,16 @@ use zolkirta::{MODEL, STATES};
 /// Number, state and remainder.
 type Told = (u32, usize, i64);
 
-/// Every call that judges refuses the certificate with this.
+/// Every call that judges refuses the certificate with this, but where 34 refuses the model: then the rewriting alone does.
 fn refused(model: &[u8], certificate: &[u8], told: Told) -> Option<Kind> {
-    let answer = judge(model, certificate, STATES).0;
+    let answer = rewrite(model, certificate).0.answer;
     assert_eq!((answer.number, answer.state as usize, answer.remainder), told);
-    assert_eq!([reduce(model, certificate, MODEL).0, alike(model, certificate, [1, 0, 1]).answer], [answer; 2]);
+    let judged = [judge(model, certificate, STATES).0, reduce(model, certificate, MODEL).0, alike(model, certificate, [1, 0, 1]).answer];
+    if in_lowest_terms(model) == model {
+        assert_eq!(judged, [answer; 3]);
+    } else {
+        assert_eq!(judged.map(|answer| answer.number), [34; 3]);
+    }
     kind(answer, model, certificate)
 }
 
@@ -127,9 +132,10 @@ fn a_changed_number_is_off_by_the_change() {
     assert_eq!(kinds, every_kind());
 }
 
-/// A transition to one state in the longest terms.
-fn wide(source: usize, action: usize, target: usize) -> Transition {
-    Transition::step(source, action, target).times(65_535)
+/// A transition in the longest terms that leads to a state with so much of 65,535, and with what is left to state 2.
+fn wide(source: usize, action: usize, target: usize, p: i64) -> Transition {
+    let weights = [(target, p), (2, 65_535 - p)].into_iter().filter(|e| e.1 > 0).collect();
+    Transition { source, action, d: 65_535, weights, cost: 0 }
 }
 
 /// A transition to all states in the longest terms.
@@ -137,9 +143,17 @@ fn spread(source: usize, action: usize) -> Transition {
     Transition { source, action, d: 65_535, weights: (0..STATES).map(|v| (v, if v == 0 { 511 } else { 512 })).collect(), cost: 0 }
 }
 
-/// Sums as large as they can be, or some terms below: in 21 all w together are D, since the equations at v hold.
+/// Sums as large as they can be, or some terms below: in 21 all w together are D, since the equations at v hold. With 65,535 to one state 34
+/// refuses, and the rewriting judges; with 65,534 every call does.
 #[test]
 fn the_largest_sums() {
+    largest_sums(65_535);
+    largest_sums(65_534);
+}
+
+fn largest_sums(p: i64) {
+    let wide = |source, action, target| wide(source, action, target, p);
+    let times_most = |x: i64| x * i64::from(u32::MAX);
     let mut kinds = BTreeSet::new();
     let mut tell = |transitions: Vec<Transition>, refutations: Vec<Refutation>, flows: Vec<Flow>, told: Told| {
         let model = Model::new(vec![0; STATES], 2, transitions);
@@ -153,20 +167,20 @@ fn the_largest_sums() {
 
     // 256 internal transitions that leave state 0 and all w, and 256 that lead there and D.
     tell(vec![wide(0, 0, 1); 256], vec![], flow(most(0, 0..256), everywhere.clone()), (20, 0, -72_057_044_265_336_960));
-    tell(vec![wide(1, 0, 0); 256], vec![], flow(most(0, 0..256), nowhere()), (20, 0, 72_056_498_804_490_495));
+    tell(vec![wide(1, 0, 0); 256], vec![], flow(most(0, 0..256), nowhere()), (20, 0, times_most(256 * p + 1)));
     // Before the move: 256 moves that leave state 0, and 255 internal transitions that lead there and D.
     tell(vec![wide(0, 1, 1); 256], vec![], flow(most(1, 0..256), everywhere.clone()), (20, 0, -72_056_494_509_523_200));
     let moves_first = [vec![wide(1, 1, 0)], vec![wide(1, 0, 0); 255]].concat();
-    tell(moves_first, vec![], flow(most(0, 1..256), nowhere()), (20, 0, 71_775_028_122_812_670));
+    tell(moves_first, vec![], flow(most(0, 1..256), nowhere()), (20, 0, times_most(255 * p + 1)));
     // After the move, with 254 internal transitions: the defender moves by its own transition.
     let leaving = [vec![Transition::step(0, 1, 0)], vec![wide(0, 0, 1); 254], vec![Transition::step(1, 1, 1)]].concat();
     let ks = [most(1, 255..256), most(2, 1..255)].concat();
     tell(leaving, vec![], flow(ks, everywhere), (20, 0, -71_494_102_901_981_310));
     let arriving = [vec![Transition::step(0, 1, 0), Transition::step(1, 1, 0)], vec![wide(1, 0, 0); 254]].concat();
     let ks = [most(1, 1..2), most(2, 2..256)].concat();
-    tell(arriving, vec![], flow(ks, nowhere()), (20, 0, 71_493_557_441_134_845));
+    tell(arriving, vec![], flow(ks, nowhere()), (20, 0, times_most(254 * p + 1)));
     // D is spread over all states, 65,537 times 65,535, and each has it from there: all onto state 0 or all onto state 1.
-    for (target, onto, remainder) in [(1, 0, 281_470_681_677_825), (0, 1, -281_470_681_677_825)] {
+    for (target, onto, remainder) in [(1, 0, 281_470_681_677_825), (0, 1, times_most(-p))] {
         let ws = spread(1, 0).weights.iter().map(|&(v, p)| ((v, onto), 65_537 * p as u32)).collect();
         tell(vec![wide(0, 0, target), spread(1, 0)], vec![], flow(vec![((0, 1), 65_537)], ws), (21, 0, remainder));
     }

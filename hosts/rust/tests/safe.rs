@@ -2,7 +2,7 @@
 mod compare;
 mod plain;
 
-use compare::{accepted, accepted_costs, accepted_texts, lines, Answering, Both, Counts, Numbers};
+use compare::{accepted, accepted_costs, accepted_texts, lines, of_todays_limits, stored, stored_costs, Answering, Both, Counts, Numbers, Rewritten};
 use plain::{AlikeAnswer, Answer};
 use std::collections::BTreeSet;
 use zolkirta::{Difference, File, Refusal, MODEL, STATES};
@@ -102,6 +102,23 @@ impl Answering for Safe {
         }
         said
     }
+
+    fn rewrite(&self, call: &str, model: &[u8], certificate: &[u8], lengths: [usize; 2]) -> Rewritten {
+        let (said, files) = Both.rewrite(call, model, certificate, lengths);
+        let safe = if call == "rewrite" { zolkirta::rewrite } else { zolkirta::rewrite_costs };
+        let [mut pa, mut ct] = lengths.map(|length| vec![0x3c; length]);
+        let starts = [pa.as_ptr(), ct.as_ptr()];
+        match safe(model, certificate, &mut pa, &mut ct) {
+            Ok((lowest, its)) => {
+                assert_eq!((said.answer.number, [lowest, its]), (0, [&files[0][..], &files[1]]));
+                assert_eq!([lowest.as_ptr(), its.as_ptr()], starts);
+            }
+            Err(refusal) => same_refusal(refusal, said.answer, File::Model, model, certificate),
+        }
+        let later = [&pa[files[0].len()..], &ct[files[1].len()..]];
+        assert!(later.concat().iter().all(|&byte| byte == 0x3c));
+        (said, files)
+    }
 }
 
 fn same(counts: &mut Counts, model: &[u8], certificate: &[u8], state: u32, blocks: usize, out: usize) {
@@ -137,8 +154,8 @@ fn safe_calls_say_what_the_raw_ones_say() {
         let (model, certificate) = one_bit_changed(&pairs, &mut numbers);
         same(&mut counts, &model, &certificate, numbers.below(9) as u32, STATES, model.len());
     }
-    for (number, count) in counts.answers.iter().enumerate() {
-        assert!(*count > 0, "no safe call was answered with {number}");
+    for number in (0..=24).chain([34]) {
+        assert!(counts.answers[number] > 0, "no safe call was answered with {number}");
     }
 }
 
@@ -153,6 +170,22 @@ fn the_safe_call_for_cost_pairs_says_what_the_raw_one_says() {
         told.insert(Safe.lent("judge_costs", &model, &certificate, length).0.number);
     }
     assert!([0, 1, 2, 10, 16, 20, 21, 29, 30].iter().all(|number| told.contains(number)), "{told:?}");
+}
+
+#[test]
+fn the_safe_calls_that_rewrite_say_what_the_raw_ones_say() {
+    let mut numbers = Numbers::new(16);
+    for (call, pairs, of_costs) in [("rewrite", stored(), &[][..]), ("rewrite_costs", stored_costs(), &[29, 30])] {
+        let mut told = BTreeSet::new();
+        for _ in 0..20_000 {
+            let (model, certificate) = one_bit_changed(&pairs, &mut numbers);
+            let less = if numbers.below(8) == 0 { [numbers.below(2), numbers.below(2)] } else { [0; 2] };
+            let said = Safe.rewrite(call, &model, &certificate, [model.len() - less[0], certificate.len() - less[1]]).0;
+            told.insert(said.answer.number);
+        }
+        assert!([0, 1, 2, 7, 16, 20, 21, 35, 36].iter().chain(of_costs).all(|number| told.contains(number)), "{call} {told:?}");
+        assert!(!told.contains(&10) && !told.contains(&34));
+    }
 }
 
 #[test]
@@ -174,6 +207,7 @@ fn safe_calls_give_the_answers_of_the_vectors() {
     let all = lines();
     all.iter().for_each(|v| v.holds_for(&Safe));
     assert!((1..=3).all(|file| all.iter().any(|v| v.said.0.file == file)));
+    of_todays_limits().filter(|v| v.before_k10()).for_each(|v| _ = v.held_by(&Safe));
 }
 
 #[test]

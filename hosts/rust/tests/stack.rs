@@ -3,14 +3,14 @@ mod compare;
 mod maker;
 mod plain;
 
-use compare::{accepted, accepted_costs, accepted_texts, judge_costs, read_prism, Counts};
+use compare::{accepted, accepted_costs, accepted_texts, judge_costs, read_prism, rewrite, rewrite_costs, stored, stored_costs, Counts, Rewritten};
 use maker::families::{
     bytes, flow_heavy, flow_heavy_with_costs, half, internal_chain, largest, one_source, refutation_heavy, tolls, with_costs,
 };
 use maker::prism::largest_text;
 use std::arch::asm;
-use zolkirta::raw::{zolkirta_alike, zolkirta_fetch, zolkirta_join, zolkirta_judge, zolkirta_judge_costs, AlikeAnswer};
-use zolkirta::raw::{zolkirta_read_prism, zolkirta_reduce, zolkirta_sheet};
+use zolkirta::raw::{zolkirta_alike, zolkirta_fetch, zolkirta_join, zolkirta_judge, zolkirta_judge_costs, zolkirta_read_prism};
+use zolkirta::raw::{zolkirta_reduce, zolkirta_rewrite, zolkirta_rewrite_costs, zolkirta_sheet, PairAnswer};
 use zolkirta::{MODEL, SHEET, STATES};
 
 /// Several times what a call uses.
@@ -18,17 +18,18 @@ use zolkirta::{MODEL, SHEET, STATES};
 struct Stack([u8; 1 << 16]);
 
 /// The words that a call takes, in the order of the System V calling convention: after the place of its answer five in registers and
-/// two on the stack. A call that takes fewer looks at no others.
-type Words = [usize; 7];
+/// three on the stack. A call that takes fewer looks at no others.
+type Words = [usize; 8];
 
 /// Makes a call on a stack painted with a byte, and hands back how many bytes it touched, its return address among them.
 fn touched(call: *const (), words: Words, paint: u8) -> usize {
     let mut stack = Box::new(Stack([paint; 1 << 16]));
-    let start = stack.0.len() - 16;
-    stack.0[start..start + 8].copy_from_slice(&words[5].to_ne_bytes());
-    stack.0[start + 8..].copy_from_slice(&words[6].to_ne_bytes());
-    // The longest answer; the others are its beginning.
-    let mut said = AlikeAnswer::default();
+    let start = stack.0.len() - 32;
+    for (place, word) in stack.0[start..].chunks_exact_mut(8).zip(&words[5..]) {
+        place.copy_from_slice(&word.to_ne_bytes());
+    }
+    // As long as the longest answer; others are shorter, and all begin with the same.
+    let mut said = PairAnswer::default();
     said.answer.number = u32::MAX;
     // SAFETY: the call is one of the library's, with words that it takes. r12, which it preserves, keeps the test's stack pointer.
     unsafe {
@@ -78,6 +79,11 @@ fn calls_use_the_stack_that_the_header_states() {
     for (model, certificate) in &cost_pairs {
         assert_eq!(judge_costs(model, certificate, STATES).0.number, 0);
     }
+    let fits = |(said, _): Rewritten| said.answer.number == 0;
+    let mut stored_pairs = [stored(), pairs.clone()].concat();
+    stored_pairs.retain(|(model, certificate)| fits(rewrite(model, certificate)));
+    let mut stored_cost_pairs = [stored_costs(), cost_pairs.clone()].concat();
+    stored_cost_pairs.retain(|(model, certificate)| fits(rewrite_costs(model, certificate)));
     let mut texts = accepted_texts();
     texts.extend([true, false].map(largest_text));
     for text in &texts {
@@ -90,17 +96,24 @@ fn calls_use_the_stack_that_the_header_states() {
     let words = |file: &Vec<u8>| (file.as_ptr() as usize, file.len());
     let lending = |(one, other): &(Vec<u8>, Vec<u8>)| -> Words {
         let ((one, size), (other, other_size)) = (words(one), words(other));
-        [one, size, other, other_size, lent, room, 0]
+        [one, size, other, other_size, lent, room, 0, 0]
+    };
+    let mut long = vec![0u8; stored_pairs.iter().chain(&stored_cost_pairs).map(|(_, certificate)| certificate.len()).max().unwrap()];
+    let [lent_too, room_too] = [long.as_mut_ptr() as usize, long.len()];
+    let rewriting = |pair: &(Vec<u8>, Vec<u8>)| -> Words {
+        let mut words = lending(pair);
+        [words[6], words[7]] = [lent_too, room_too];
+        words
     };
     // State 0 is fetched, and compared with the last one.
-    let fetching = |(model, _): &(Vec<u8>, Vec<u8>)| -> Words { [words(model).0, words(model).1, 0, 0, 0, 0, 0] };
+    let fetching = |(model, _): &(Vec<u8>, Vec<u8>)| -> Words { [words(model).0, words(model).1, 0, 0, 0, 0, 0, 0] };
     let comparing = |(model, certificate): &(Vec<u8>, Vec<u8>)| -> Words {
         let last = usize::from(model[2]) - 1;
-        [words(model).0, words(model).1, last, words(certificate).0, words(certificate).1, 0, last]
+        [words(model).0, words(model).1, last, words(certificate).0, words(certificate).1, 0, last, 0]
     };
-    let reading = |text: &Vec<u8>| -> Words { [words(text).0, words(text).1, lent, room, 0, 0, 0] };
+    let reading = |text: &Vec<u8>| -> Words { [words(text).0, words(text).1, lent, room, 0, 0, 0, 0] };
     let several_states = pairs.iter().filter(|(model, _)| model[2] > 1);
-    let calls: [(&str, *const (), Vec<Words>); 8] = [
+    let calls: [(&str, *const (), Vec<Words>); 10] = [
         ("zolkirta_fetch", zolkirta_fetch as *const (), pairs.iter().map(fetching).collect()),
         ("zolkirta_judge", zolkirta_judge as *const (), pairs.iter().map(lending).collect()),
         ("zolkirta_judge_costs", zolkirta_judge_costs as *const (), cost_pairs.iter().map(lending).collect()),
@@ -109,6 +122,8 @@ fn calls_use_the_stack_that_the_header_states() {
         ("zolkirta_join", zolkirta_join as *const (), joins.iter().map(lending).collect()),
         ("zolkirta_alike", zolkirta_alike as *const (), several_states.map(comparing).collect()),
         ("zolkirta_read_prism", zolkirta_read_prism as *const (), texts.iter().map(reading).collect()),
+        ("zolkirta_rewrite", zolkirta_rewrite as *const (), stored_pairs.iter().map(rewriting).collect()),
+        ("zolkirta_rewrite_costs", zolkirta_rewrite_costs as *const (), stored_cost_pairs.iter().map(rewriting).collect()),
     ];
     for (name, call, asked) in calls {
         // A byte that is written in the colour of one paint shows in the other.

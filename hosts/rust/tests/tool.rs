@@ -37,6 +37,62 @@ fn each_call_accepts() {
     );
     assert_eq!(folder.read("out"), folder.read("relay.model"));
     said("judge out relay.certificate", "accepted: 5 states in 2 blocks\nblock 0: 0 4\nblock 1: 1 2 3\n");
+    said(
+        "rewrite stored.model stored.certificate -o out its",
+        "accepted: 5 states in 3 blocks\nwritten: out: 5 states, 8 transitions, 105 bytes\nwritten: its: 224 bytes\n",
+    );
+    assert_eq!([folder.read("out"), folder.read("its")], ["repeats.model", "repeats.certificate"].map(|name| folder.read(name)));
+    write_costs_stored(&folder);
+    said(
+        "rewrite-costs stored-costs.model stored-costs.certificate -o out its",
+        "accepted: 3 states in 2 blocks\nwritten: out: 3 states, 3 transitions, 46 bytes\nwritten: its: 145 bytes\n",
+    );
+    assert_eq!([folder.read("out"), folder.read("its")], ["costs.model", "costs.certificate"].map(|name| folder.read(name)));
+}
+
+/// The cost pair with its first transition written 2/2, and k to match: of the last flow, 1 for 2.
+fn write_costs_stored(folder: &Folder) {
+    let (mut model, mut certificate) = (folder.read("costs.model"), folder.read("costs.certificate"));
+    let k = certificate.len() - 9;
+    [16, 20].into_iter().for_each(|at| model[at] = 2);
+    assert_eq!(certificate[k], 2);
+    certificate[k] = 1;
+    folder.write("stored-costs.model", &model);
+    folder.write("stored-costs.certificate", &certificate);
+}
+
+#[test]
+fn a_stored_pair_is_refused_until_it_is_rewritten() {
+    let folder = Folder::new("stored");
+    write_costs_stored(&folder);
+    let refused = |words: &str, said: &str, more: &str| {
+        let lines = format!("refused: 34, a transition's weights have a common divisor above 1, {said}, byte {more}\n");
+        folder.run(words).is(1, &lines, "");
+    };
+    let transition = "59\nin stored.model, from there on: 54 52 02 01 00 04 02 01 00 02 04 00 02 54 52 02 and 30 more bytes";
+    refused("judge stored.model stored.certificate", "model", transition);
+    refused("reduce stored.model stored.certificate -o out", "model", transition);
+    refused("sheet stored.model stored.certificate", "model", transition);
+    refused("fetch stored.model 0", "model", transition);
+    refused("join first.model stored.model -o out", "second model", transition);
+    refused("alike stored.model first.model joined.certificate 0 1", "first model", transition);
+    let costly = "11\nin stored-costs.model, from there on: 54 52 00 01 00 02 01 00 00 02 54 52 01 01 00 01 and 19 more bytes";
+    refused("judge-costs stored-costs.model stored-costs.certificate", "model", costly);
+    // A loop that no equation notices: 3 times 1,431,655,765 fits, and one more does not.
+    folder.write("loop.model", b"PA\x02\x01\0\x01LB\0\0TR\0\0\0\x03\x01\0\0\x03");
+    for (k, number) in [(1_431_655_765u32, 0), (1_431_655_766, 35)] {
+        let certificate = [b"CT\0\0BK\0\0FL\0\0\0\x01\0\x01\0\0\0", &k.to_be_bytes()[..], b"\0\x01\x01\0\0\0\0\x01"].concat();
+        folder.write("loop.certificate", &certificate);
+        let ran = folder.run("rewrite loop.model loop.certificate -o out its");
+        if number == 0 {
+            ran.is(0, "accepted: 2 states in 1 block\nwritten: out: 2 states, 1 transition, 20 bytes\nwritten: its: 31 bytes\n", "");
+            assert_eq!(folder.read("its")[19..23], [0xff; 4]);
+        } else {
+            let line = "refused: 35, the certificate is accepted, and a k of the rewritten flow is above 4,294,967,295, certificate, byte 8\n\
+                        in loop.certificate, from there on: 46 4c 00 00 00 01 00 01 00 00 00 55 55 55 56 00 and 7 more bytes\n";
+            ran.is(1, line, "zolkirta: out stays as it was\nzolkirta: its stays as it was\n");
+        }
+    }
 }
 
 #[test]
@@ -105,7 +161,7 @@ fn fetched_transitions_are_decoded() {
         "2",
         "accepted: 4 transitions leave state 2\n\
          transition 3: internal, to 0 with 1/1\n\
-         transition 4: action 1, to 1 with 2/4, to 4 with 2/4\n\
+         transition 4: action 1, to 1 with 1/2, to 4 with 1/2\n\
          transition 5: action 1, to 3 with 1/2, to 4 with 1/2\n\
          transition 6: action 2, to 4 with 1/1\n",
     );
@@ -114,7 +170,7 @@ fn fetched_transitions_are_decoded() {
 }
 
 /// Calls that are refused, and what their lines say.
-const REFUSED: [(&str, &str, &str); 8] = [
+const REFUSED: [(&str, &str, &str); 10] = [
     (
         "judge small.model small.model",
         "refused: 12, a record has a wrong mark, certificate, byte 0\n",
@@ -151,6 +207,16 @@ const REFUSED: [(&str, &str, &str); 8] = [
         "refused: 31, a line breaks the form or a limit, or the head's counts are not the text's, text, byte 0\n",
         "in small.sheet, line 1: \"   0   2   0   1                                            \" and 12 more bytes\n",
     ),
+    (
+        "rewrite costs.model costs.certificate -o out its",
+        "refused: 9, bytes are left after the last record, model, byte 41\n",
+        "in costs.model, from there on: 43 4f 01 05 01\n",
+    ),
+    (
+        "rewrite-costs first.model costs.certificate -o out its",
+        "refused: 1, the file ends inside a record, model, byte 10\n",
+        "in first.model, which ends there\n",
+    ),
 ];
 
 #[test]
@@ -158,7 +224,7 @@ fn each_call_refuses() {
     let folder = Folder::new("refuses");
     for (words, line, more) in REFUSED {
         folder.run(words).is(1, &format!("{line}{more}"), "");
-        assert!(!folder.path.join("out").exists());
+        assert!(!folder.path.join("out").exists() && !folder.path.join("its").exists());
     }
     let outside = "refused: 27, accepted, and the first's count is above the state count or a state is not in its part\n\
                    first.model has the states 0 to 1\nsecond.model has the states 0 to 3\n";
@@ -210,7 +276,8 @@ fn a_state_beyond_all_numbers_is_refused_and_never_another() {
 }
 
 /// The fields of the JSON object, in order.
-const FIELDS: &str = "call number meaning file name place state remainder blocks written output states transitions names sheet run alike";
+const FIELDS: &str = "call number meaning file name place state remainder blocks written output states transitions names sheet run alike \
+                      certificate_written certificate_output";
 
 /// The line with these fields, and null for all others.
 fn object(told: &[(&str, &str)]) -> String {
@@ -239,6 +306,16 @@ fn json_has_every_field() {
     accepted("join first.model second.model -o out", &joined);
     let names = [("written", "82"), ("output", "\"out\""), ("states", "5"), ("transitions", "6"), ("names", r#"["send","deliver"]"#)];
     accepted("read-prism relay.tra -o out", &names);
+    let both = [
+        ("blocks", "[0,1,0,1,2]"),
+        ("written", "105"),
+        ("output", "\"out\""),
+        ("states", "5"),
+        ("transitions", "8"),
+        ("certificate_written", "224"),
+        ("certificate_output", "\"its\""),
+    ];
+    accepted("rewrite stored.model stored.certificate -o out its", &both);
     let step = r#"{"number":1,"source":2,"action":0,"denominator":2,"targets":[{"state":1,"weight":1},{"state":2,"weight":1}]}"#;
     let other = r#"{"number":2,"source":2,"action":0,"denominator":1,"targets":[{"state":3,"weight":1}]}"#;
     accepted("fetch second.model 2", &[("run", &format!("[{step},{other}]"))]);
@@ -311,6 +388,16 @@ fn options_stand_in_any_place() {
         "reduce --output=out -- small.model small.certificate",
         "-oout -- reduce small.model small.certificate",
     ];
+    for words in [
+        "rewrite -o out its stored.model stored.certificate",
+        "rewrite -oout its stored.model stored.certificate",
+        "rewrite stored.model --output out its stored.certificate",
+        "rewrite stored.model stored.certificate --output=out its",
+    ] {
+        folder.run(words).first_line_is(0, "accepted: 5 states in 3 blocks");
+        assert_eq!([folder.read("out"), folder.read("its")], ["repeats.model", "repeats.certificate"].map(|name| folder.read(name)));
+        fs::remove_file(folder.path.join("out")).unwrap();
+    }
     for words in spelled {
         folder.run(words).first_line_is(0, ACCEPTED);
         assert_eq!(folder.read("out"), folder.read("small.merged"));
@@ -334,7 +421,7 @@ fn help_and_version_are_printed() {
     for field in FIELDS.split(' ') {
         assert!(told.contains(&format!(" {field}")), "{field}");
     }
-    for call in ["judge", "judge-costs", "reduce", "sheet", "join", "fetch", "alike", "read-prism"] {
+    for call in ["judge", "judge-costs", "reduce", "sheet", "join", "fetch", "alike", "read-prism", "rewrite", "rewrite-costs"] {
         let help = folder.run(&format!("{call} --help"));
         assert_eq!((help.status, help.err.as_str()), (0, ""));
         let usage = help.out.lines().next().unwrap();
@@ -380,6 +467,16 @@ fn words_that_make_no_call_get_two_lines() {
         ("read-prism -o out", "read-prism: TEXT is missing"),
         ("read-prism relay.tra", "read-prism: -o OUT is missing"),
         ("read-prism relay.tra relay.tra -o out", "read-prism: relay.tra is one word too many"),
+        ("rewrite stored.model stored.certificate", "rewrite: -o MODEL_OUT CERTIFICATE_OUT is missing"),
+        ("rewrite stored.model stored.certificate -o out", "rewrite: -o needs the names of two files"),
+        ("rewrite stored.model stored.certificate -o out --json", "rewrite: -o needs the names of two files"),
+        ("rewrite stored.model stored.certificate -oout", "rewrite: -o needs the names of two files"),
+        ("rewrite stored.model stored.certificate -o out out", "rewrite: -o names out twice"),
+        ("rewrite stored.model stored.certificate -o - -", "rewrite: -o names standard output twice"),
+        ("rewrite stored.model stored.certificate -o out ./out", "rewrite: -o names out twice"),
+        ("-o out rewrite stored.model stored.certificate", "rewrite: -o with its two names must stand behind the call"),
+        ("rewrite stored.model -o out its", "rewrite: CERTIFICATE is missing"),
+        ("rewrite-costs costs.model costs.certificate -o out its more", "rewrite-costs: more is one word too many"),
         ("judge - -", "judge: - is standard input, and there is only one"),
         ("alike - second.model - 0 3", "alike: - is standard input, and there is only one"),
     ];

@@ -238,6 +238,45 @@ fn an_output_that_cannot_be_written_leaves_nothing() {
     assert_eq!((refused.status, refused.err.as_str()), (1, ""));
 }
 
+/// Of two files both are written, or none.
+#[test]
+fn two_outputs_are_written_both_or_none() {
+    let folder = Folder::new("both");
+    fs::create_dir(folder.path.join("folder")).unwrap();
+    let rewrite = |outputs: &str| folder.run(&format!("rewrite stored.model stored.certificate -o {outputs}"));
+    let [model, certificate] = ["repeats.model", "repeats.certificate"].map(|name| folder.read(name));
+    folder.write("older", b"older");
+    let before = folder.names();
+    for (name, words) in [("folder", A_FOLDER), ("no/out", MISSING), ("/dev/full", FULL)] {
+        let fault = format!("zolkirta: {name}: {words}\n");
+        rewrite(&format!("new {name}")).is(2, "", &fault);
+        rewrite(&format!("{name} new")).is(2, "", &fault);
+        rewrite(&format!("older {name}")).is(2, "", &format!("{fault}zolkirta: older stays as it was\n"));
+    }
+    let full = format!("zolkirta: standard output: {FULL}\nzolkirta: older stays as it was\n");
+    folder.run_into("rewrite stored.model stored.certificate -o older -", full_device()).is(2, "", &full);
+    // One file by two names: a link, whether there is a file at its end or none.
+    symlink("older", folder.path.join("link")).unwrap();
+    symlink("folder/new", folder.path.join("to-nothing")).unwrap();
+    for (one, other) in [("older", "link"), ("link", "./older"), ("to-nothing", "folder/new"), ("folder/new", "folder/../folder/new")] {
+        let ran = rewrite(&format!("{one} {other}"));
+        assert!(ran.status == 2 && ran.err.starts_with(&format!("zolkirta: rewrite: -o names {one} twice\n")), "{ran:?}");
+    }
+    ["link", "to-nothing"].into_iter().for_each(|link| fs::remove_file(folder.path.join(link)).unwrap());
+    for outputs in ["older stored.certificate", "stored.model older", "stored.certificate older"] {
+        let ran = rewrite(outputs);
+        assert!(ran.status == 2 && ran.err.starts_with("zolkirta: rewrite: -o names the same file as stored."), "{ran:?}");
+    }
+    let refused = folder.run("rewrite stored.model small.certificate -o older older2");
+    assert_eq!((refused.status, refused.err.as_str()), (1, "zolkirta: older stays as it was\n"));
+    assert_eq!((folder.read("older"), folder.names()), (b"older".to_vec(), before));
+
+    rewrite("older new").first_line_is(0, "accepted: 5 states in 3 blocks");
+    assert_eq!([folder.read("older"), folder.read("new")], [model.clone(), certificate.clone()]);
+    let ran = folder.command("rewrite stored.model stored.certificate -o - new -q".split(' ')).output().unwrap();
+    assert_eq!((ran.status.code(), ran.stdout, folder.read("new")), (Some(0), model, certificate));
+}
+
 #[test]
 fn a_named_pipe_is_written_directly() {
     let folder = Folder::new("fifo");

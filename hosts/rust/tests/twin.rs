@@ -3,13 +3,13 @@ mod compare;
 mod plain;
 
 use compare::all_lines;
-use plain::TODAY;
+use plain::{BEFORE_K7, TODAY};
 
 /// Every line by the limits that it was written under.
 #[test]
 fn the_plain_judge_gives_the_answers() {
     let all = all_lines();
     all.iter().for_each(|v| v.holds_for(v.limits()));
-    let since_k7 = all.iter().filter(|v| v.limits() == &TODAY).count();
-    assert!(since_k7 > 1100 && all.len() - since_k7 > 2900);
+    let [older, today] = [BEFORE_K7, TODAY].map(|limits| all.iter().filter(|v| v.limits() == &limits).count());
+    assert!(older > 2900 && today > 1800 && all.len() - older - today > 800);
 }

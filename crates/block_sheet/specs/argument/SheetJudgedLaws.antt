@@ -10,7 +10,7 @@ use native.Mathlib.Omega.{arith}
 use Rattle.bisimulation.specs.argument.ChoiceLaws.{pastLess, false-not}
 use Rattle.bisimulation.specs.definitions.Automaton.{Automaton}
 use Rattle.bisimulation.specs.definitions.Pairs.{Pairs, equalLabels}
-use Rattle.rules.specs.definitions.Limits.{Limits, limits}
+use Rattle.rules.specs.definitions.Limits.{Limits, current}
 use Rattle.rules.specs.definitions.Model.{automatonOf}
 use Rattle.rules.specs.definitions.SoundModel.{Bytes, FitsWidths}
 use Rattle.rules.specs.definitions.Faults.{fault}
@@ -24,7 +24,7 @@ use Rattle.rules.specs.definitions.PlainRule.{plainRule}
 use Rattle.rules.specs.definitions.Answers.{filesOutcome}
 use Rattle.rules.specs.definitions.Demands.{outcomeBy}
 use Rattle.rules.specs.argument.AnyRule.{PairRules, pairsOf}
-use Rattle.rules.specs.argument.SoundModelLaws.{limits-fit}
+use Rattle.rules.specs.argument.SoundModelLaws.{current-fit}
 use Rattle.rules.specs.argument.BlocksRecord.{blocks-good}
 use Rattle.rules.specs.argument.CertificateKept.{not-refused, none-refused}
 use Rattle.rules.specs.argument.LargestBlocks.{Numbered}
@@ -135,4 +135,4 @@ sheet-short L widths few M C buffer b c =
 
 -- of less than 9,344 bytes
 pub sheet-short-today : (M C buffer : List ℕ) → Bytes M → Bytes C → outcomeBy plainPairs (writesSheet plainRule C) M C (buffer ∷ []) .answer .number ≡ 28 → length buffer < 9344
-sheet-short-today = sheet-short limits limits-fit (omega arith)
+sheet-short-today = sheet-short current current-fit (omega arith)

@@ -8,18 +8,17 @@ use native.Mathlib.Omega.{arith}
 use Rattle.rules.specs.definitions.Limits.{Limits, current}
 use Rattle.rules.specs.definitions.SoundModel.{Bytes, FitsWidths}
 use Rattle.rules.specs.definitions.Reading.{ReadNumber}
-use Rattle.rules.specs.definitions.Answers.{leftIn, firstLent, writesBlocks, JudgeNumber}
+use Rattle.rules.specs.definitions.Answers.{leftIn, Follows, firstLent, writesBlocks, JudgeNumber}
 use Rattle.rules.specs.definitions.Demands.{outcomeBy}
-use Rattle.rules.specs.argument.SoundModelLaws.{current-fit}
 use Rattle.rules.specs.argument.ReadingLaws.{read-low, read-not-ten}
 use Rattle.rules.specs.argument.AcceptedExactly.{accepted-exactly}
 use Rattle.rules.specs.argument.AnyRule.{AnyCertificateNumber, RefusalOf}
 use Rattle.rules.specs.argument.PlainRules.{PlainNumber, ModelNumber}
-use Rattle.rules.specs.argument.PairOutcome.{outcome-number}
+use Rattle.rules.specs.argument.PairOutcome.{FollowsLaws, outcome-number}
 use Rattle.rules.specs.argument.DemandsHold.{demands-hold, none-late, blocks-follow, blocks-short}
 use Rattle.cost_files.specs.definitions.CostModel.{costsBytes, costModelBytes}
-use Rattle.cost_files.specs.definitions.CostPairs.{costPairs, CostBlocksInside}
-use Rattle.cost_files.specs.definitions.CostAnswer.{CostJudgeNumber, CostDemands}
+use Rattle.cost_files.specs.definitions.CostPairs.{costPairsAt, costPairs, CostBlocksInside}
+use Rattle.cost_files.specs.definitions.CostAnswer.{CostJudgeNumber, CostDemands, CostJudgeDemands}
 use Rattle.cost_files.specs.argument.CostCertificates.{CostNumber}
 use Rattle.cost_files.specs.argument.CostReadingLaws.{CostModelNumber, costs-in, without-costs}
 use Rattle.cost_files.specs.argument.CostRules.{costRulesAt, costRules, cost-blocks-inside}
@@ -54,16 +53,24 @@ module _ (model certificate : List ℕ) (before : List (List ℕ)) where
   pub cost-blocks-short-today : Bytes model → outcomeBy costPairs writesBlocks model certificate before .answer .number ≡ 10 → length (firstLent before) < 128
   cost-blocks-short-today = blocks-short costRules not-ten model certificate before
 
-  -- the demands follow from what the call answers, and leaves in the buffer
-  pub cost-demands-hold : (after : List (List ℕ)) (number : ℕ) → Bytes model → Bytes certificate → number ≡ outcomeBy costPairs writesBlocks model certificate before .answer .number → after ≡ leftIn (outcomeBy costPairs writesBlocks model certificate before) → CostDemands model certificate before after number
-  unfolding CostBlocksInside
+  -- within limits the demands follow from what a call answers, and leaves in the buffers, whatever follows acceptance
+  module _ (L : Limits) (widths : FitsWidths L) (few : L .refutations < 65536) (follows : Follows) (laws : FollowsLaws (costRulesAt L widths few) follows) where
+    pub cost-demands : (after : List (List ℕ)) (number : ℕ) → Bytes model → Bytes certificate → number ≡ outcomeBy (costPairsAt L) follows model certificate before .answer .number → after ≡ leftIn (outcomeBy (costPairsAt L) follows model certificate before) → (numbers : ℕ → Type 0) → numbers number → CostDemands L follows numbers model certificate before after number
+    unfolding CostBlocksInside
+    cost-demands after number b c e left numbers known =
+        let by = costRulesAt L widths few in
+        record {
+          judged = demands-hold by follows laws model certificate before after number b c e left numbers known;
+          own = λ M f. costs-in L widths model M f;
+          without = λ M f. record { sound = f .sound; encoded = without-costs L widths model M f };
+          behind = λ M f. unfold costModelBytes in f .encoded ∙ ap (λ (l : List ℕ). l ++ costsBytes (f .costs)) (sym (without-costs L widths model M f));
+          inside = λ M blocks kept plainC plainBlocks pc p.
+              cost-blocks-inside L widths few model certificate blocks plainC plainBlocks b c pc
+              (accepted-exactly by model certificate blocks b c .1 (record { M = M; file = kept .file; kept = kept .kept })) p;
+        }
+
+  -- so those of the call that judges
+  pub cost-demands-hold : (after : List (List ℕ)) (number : ℕ) → Bytes model → Bytes certificate → number ≡ outcomeBy costPairs writesBlocks model certificate before .answer .number → after ≡ leftIn (outcomeBy costPairs writesBlocks model certificate before) → CostJudgeDemands model certificate before after number
   cost-demands-hold after number b c e left =
-      record {
-        judged = demands-hold costRules writesBlocks blocks-follow model certificate before after number b c e left (CostJudgeNumber (current .terms)) (subst (CostJudgeNumber (current .terms)) (sym e) cost-judge-numbered);
-        own = λ M f. costs-in current current-fit model M f;
-        without = λ M f. record { sound = f .sound; encoded = without-costs current current-fit model M f };
-        behind = λ M f. unfold costModelBytes in f .encoded ∙ ap (λ (l : List ℕ). l ++ costsBytes (f .costs)) (sym (without-costs current current-fit model M f));
-        inside = λ M blocks kept plainC plainBlocks pc p.
-            cost-blocks-inside model certificate blocks plainC plainBlocks b c pc
-            (accepted-exactly costRules model certificate blocks b c .1 (record { M = M; file = kept .file; kept = kept .kept })) p;
-      }
+      cost-demands (costRules .limits) (costRules .widths) (costRules .refutations) writesBlocks blocks-follow after number b c e left
+      (CostJudgeNumber (current .terms)) (subst (CostJudgeNumber (current .terms)) (sym e) cost-judge-numbered)

@@ -4,10 +4,10 @@ use mathlib.Core.Path.{sym, ap, subst}
 use mathlib.Core.Logic.{_↔_}
 use mathlib.Core.List.{List}
 use native.Mathlib.Omega.{arith}
-use Rattle.rules.specs.definitions.Limits.{Limits, limits, current}
+use Rattle.rules.specs.definitions.Limits.{anyTerms, Limits, limits, withTerms, current}
 use Rattle.rules.specs.definitions.Model.{Model, automatonOf}
 use Rattle.rules.specs.definitions.SoundModel.{Bytes, FitsWidths}
-use Rattle.rules.specs.argument.SoundModelLaws.{limits-fit, current-fit, sound-bytes}
+use Rattle.rules.specs.argument.SoundModelLaws.{limits-fit, current-fit, with-fits, sound-any, sound-bytes}
 use Rattle.rules.specs.definitions.Reading.{readWhole}
 use Rattle.rules.specs.argument.ReadBack.{read-back-whole}
 use Rattle.rules.specs.definitions.Accepted.{Kept}
@@ -16,7 +16,7 @@ use Rattle.rules.specs.definitions.JudgedBy.{AcceptedBy}
 use Rattle.rules.specs.argument.AnyRule.{PairRules}
 use Rattle.rules.specs.argument.AcceptedExactly.{AcceptedAs, accepted-exactly}
 use Rattle.rules.specs.argument.Demand3Holds.{demand3, facts-of, holds}
-use Rattle.rules.specs.argument.PlainRules.{plainRules}
+use Rattle.rules.specs.argument.PlainRules.{plainRulesAt}
 use Rattle.costs.specs.argument.Inside.{costsInside}
 use Rattle.cost_files.specs.definitions.CostModel.{CostFileOf, costsIn, withoutCosts}
 use Rattle.cost_files.specs.definitions.CostFile.{costFile}
@@ -33,6 +33,8 @@ costRulesAt L widths few =
       widths = widths;
       refutations = few;
       models = costFiles L widths;
+      spelled = costFiles (withTerms anyTerms L) (with-fits anyTerms L widths);
+      among = λ bytes M f. record { costs = f .costs; sound = sound-any L M (f .sound); right = f .right; encoded = f .encoded };
       numbers = CostNumber;
       rule = λ model. costCertificates (costsIn model);
       oneAutomaton = HoldOneWithCosts;
@@ -76,16 +78,17 @@ pub cost-demand3 : Demand3 costPairs
 cost-demand3 = demand3 costRules
 
 -- the bytes without the cost record hold the same model
-holds-without : (bytes : List ℕ) (M : Model) → CostFileOf current bytes M → Bytes (withoutCosts bytes) × HoldsModel (readWhole current) (withoutCosts bytes) M
-holds-without bytes M f =
-    subst (λ (s : List ℕ). Bytes s × HoldsModel (readWhole current) s M) (sym (without-costs current current-fit bytes M f))
-    (sound-bytes current M current-fit (f .sound), record { reads = read-back-whole current M current-fit (f .sound) })
+holds-without : (L : Limits) (widths : FitsWidths L) (bytes : List ℕ) (M : Model) → CostFileOf L bytes M → Bytes (withoutCosts bytes) × HoldsModel (readWhole L) (withoutCosts bytes) M
+holds-without L widths bytes M f =
+    subst (λ (s : List ℕ). Bytes s × HoldsModel (readWhole L) s M) (sym (without-costs L widths bytes M f))
+    (sound-bytes L M widths (f .sound), record { reads = read-back-whole L M widths (f .sound) })
 
 -- 'accepted cost blocks must lie inside the accepted blocks of the same model without costs'
-pub cost-blocks-inside : CostBlocksInside
+pub cost-blocks-inside : (L : Limits) (widths : FitsWidths L) (few : L .refutations < 65536) → CostBlocksInside L
 unfolding CostBlocksInside
-cost-blocks-inside bytes C blocks plainC plainBlocks b c pc a p s t w =
-    let k = accepted-exactly costRules bytes C blocks b c .0 a in
-    let h = holds-without bytes (k .M) (k .file) in
-    costsInside (facts-of costRules bytes C blocks b c a (k .M) (holds costRules bytes C blocks b k) .largest)
-    (facts-of plainRules (withoutCosts bytes) plainC plainBlocks (h .0) pc p (k .M) (h .1) .largest) s t w
+cost-blocks-inside L widths few bytes C blocks plainC plainBlocks b c pc a p s t w =
+    let by = costRulesAt L widths few in
+    let k = accepted-exactly by bytes C blocks b c .0 a in
+    let h = holds-without L widths bytes (k .M) (k .file) in
+    costsInside (facts-of by bytes C blocks b c a (k .M) (holds by bytes C blocks b k) .largest)
+    (facts-of (plainRulesAt L widths few) (withoutCosts bytes) plainC plainBlocks (h .0) pc p (k .M) (h .1) .largest) s t w

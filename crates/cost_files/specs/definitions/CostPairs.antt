@@ -2,11 +2,11 @@
 use Prim.Native.Nat.{ℕ}
 use mathlib.Core.Path.{_≡_}
 use mathlib.Core.List.{List}
-use Rattle.rules.specs.definitions.Limits.{Limits, limits, current}
+use Rattle.rules.specs.definitions.Limits.{anyTerms, Limits, limits, withTerms, current}
 use Rattle.rules.specs.definitions.Model.{Model, automatonOf, HoldOneAutomaton}
 use Rattle.rules.specs.definitions.SoundModel.{Bytes}
 use Rattle.rules.specs.definitions.Accepted.{Kept}
-use Rattle.rules.specs.definitions.JudgedBy.{JudgedBy, plainPairs, AcceptedBy}
+use Rattle.rules.specs.definitions.JudgedBy.{JudgedBy, plainPairsAt, AcceptedBy}
 use Rattle.rules.specs.definitions.Demand3.{InOneBlock}
 use Rattle.costs.specs.definitions.CostStepRule.{CostMet}
 use Rattle.cost_files.specs.definitions.CostModel.{costOf, CostFileOf, costsIn, withoutCosts}
@@ -26,6 +26,7 @@ costPairsAt L =
     record {
       limits = L;
       read = readCosts L;
+      spelled = readCosts (withTerms anyTerms L);
       isFile = CostFileOf L;
       file = λ model. costFile (costsIn model);
       says = λ model. costSays (costsIn model);
@@ -48,5 +49,5 @@ pub record KeptWithCosts (bytes C blocks : List ℕ) : Type 0 where
   pub kept : Kept current (costSays (file .costs)) (costFile (file .costs) .mark) (automatonOf M) C blocks
 
 -- 'accepted cost blocks must lie inside the accepted blocks of the same model without costs'
-unfoldable pub CostBlocksInside : Type 0
-CostBlocksInside = (bytes C blocks plainC plainBlocks : List ℕ) → Bytes bytes → Bytes C → Bytes plainC → AcceptedBy costPairs bytes C blocks → AcceptedBy plainPairs (withoutCosts bytes) plainC plainBlocks → (s t : ℕ) → InOneBlock blocks s t → InOneBlock plainBlocks s t
+unfoldable pub CostBlocksInside : Limits → Type 0
+CostBlocksInside L = (bytes C blocks plainC plainBlocks : List ℕ) → Bytes bytes → Bytes C → Bytes plainC → AcceptedBy (costPairsAt L) bytes C blocks → AcceptedBy (plainPairsAt L) (withoutCosts bytes) plainC plainBlocks → (s t : ℕ) → InOneBlock blocks s t → InOneBlock plainBlocks s t

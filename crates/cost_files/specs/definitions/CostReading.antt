@@ -25,7 +25,7 @@ scanCostRecord s (sound n m count end) =
     (scanCosts s count (end + 2) (sound n m count (end + 2 + count)))
 scanCostRecord s (refused f place) = refused f place
 
--- a file that holds a cost model and nothing else: refusals 1 to 8, then those of the cost record, then 9
+-- a file that holds a cost model and nothing else: refusals 1 to 8 and 34, then those of the cost record, then 9
 unfoldable pub scanCostModel : Limits → List ℕ → Scan
 scanCostModel L s = refuseBytesLeft s (scanCostRecord s (scanModel L s))
 

@@ -6,7 +6,7 @@ use lib.ListN.{length, take, drop, replicate}
 use Rattle.bisimulation.specs.definitions.Choice.{ifLess, ifSame, ifTrue}
 use Rattle.numbers.specs.definitions.Divisor.{divisorWithin, divisor, divisorOf}
 use Rattle.rules.specs.definitions.LowestTerms.{divisorIn}
-use Rattle.rules.specs.definitions.Limits.{anyTerms, Limits, limits}
+use Rattle.rules.specs.definitions.Limits.{anyTerms, lowestTerms, Limits, limits, withTerms}
 use Rattle.rules.specs.definitions.Bytes.{byteAt, twoAt, twoBytes}
 use Rattle.rules.specs.definitions.Model.{Model, headBytes, labelsBytes, entriesBytes, transitionBytes, transitionsBytes, modelBytes}
 use Rattle.rules.specs.definitions.Faults.{fault, firstOf, openFault}
@@ -45,6 +45,9 @@ still n = modelBytes (record { actions = 1; labels = replicate n 0; transitions 
 abbrev few : (transitions entries : ℕ) → Limits
 few transitions entries = record { states = 128; actions = 32; transitions = transitions; entries = entries; refutations = 8128; label = 63; terms = anyTerms }
 
+abbrev lowest : Limits
+lowest = withTerms lowestTerms limits
+
 unfoldable pub joinCases : List JoinCase
 joinCases =
     -- a buffer of 37 bytes: the first 35 are the file, and the last 2 stay
@@ -63,8 +66,13 @@ joinCases =
     ∷ record { within = few 2 3; first = firstFile; second = secondFile; before = []; expected = outcomeOf 26 0 0 0 0 0 [] }
     ∷ record { within = few 1 3; first = firstFile; second = secondFile; before = []; expected = outcomeOf 25 0 0 0 0 0 [] }
     ∷ record { within = few 2 2; first = firstFile; second = secondFile; before = []; expected = outcomeOf 25 0 0 0 0 0 [] }
+    -- in lowest terms the first model, with 2/2, is 34 as file 1 and as file 3, with place and stretch in it, before 25; the second model is sound
+    ∷ record { within = lowest; first = firstFile; second = firstFile; before = 7 ∷ []; expected = outcomeOf 34 1 10 10 10 0 (7 ∷ []) }
+    ∷ record { within = lowest; first = secondFile; second = firstFile; before = 7 ∷ []; expected = outcomeOf 34 3 10 10 10 0 (7 ∷ []) }
+    ∷ record { within = lowest; first = still 128; second = firstFile; before = []; expected = outcomeOf 34 3 10 10 10 0 [] }
+    ∷ record { within = lowest; first = secondFile; second = secondFile; before = replicate 38 7; expected = outcomeOf 0 0 0 0 0 38 (joinedFile secondModel secondModel) }
     ∷ []
 
 pub join-cases : Each (λ (c : JoinCase). joinOutcome (c .within) (readWhole (c .within)) (c .first) (c .second) (c .before) ≡ c .expected) joinCases
 unfolding ifLess ifSame ifTrue byteAt twoAt twoBytes headBytes labelsBytes entriesBytes transitionBytes transitionsBytes modelBytes firstOf openFault statesOf actionsOf countOf rangeFault headFault labelFault labelsFault sourceAt actionAt denominatorAt entryCountAt afterTransition fixedFault fixedFaultAt entriesFault divisorWithin divisor divisorOf divisorIn termsFault transitionFault refuseAt scanTransitions scanModel refuseBytesLeft scanWhole entriesAt transitionAt transitionsAt modelAt readingOf readWhole Each sumOver refusalIn answerWithoutPlace unwritten filledWith filledEach filled roomFor filesOutcome raisedEntry raisedTransition larger joined passesLimit madeOutcome readingsOutcome twoOutcome firstModel secondModel still joinCases
-join-cases = (refl, (refl, (refl, (refl, (refl, (refl, (refl, (refl, (refl, (refl, tt))))))))))
+join-cases = (refl, (refl, (refl, (refl, (refl, (refl, (refl, (refl, (refl, (refl, (refl, (refl, (refl, (refl, tt))))))))))))))

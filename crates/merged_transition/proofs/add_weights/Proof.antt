@@ -3,7 +3,7 @@ use native.Mathlib.Omega.{arith}
 use mathlib.Core.Path.{refl}
 use borrow.Author.Needs.{needs}
 use Rattle.transition.specs.Known.{entriesOf}
-use Rattle.merged_transition.specs.WeightsLaws.{Adding, adding-start, adding-state, adding-block, adding-fits, adding-turn, adding-end, adding-few}
+use Rattle.merged_transition.specs.WeightsLaws.{Adding, walking-state, walking-block, adding-start, adding-fits, adding-turn, adding-end, adding-few}
 use Rattle.merged_transition.proofs.add_weights.Statement.{statement}
 use Rattle.merged_transition.proofs.add_weights.Tie as tie
 
@@ -24,11 +24,11 @@ entry-at-requires : tie.Need-entry-at-requires Inv-loop μ-loop
 entry-at-requires c κs = omega arith
 
 block-of-requires : tie.Need-block-of-requires Inv-loop μ-loop
-block-of-requires c κs = adding-state _ (c .before .before .loop .inv) (omega arith) (c .entry-at .ensures)
+block-of-requires c κs = walking-state _ (c .before .before .loop .inv .walking) (omega arith) (c .entry-at .ensures)
 
 element-copy-out-weight : tie.Need-element-copy-out-weight Inv-loop μ-loop
 element-copy-out-weight c =
-    adding-block _ (c .before .before .before .loop .inv) (omega arith) (c .before .entry-at .ensures) (c .block-of .ensures .0)
+    walking-block _ (c .before .before .before .loop .inv .walking) (omega arith) (c .before .entry-at .ensures) (c .block-of .ensures .0)
 
 mul-weight : tie.Need-mul-weight Inv-loop μ-loop
 mul-weight c = record { fits = omega (arith, element-copy-out-weight c) }

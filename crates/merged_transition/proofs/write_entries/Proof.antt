@@ -7,10 +7,10 @@ use Rattle.merged_transition.proofs.write_entries.Statement.{statement}
 use Rattle.merged_transition.proofs.write_entries.Tie as tie
 
 abbrev Inv-loop : tie.InvT-loop
-Inv-loop weights₀ k count out₀ at end b₀ next₀ weights out b next = Writing weights₀ k count out₀ at weights out b next
+Inv-loop weights₀ k count g out₀ at end b₀ next₀ weights out b next = Writing weights₀ k count g out₀ at weights out b next
 
 abbrev μ-loop : tie.MeasureT-loop
-μ-loop weights₀ k count out₀ at end b₀ next₀ weights out b next = k - b
+μ-loop weights₀ k count g out₀ at end b₀ next₀ weights out b next = k - b
 
 mul-end : tie.Need-mul-end Inv-loop μ-loop
 mul-end c = let h = c .before .pre in omega (arith, h .counted, h .room)

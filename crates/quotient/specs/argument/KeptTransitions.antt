@@ -2,7 +2,7 @@
 -- original; and no two of a block that are kept are the same.
 use Prim.Native.Nat.{ℕ, zero, suc, _+_, _*_, _≤_, _<_}
 use mathlib.Core.Path.{_≡_, refl, sym, _∙_, ap, subst}
-use mathlib.Core.Logic.{_⊎_, inl, inr}
+use mathlib.Core.Logic.{_⊎_}
 use mathlib.Core.List.{List, [], _∷_, _++_}
 use lib.ListN.{length, getD}
 use native.Mathlib.Decide.{ℕ-discrete}
@@ -13,15 +13,16 @@ use Rattle.bisimulation.specs.definitions.Automaton.{Automaton}
 use Rattle.bisimulation.specs.definitions.StandsFor.{weightInto, StandsFor, StandForEachOther, NoTwoSame}
 use Rattle.rules.specs.definitions.Limits.{Limits}
 use Rattle.rules.specs.definitions.Model.{Transition, Model, weightOf, noTransition, automatonOf}
+use Rattle.rules.specs.definitions.LowestTerms.{inLowest}
 use Rattle.rules.specs.definitions.SoundModel.{Each, TransitionRules, SoundModel}
 use Rattle.rules.specs.definitions.BlockCount.{blockCount}
-use Rattle.quotient.specs.definitions.Quotient.{weightToBlock, mergedTransition, fromBlock, distinct, byBlock, quotient}
+use Rattle.quotient.specs.definitions.Quotient.{addedUp, mergedTransition, fromBlock, distinct, byBlock, quotient}
 use Rattle.rules.specs.argument.SoundModelLaws.{each-at, at-each, each-map, each-append, each-parts, from-along}
 use Rattle.quotient.specs.argument.KeyedSums.{each-all}
-use Rattle.quotient.specs.argument.SameTransitions.{Same, Positive, same-itself, each-covered, distinct-apart}
+use Rattle.quotient.specs.argument.SameTransitions.{Same, Positive, same-itself, same-turned, same-through, each-covered, distinct-apart}
 use Rattle.quotient.specs.argument.Lists.{Some, some-each, some-first, some-second, some-at, Pairwise, pairwise-append, pairwise-map, pairwise-at}
 use Rattle.rules.specs.argument.NumberedBlocks.{NumberedBlocks}
-use Rattle.quotient.specs.argument.QuotientLaws.{weight-at, weights-into, each-distinct, each-from, each-by-block, merged-below, merged-states}
+use Rattle.quotient.specs.argument.QuotientLaws.{weight-at, weights-into, each-distinct, each-from, each-by-block, merged-rules, merged-same, merged-below, merged-states}
 
 module _ (blocks : List ℕ) where
   abbrev blockFrom : Transition → ℕ
@@ -49,7 +50,7 @@ module _ (blocks : List ℕ) where
 
   -- no source is below the first block
   sources-least : (ts : List Transition) (left b : ℕ) → Each (λ (t : Transition). b ≤ t .source) (byBlock blocks ts left b)
-  unfolding byBlock mergedTransition
+  unfolding byBlock mergedTransition inLowest addedUp
   sources-least ts zero b = unfold Each in tt
   sources-least ts (suc left) b =
       each-append _ (distinct (blockCount blocks) [] (fromBlock blocks ts b)) (byBlock blocks ts left (b + 1))
@@ -61,7 +62,7 @@ module _ (blocks : List ℕ) where
   Apart t u = t .source ≡ u .source → Same (blockCount blocks) t u → ⊥
 
   pub kept-apart : (ts : List Transition) (left b : ℕ) → Pairwise Apart (byBlock blocks ts left b)
-  unfolding byBlock mergedTransition
+  unfolding byBlock mergedTransition inLowest addedUp
   kept-apart ts zero b = unfold Pairwise in tt
   kept-apart ts (suc left) b =
       let later = byBlock blocks ts left (b + 1) in
@@ -95,23 +96,25 @@ module _ (L : Limits) (M : Model) (ok : SoundModel L M) (blocks : List ℕ) (nam
     rules : TransitionRules (length (M .labels)) (M .actions) original
     rules = each-at _ ts r noTransition (ok .transitions) below
 
-    -- what a merged transition leads to a block with
-    merged-into : (c : ℕ) → c < k → weightOf (mergedTransition blocks original .entries) c ≡ weightInto A block r c
-    unfolding mergedTransition weightInto automatonOf
-    merged-into c less =
+    -- what its weights added up lead to a block with
+    added-into : (c : ℕ) → c < k → weightOf (addedUp blocks original .entries) c ≡ weightInto A block r c
+    unfolding addedUp weightInto automatonOf
+    added-into c less =
         weight-at blocks (original .entries) k 0 c (omega arith) (omega arith)
         ∙ weights-into blocks (length (M .labels)) (original .entries) 0 (from-along _ _ (original .entries) (rules .ascend)) (rules .states) c
 
     -- one that is the same stands for it
     stands : (q : ℕ) → getD (quotient M blocks .transitions) q noTransition .source ≡ block (original .source) → Same k (mergedTransition blocks original) (getD (quotient M blocks .transitions) q noTransition) → StandsFor A Q block q r
-    unfolding automatonOf mergedTransition
+    unfolding automatonOf addedUp
     stands q from s =
+        let own = merged-rules blocks (length (M .labels)) (M .actions) original rules (merged-below L M ok blocks named) in
+        let added = same-through k (own .positive) (same-turned k (merged-same blocks (length (M .labels)) (M .actions) original rules (merged-below L M ok blocks named))) s in
         record {
           source = from;
-          action = sym (s .action);
+          action = sym (added .action);
           probability = λ c less.
               let below-count : c < k = omega (arith, less, merged-states L M ok blocks named) in
-              sym (s .probability c below-count) ∙ ap (λ (x : ℕ). x * Q .denominator q) (merged-into c below-count);
+              sym (added .probability c below-count) ∙ ap (λ (x : ℕ). x * Q .denominator q) (added-into c below-count);
         }
 
   -- an original transition's block is one of the merged states
@@ -120,10 +123,10 @@ module _ (L : Limits) (M : Model) (ok : SoundModel L M) (blocks : List ℕ) (nam
 
   -- of the transitions of its block that are kept, one is the same
   kept-of : (r : ℕ) → r < length ts → Some (λ (m : Transition). Same k (mergedTransition blocks (getD ts r noTransition)) m × (m .source ≡ block (getD ts r noTransition .source))) (quotient M blocks .transitions)
-  unfolding quotient mergedTransition
+  unfolding quotient mergedTransition inLowest addedUp
   kept-of r below =
       let b = block (getD ts r noTransition .source) in
-      let positive : Each Positive (fromBlock blocks ts b) = each-from blocks Positive b ts (each-map _ _ (λ t rules e. rules .positive) ts (ok .transitions)) in
+      let positive : Each Positive (fromBlock blocks ts b) = each-from blocks Positive b ts (each-map _ _ (λ t rules e. merged-rules blocks (length (M .labels)) (M .actions) t rules (merged-below L M ok blocks named) .positive) ts (ok .transitions)) in
       let same-kept = from-each blocks _ b ts (each-covered k (fromBlock blocks ts b) positive) r below refl in
       let sources : Each (λ (m : Transition). m .source ≡ b) (distinct k [] (fromBlock blocks ts b)) =
       each-distinct k _ [] (fromBlock blocks ts b) (each-from blocks _ b ts (each-all _ (λ t e. e) ts)) in
@@ -135,7 +138,7 @@ module _ (L : Limits) (M : Model) (ok : SoundModel L M) (blocks : List ℕ) (nam
   comes-from = each-by-block blocks ts _ (at-each _ ts noTransition (λ r below. (r, below, refl))) k 0
 
   pub stand-for-each-other : StandForEachOther A Q block
-  unfolding automatonOf mergedTransition
+  unfolding automatonOf mergedTransition inLowest addedUp
   stand-for-each-other =
       record {
         kept = λ r below.

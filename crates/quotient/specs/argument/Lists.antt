@@ -1,6 +1,6 @@
 -- Laws of lists: an element that is there, any two elements, and two lists side by side.
 use Prim.Native.Nat.{ℕ, zero, suc, _<_}
-use mathlib.Core.Path.{_≡_, refl}
+use mathlib.Core.Path.{_≡_}
 use mathlib.Core.Logic.{_⊎_, inl, inr}
 use mathlib.Core.List.{List, [], _∷_, _++_}
 use lib.ListN.{length, getD}
@@ -75,27 +75,6 @@ Paired R (x ∷ xs) [] = ⊥
 Paired R (x ∷ xs) (y ∷ ys) = R x y × Paired R xs ys
 
 module _ {A : Type 0} (R : A → A → Type 0) where
-  pub paired-append : (xs ys xs′ ys′ : List A) → Paired R xs ys → Paired R xs′ ys′ → Paired R (xs ++ xs′) (ys ++ ys′)
-  unfolding Paired
-  paired-append [] [] xs′ ys′ h k = k
-  paired-append [] (y ∷ ys) xs′ ys′ h k = absurd h
-  paired-append (x ∷ xs) [] xs′ ys′ h k = absurd h
-  paired-append (x ∷ xs) (y ∷ ys) xs′ ys′ h k = (h .0, paired-append xs ys xs′ ys′ (h .1) k)
-
-  pub paired-length : (xs ys : List A) → Paired R xs ys → length xs ≡ length ys
-  unfolding Paired
-  paired-length [] [] h = refl
-  paired-length [] (y ∷ ys) h = absurd h
-  paired-length (x ∷ xs) [] h = absurd h
-  paired-length (x ∷ xs) (y ∷ ys) h = omega (arith, paired-length xs ys (h .1))
-
-  pub paired-at : (xs ys : List A) (d : A) → Paired R xs ys → (i : ℕ) → i < length xs → R (getD xs i d) (getD ys i d)
-  unfolding Paired
-  paired-at [] ys d h i less = absurd (omega arith)
-  paired-at (x ∷ xs) [] d h i less = absurd h
-  paired-at (x ∷ xs) (y ∷ ys) d h zero less = h .0
-  paired-at (x ∷ xs) (y ∷ ys) d h (suc i) less = paired-at xs ys d (h .1) i (omega arith)
-
   pub at-paired : (xs ys : List A) (d : A) → length xs ≡ length ys → ((i : ℕ) → i < length xs → R (getD xs i d) (getD ys i d)) → Paired R xs ys
   unfolding Paired
   at-paired [] [] d e h = tt

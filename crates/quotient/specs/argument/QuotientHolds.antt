@@ -1,30 +1,29 @@
--- The merged model of files: its laws hold whenever a certificate is accepted; all accepted certificates for one model give one merged file, and
--- those for one automaton merged models that hold one automaton.
+-- The merged model of files: its laws hold whenever a certificate is accepted; all certificates accepted for one automaton give one merged file.
 use Prim.Native.Nat.{ℕ, _≤_, _<_}
-use mathlib.Core.Path.{sym, ap, subst}
+use mathlib.Core.Path.{sym, _∙_, ap, subst}
 use mathlib.Core.List.{List}
 use lib.ListN.{length}
 use native.Mathlib.Omega.{arith}
 use Rattle.rules.specs.definitions.Limits.{Limits, current}
-use Rattle.rules.specs.definitions.Model.{automatonOf, HoldOneAutomaton}
+use Rattle.rules.specs.definitions.Model.{automatonOf, modelBytes}
 use Rattle.rules.specs.definitions.SoundModel.{FitsWidths}
 use Rattle.rules.specs.argument.SoundModelLaws.{current-fit}
 use Rattle.rules.specs.argument.ReadSound.{read-whole-sound}
 use Rattle.rules.specs.definitions.PlainRule.{plainRule}
 use Rattle.rules.specs.definitions.Judging.{NameSameBlocks}
 use Rattle.rules.specs.argument.AnyRule.{CertificateRule}
-use Rattle.quotient.specs.definitions.Quotient.{quotient, mergedFile}
+use Rattle.quotient.specs.definitions.Quotient.{mergedFile}
 use Rattle.quotient.specs.definitions.Merged.{Merges}
-use Rattle.rules.specs.argument.Demand3Holds.{itself, facts-of, demand3}
+use Rattle.rules.specs.argument.Demand3Holds.{facts-of, one-answer}
 use Rattle.rules.specs.argument.PlainRules.{wholeRules, plainCertificates}
 use Rattle.quotient.specs.argument.KeptTransitions.{stand-for-each-other, no-two-same}
 use Rattle.quotient.specs.argument.MergedSpelling.{merged-one}
 use Rattle.rules.specs.argument.NumberedBlocks.{accepted-numbered}
-use Rattle.quotient.specs.argument.QuotientLaws.{quotient-sound, merged-reads, merged-length, merged-states, merged-below, merged-label, merged-each}
+use Rattle.quotient.specs.argument.QuotientLaws.{quotient-lowest, quotient-sound, merged-reads, merged-length, merged-states, merged-below, merged-label, merged-each}
 
 module _ (L : Limits) (widths : FitsWidths L) (few : L .refutations < 65536) {numbers : ℕ → Type 0} (rule : CertificateRule numbers) where
   pub merges : Merges L (rule .file)
-  unfolding NameSameBlocks
+  unfolding NameSameBlocks mergedFile
   merges =
       record {
         merged = λ bytes C blocks b c a M h.
@@ -43,15 +42,13 @@ module _ (L : Limits) (widths : FitsWidths L) (few : L .refutations < 65536) {nu
               each = merged-each L M ok blocks named;
               transitions = stand-for-each-other L M ok blocks named;
               apart = no-two-same L M ok blocks named;
+              lowest = quotient-lowest L M ok blocks named;
             };
-        oneFile = λ bytes C₁ blocks₁ C₂ blocks₂ b c₁ c₂ a₁ a₂ M h.
-            ap (mergedFile M)
-            (demand3 (wholeRules L widths few rule) .oneAnswer bytes C₁ blocks₁ bytes C₂ blocks₂ b c₁ b c₂ a₁ a₂ M M h h (itself M));
-        oneAutomaton = λ bytes₁ C₁ blocks₁ bytes₂ C₂ blocks₂ b₁ c₁ b₂ c₂ a₁ a₂ M N h k one.
+        oneFile = λ bytes₁ C₁ blocks₁ bytes₂ C₂ blocks₂ b₁ c₁ b₂ c₂ a₁ a₂ M N h k one.
             let by = wholeRules L widths few rule in
-            subst (λ (blocks : List ℕ). HoldOneAutomaton (quotient M blocks₁) (quotient N blocks))
-            (demand3 by .oneAnswer bytes₁ C₁ blocks₁ bytes₂ C₂ blocks₂ b₁ c₁ b₂ c₂ a₁ a₂ M N h k one)
-            (merged-one L M N (facts-of by bytes₁ C₁ blocks₁ b₁ c₁ a₁ M h .sound) (facts-of by bytes₂ C₂ blocks₂ b₂ c₂ a₂ N k .sound) one blocks₁ (accepted-numbered by bytes₁ C₁ blocks₁ b₁ c₁ a₁ h));
+            ap modelBytes
+            (merged-one L M N (facts-of by bytes₁ C₁ blocks₁ b₁ c₁ a₁ M h .sound) (facts-of by bytes₂ C₂ blocks₂ b₂ c₂ a₂ N k .sound) one blocks₁ (accepted-numbered by bytes₁ C₁ blocks₁ b₁ c₁ a₁ h))
+            ∙ ap (mergedFile N) (one-answer by bytes₁ C₁ blocks₁ bytes₂ C₂ blocks₂ b₁ c₁ b₂ c₂ a₁ a₂ M N h k one);
       }
 
 -- for today's limits and document 01's step rule

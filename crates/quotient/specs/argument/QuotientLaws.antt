@@ -10,17 +10,21 @@ use Rattle.bisimulation.specs.definitions.Choice.{ifSame, ifTrue}
 use Rattle.bisimulation.specs.argument.ChoiceLaws.{same, notSame, eitherSame, eitherTrue}
 use Rattle.bisimulation.specs.definitions.Sum.{sum}
 use Rattle.bisimulation.specs.argument.SumLaws.{sumCong, sumZero}
-use Rattle.rules.specs.definitions.Limits.{anyTerms, Limits, withTerms}
+use Rattle.rules.specs.definitions.Limits.{Limits}
 use Rattle.rules.specs.definitions.Bytes.{twoBytes}
 use Rattle.rules.specs.definitions.Model.{Entry, Transition, Model, weightOf, transitionBytes, transitionsBytes, headBytes, labelsBytes, modelBytes}
+use Rattle.rules.specs.definitions.LowestTerms.{inLowest}
 use Rattle.rules.specs.definitions.Reading.{readWhole, model}
-use Rattle.rules.specs.definitions.SoundModel.{Each, sumOver, TransitionRules, SoundModel, FitsWidths}
-use Rattle.rules.specs.argument.SoundModelLaws.{with-fits, each-any, each-map, each-append, From, from-lower, along-from, StatesFrom, SourcesFrom, no-weight, sum-with}
+use Rattle.rules.specs.definitions.SoundModel.{Each, sumOver, TransitionRules, LowestTerms, SoundModel, FitsWidths}
+use Rattle.rules.specs.argument.SoundModelLaws.{each-map, each-append, From, from-lower, along-from, StatesFrom, SourcesFrom, no-weight, sum-with, lowest-has}
 use Rattle.rules.specs.argument.ReadBack.{transitionBytes-length, read-back-whole}
 use Rattle.rules.specs.argument.LargestBlocks.{Numbered}
 use Rattle.rules.specs.argument.NumberedBlocks.{block-below, count-some, count-most, each-block, NumberedBlocks}
 use Rattle.rules.specs.definitions.BlockCount.{blockCount}
-use Rattle.quotient.specs.definitions.Quotient.{labelOfBlock, blockLabels, weightToBlock, blockEntries, mergedTransition, fromBlock, isAmong, distinct, byBlock, quotient, mergedFile}
+use Rattle.quotient.specs.definitions.Quotient.{labelOfBlock, blockLabels, weightToBlock, blockEntries, addedUp, mergedTransition, fromBlock, isAmong, distinct, byBlock, quotient, mergedFile}
+use Rattle.quotient.specs.argument.MergedTerms.{lowest-alike}
+use Rattle.rules.specs.argument.TermsLaws.{lowest-rules, lowest-count, lowest-terms}
+use Rattle.quotient.specs.argument.SameTransitions.{Same}
 use Rattle.quotient.specs.argument.KeyedSums.{whichSame, inSame, sum-next, each-all, sumOver-append, sumOver-most, sumOver-length, sumOver-some, sumAt, sumAt-all, sumAt-some}
 
 -- the labels of the blocks are labels of states
@@ -179,31 +183,48 @@ module _ (blocks : List ℕ) where
     merged-entries : EntriesTo (t .entries) 0 (blockCount blocks) (blockEntries blocks (t .entries) (blockCount blocks) 0)
     merged-entries = entries-to (t .entries) (blockCount blocks) 0 (blockCount blocks) (omega arith)
 
-    merged-whole : sumOver (λ (e : Entry). e .weight) (mergedTransition blocks t .entries) ≡ t .denominator
-    unfolding mergedTransition sum
-    merged-whole =
+    added-whole : sumOver (λ (e : Entry). e .weight) (addedUp blocks t .entries) ≡ t .denominator
+    unfolding addedUp sum
+    added-whole =
         omega (arith, merged-entries .whole, sumCong (blockCount blocks) (weightToBlock blocks (t .entries)) (sumAt blockOf (λ (e : Entry). e .weight) (t .entries)) (λ b l. weight-added (t .entries) b), sumAt-all blockOf (λ (e : Entry). e .weight) (blockCount blocks) (t .entries) entry-blocks, rules .whole)
 
-    pub merged-few : length (mergedTransition blocks t .entries) ≤ length (t .entries)
-    unfolding mergedTransition sum
-    merged-few =
+    added-few : length (addedUp blocks t .entries) ≤ length (t .entries)
+    unfolding addedUp sum
+    added-few =
         omega (arith, merged-entries .few, sumAt-all blockOf (λ (e : Entry). 1) (blockCount blocks) (t .entries) entry-blocks, sumOver-length (t .entries))
 
-    pub merged-rules : TransitionRules (blockCount blocks) m (mergedTransition blocks t)
-    unfolding mergedTransition
-    merged-rules =
+    pub added-rules : TransitionRules (blockCount blocks) m (addedUp blocks t)
+    unfolding addedUp
+    added-rules =
         record {
           source = below (t .source) (rules .source);
           action = rules .action;
           positive = rules .positive;
           fits = rules .fits;
-          some = sumOver-some (λ (e : Entry). e .weight) (mergedTransition blocks t .entries) (omega (arith, merged-whole, rules .positive));
+          some = sumOver-some (λ (e : Entry). e .weight) (addedUp blocks t .entries) (omega (arith, added-whole, rules .positive));
           most = omega (arith, merged-entries .most);
           states = merged-entries .states;
           ascend = along-from _ _ _ 0 (merged-entries .from);
           weights = merged-entries .weights;
-          whole = merged-whole;
+          whole = added-whole;
         }
+
+    pub merged-rules : TransitionRules (blockCount blocks) m (mergedTransition blocks t)
+    unfolding mergedTransition
+    merged-rules = lowest-rules (addedUp blocks t) added-rules
+
+    pub merged-few : length (mergedTransition blocks t .entries) ≤ length (t .entries)
+    unfolding mergedTransition
+    merged-few = omega (arith, added-few, lowest-count (addedUp blocks t))
+
+    -- it is the same as its weights added up, in lowest terms
+    pub merged-same : Same (blockCount blocks) (mergedTransition blocks t) (addedUp blocks t)
+    unfolding mergedTransition
+    merged-same = lowest-alike (blockCount blocks) m (addedUp blocks t) added-rules (blockCount blocks)
+
+    pub merged-lowest : LowestTerms (mergedTransition blocks t)
+    unfolding mergedTransition
+    merged-lowest = lowest-terms (addedUp blocks t) added-rules
 
 -- dropping what came before keeps each, and adds up to no more
 pub each-distinct : (k : ℕ) (P : Transition → Type 0) (before ts : List Transition) → Each P ts → Each P (distinct k before ts)
@@ -256,7 +277,7 @@ module _ (blocks : List ℕ) where
         (each-distinct (blockCount blocks) P [] (fromBlock blocks ts b) (each-from P b ts (each-map _ _ (λ t k e. k) ts h))) (each-by-block P h left (b + 1))
 
     sources-by-block : (left b : ℕ) → SourcesFrom b (byBlock blocks ts left b)
-    unfolding byBlock From mergedTransition
+    unfolding byBlock From mergedTransition inLowest addedUp
     sources-by-block zero b = tt
     sources-by-block (suc left) b =
         sources-level b (distinct (blockCount blocks) [] (fromBlock blocks ts b)) (byBlock blocks ts left (b + 1)) b (omega arith)
@@ -329,8 +350,16 @@ module _ (L : Limits) (M : Model) (ok : SoundModel L M) (blocks : List ℕ) (nam
       (each-map _ _ (λ t rules. merged-below (t .source) (rules .source)) (M .transitions) (ok .transitions))
       (each-map _ _ most (M .transitions) (ok .transitions))
 
+  -- the merged model is in lowest terms, so in any terms that are asked for
+  pub quotient-lowest : Each LowestTerms (quotient M blocks .transitions)
+  unfolding quotient
+  quotient-lowest =
+      each-by-block blocks (M .transitions) LowestTerms
+      (each-map _ _ (λ t rules. merged-lowest blocks (length (M .labels)) (M .actions) t rules merged-below) (M .transitions) (ok .transitions))
+      (blockCount blocks) 0
+
   -- the merged model is sound
-  pub quotient-sound : SoundModel (withTerms anyTerms L) (quotient M blocks)
+  pub quotient-sound : SoundModel L (quotient M blocks)
   unfolding quotient
   quotient-sound =
       let Q = quotient M blocks in
@@ -349,13 +378,13 @@ module _ (L : Limits) (M : Model) (ok : SoundModel L M) (blocks : List ℕ) (nam
         sources = along-from _ _ (Q .transitions) 0 (sources-by-block blocks (M .transitions) (blockCount blocks) 0);
         entries =
             omega (arith, merged-sum (λ (t : Transition). length (t .entries)) (λ t rules. merged-few blocks (length (M .labels)) (M .actions) t rules merged-below), ok .entries);
-        terms = each-any (Q .transitions);
+        terms = each-map _ _ (lowest-has (L .terms)) (Q .transitions) quotient-lowest;
       }
 
   -- so its file is read as it
-  pub merged-reads : FitsWidths L → readWhole (withTerms anyTerms L) (mergedFile M blocks) ≡ model (quotient M blocks) (length (mergedFile M blocks))
+  pub merged-reads : FitsWidths L → readWhole L (mergedFile M blocks) ≡ model (quotient M blocks) (length (mergedFile M blocks))
   unfolding mergedFile
-  merged-reads fits = read-back-whole (withTerms anyTerms L) (quotient M blocks) (with-fits anyTerms L fits) quotient-sound
+  merged-reads fits = read-back-whole L (quotient M blocks) fits quotient-sound
 
   -- and is no longer than the model's
   pub merged-length : length (mergedFile M blocks) ≤ length (modelBytes M)

@@ -5,7 +5,7 @@ use mathlib.Core.Path.{_≡_}
 use mathlib.Core.List.{List, [], _∷_}
 use lib.ListN.{length}
 use native.Mathlib.Omega.{arith}
-use Rattle.rules.specs.definitions.Limits.{anyTerms, Limits, withTerms, current, longestModel}
+use Rattle.rules.specs.definitions.Limits.{Limits, current, longestModel}
 use Rattle.rules.specs.definitions.Reading.{ReadNumber}
 use Rattle.rules.specs.definitions.SoundModel.{Bytes, FitsWidths}
 use Rattle.rules.specs.definitions.JudgedBy.{plainPairsAt, plainPairs}
@@ -43,8 +43,8 @@ merged-short L widths few M C buffer b c =
     let by = plainRulesAt L widths few in
     file-late by 23 mergedFile (merged-follow L widths few) (λ z. omega (arith, z)) M C buffer (longestModel L)
     (λ a.
-    longest-file (withTerms anyTerms L) (quotient (a .N) (a .blocks))
-    (sound-within (withTerms anyTerms L) (quotient (a .N) (a .blocks)) (merges L widths few plainCertificates .merged M C (a .blocks) b c (record { answers = a .judged }) (a .N) (holds-read by M b (a .reads)) .sound)))
+    longest-file L (quotient (a .N) (a .blocks))
+    (sound-within L (quotient (a .N) (a .blocks)) (merges L widths few plainCertificates .merged M C (a .blocks) b c (record { answers = a .judged }) (a .N) (holds-read by M b (a .reads)) .sound)))
 
 -- of less than 8,072 bytes
 pub merged-short-today : (M C buffer : List ℕ) → Bytes M → Bytes C → outcomeBy plainPairs writesMerged M C (buffer ∷ []) .answer .number ≡ 23 → length buffer < 8072

@@ -1,4 +1,4 @@
--- Document 01, 'The merged model', and document 02, K3: a model and blocks give a model, whose bytes are the merged file.
+-- Document 01, 'The merged model', and document 02, K3 and K10: a model and blocks give a model, whose bytes are the merged file.
 use Prim.Native.Nat.{ℕ, zero, suc, _+_, _*_}
 use mathlib.Core.List.{List, [], _∷_, _++_}
 use mathlib.Core.Bool.{Bool, true, false}
@@ -6,6 +6,7 @@ use lib.Dec.{eqb}
 use lib.ListN.{getD}
 use Rattle.bisimulation.specs.definitions.Choice.{ifSame, ifTrue, both, allBelow}
 use Rattle.rules.specs.definitions.Model.{Entry, Transition, Model, weightOf, modelBytes}
+use Rattle.rules.specs.definitions.LowestTerms.{inLowest}
 use Rattle.rules.specs.definitions.BlockCount.{blockCount}
 
 -- 'with its members' label': that of the block's first member
@@ -31,15 +32,19 @@ blockEntries blocks es (suc left) b =
     ifSame (weightToBlock blocks es b) 0 [] (record { state = b; weight = weightToBlock blocks es b } ∷ [])
     ++ blockEntries blocks es left (b + 1)
 
--- 'Each transition goes to its source's block, its weights added up by target block, d unchanged'
-unfoldable pub mergedTransition : List ℕ → Transition → Transition
-mergedTransition blocks t =
+-- 'Each transition goes to its source's block, its weights added up by target block'
+unfoldable pub addedUp : List ℕ → Transition → Transition
+addedUp blocks t =
     record {
       source = getD blocks (t .source) 0;
       action = t .action;
       denominator = t .denominator;
       entries = blockEntries blocks (t .entries) (blockCount blocks) 0;
     }
+
+-- K10: 'Merged files are written in lowest terms, whatever 01 and K3 say of d'
+unfoldable pub mergedTransition : List ℕ → Transition → Transition
+mergedTransition blocks t = inLowest (addedUp blocks t)
 
 -- the merged transitions of one block, by original place
 unfoldable pub fromBlock : List ℕ → List Transition → ℕ → List Transition
@@ -59,7 +64,7 @@ unfoldable pub isAmong : ℕ → Transition → List Transition → Bool
 isAmong k t [] = false
 isAmong k t (u ∷ us) = ifTrue (sameTransition k t u) true (isAmong k t us)
 
--- 'the first is kept', with 'its own denominator': those that are the same as none before them
+-- 'the first is kept': those that are the same as none before them
 unfoldable pub distinct : ℕ → (before rest : List Transition) → List Transition
 distinct k before [] = []
 distinct k before (t ∷ ts) = ifTrue (isAmong k t before) [] (t ∷ []) ++ distinct k (t ∷ before) ts

@@ -11,7 +11,7 @@ use native.Mathlib.Omega.{arith}
 use Rattle.bisimulation.specs.definitions.Automaton.{SoundAutomaton}
 use Rattle.bisimulation.specs.definitions.StepRule.{Met, MeetsStepRule}
 use Rattle.bisimulation.specs.definitions.Largest.{BisimilarByPairs}
-use Rattle.rules.specs.definitions.Limits.{anyTerms, Limits, withTerms, current}
+use Rattle.rules.specs.definitions.Limits.{Limits, current}
 use Rattle.rules.specs.definitions.Model.{Model, automatonOf}
 use Rattle.rules.specs.definitions.SoundModel.{Bytes, SoundModel, FitsWidths}
 use Rattle.quotient.specs.definitions.Quotient.{quotient, mergedFile}
@@ -103,7 +103,7 @@ module _ (L : Limits) (widths : FitsWidths L) (few : L .refutations < 65536) whe
     soundA = sound-automaton L M (facts .sound)
 
     soundQ : SoundAutomaton (automatonOf N)
-    soundQ = sound-automaton (withTerms anyTerms L) N (m .sound)
+    soundQ = sound-automaton L N (m .sound)
 
     beside : IsJoined (automatonOf M) (automatonOf N) (automatonOf (joined M N))
     beside = joined-automaton M N (facts .sound .transitions)

@@ -11,7 +11,9 @@ use Rattle.bisimulation.specs.definitions.Sum.{sum}
 use Rattle.bisimulation.specs.definitions.StepRule.{arriving, leaving, overTargets, overSources, beforeMove, afterMove, atTarget, MetExternal}
 use Rattle.bisimulation.specs.definitions.Beside.{blockOf}
 use Rattle.rules.specs.definitions.Model.{Entry, Transition, Model, weightOf, automatonOf}
-use Rattle.quotient.specs.definitions.Quotient.{quotient, labelOfBlock, blockLabels, weightToBlock, blockEntries, mergedTransition, fromBlock, sameTransition, isAmong, distinct, byBlock}
+use Rattle.numbers.specs.definitions.Divisor.{divisorWithin, divisor, divisorOf}
+use Rattle.rules.specs.definitions.LowestTerms.{divisorIn, dividedEntry, inLowest}
+use Rattle.quotient.specs.definitions.Quotient.{quotient, labelOfBlock, blockLabels, weightToBlock, blockEntries, addedUp, mergedTransition, fromBlock, sameTransition, isAmong, distinct, byBlock}
 use Rattle.rules.specs.definitions.BlockCount.{blockCount}
 use Rattle.rules.specs.definitions.JudgedBy.{plainPairs}
 use Rattle.joined.specs.definitions.Joined.{raisedEntry, raisedTransition, joined}
@@ -40,7 +42,7 @@ Moves N q t = MetExternal (automatonOf (joined small N)) (LinkedBy small N itsBl
 
 -- its merged model
 pub merged : quotient small itsBlocks ≡ model (0 ∷ 1 ∷ []) (step 0 1 1 1 1 ∷ step 0 0 0 1 1 ∷ [])
-unfolding step model ifLess ifSame ifTrue both allBelow weightOf quotient blockCount labelOfBlock blockLabels weightToBlock blockEntries mergedTransition fromBlock sameTransition isAmong distinct byBlock
+unfolding step model ifLess ifSame ifTrue both allBelow weightOf quotient blockCount labelOfBlock blockLabels weightToBlock blockEntries divisorWithin divisor divisorOf divisorIn dividedEntry inLowest addedUp mergedTransition fromBlock sameTransition isAmong distinct byBlock
 merged = refl
 
 unused : (x : ℕ) → (0 < x → ⊥) → x ≡ 0

@@ -15,9 +15,24 @@ use Rattle.rules.specs.definitions.SoundModel.{Bytes, SoundModel, FitsWi
 use Rattle.rules.specs.argument.SoundModelLaws.{sound-automaton}
 use Rattle.rules.specs.argument.Standing.{IsBytes}
 use Rattle.rules.specs.definitions.Judging.{accepted, judgeReading, judge}
-use Rattle.rules.specs.definitions.Accepted.{Accepted}
+use Rattle.rules.specs.definitions.Accepted.{RuleSays, KeepsRules, Accepted}
+use Rattle.rules.specs.definitions.Encoding.{Certificate}
+use Rattle.bisimulation.specs.definitions.Automaton.{Automaton}
 use Rattle.rules.specs.definitions.JudgedBy.{AcceptedBy}
 use Rattle.rules.specs.argument.CertificateKept.{CertificateStands, certificate-stands, accepted-kept, kept-accepted}
+
+-- of the limits, a certificate's rules have the most refutations alone
+pub keeps-limit : {L N : Limits} {says : RuleSays} {A : Automaton} {K : Certificate} → L .refutations ≡ N .refutations → KeepsRules L says A K → KeepsRules N says A K
+keeps-limit e k =
+    record {
+      left = k .left;
+      few = omega (arith, k .few, e);
+      refutations = k .refutations;
+      blocks = k .blocks;
+      asked = k .asked;
+      isAsked = k .isAsked;
+      flows = k .flows;
+    }
 
 -- bytes, at every place
 pub is-bytes : (s : List ℕ) → Bytes s → IsBytes s

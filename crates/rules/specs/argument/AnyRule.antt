@@ -10,11 +10,12 @@ use Rattle.bisimulation.specs.definitions.Automaton.{Automaton, SoundAutomaton}
 use Rattle.bisimulation.specs.definitions.StepRule.{Flow}
 use Rattle.bisimulation.specs.definitions.Pairs.{Pairs}
 use Rattle.bisimulation.specs.definitions.Rule.{Rule}
-use Rattle.rules.specs.definitions.Limits.{Limits}
+use Rattle.rules.specs.definitions.Limits.{anyTerms, Limits, withTerms}
 use Rattle.rules.specs.definitions.Model.{Model, HoldOneAutomaton}
 use Rattle.rules.specs.definitions.SoundModel.{Bytes, SoundModel, FitsWidths}
 use Rattle.rules.specs.definitions.Faults.{Fault, Passes}
 use Rattle.rules.specs.argument.FaultLaws.{Told}
+use Rattle.rules.specs.argument.SoundModelLaws.{with-fits}
 use Rattle.rules.specs.definitions.Reading.{model, noModel}
 use Rattle.rules.specs.definitions.Certificate.{FileRule}
 use Rattle.rules.specs.definitions.Judging.{Question, Reader}
@@ -78,6 +79,9 @@ pub record PairRules : Type 1 where
   -- the count of refutations has 2 bytes
   pub refutations : limits .refutations < 65536
   pub models : ModelFiles limits
+  -- files of models in whatever terms: those are among them
+  pub spelled : ModelFiles (withTerms anyTerms limits)
+  pub among : (bytes : List ℕ) (M : Model) → models .isFile bytes M → spelled .isFile bytes M
   pub numbers : ℕ → Type 0
   pub rule : (model : List ℕ) → CertificateRule numbers
   pub oneAutomaton : (model other : List ℕ) → (M N : Model) → Type 0
@@ -90,11 +94,29 @@ pairsOf by =
     record {
       limits = by .limits;
       read = by .models .read;
+      spelled = by .spelled .read;
       isFile = by .models .isFile;
       file = λ model. by .rule model .file;
       says = λ model. by .rule model .says;
       met = λ model. by .rule model .theory .met;
       oneAutomaton = by .oneAutomaton;
+    }
+
+-- the same in whatever terms
+abbrev pub spelledBy : PairRules → PairRules
+spelledBy by =
+    record {
+      limits = withTerms anyTerms (by .limits);
+      widths = with-fits anyTerms (by .limits) (by .widths);
+      refutations = by .refutations;
+      models = by .spelled;
+      spelled = by .spelled;
+      among = λ bytes M f. f;
+      numbers = by .numbers;
+      rule = by .rule;
+      oneAutomaton = by .oneAutomaton;
+      holdOne = by .holdOne;
+      oneRule = by .oneRule;
     }
 
 -- the refusals of a certificate that every rule has: 11 to 14, 17 to 19 and 22

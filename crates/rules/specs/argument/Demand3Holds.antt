@@ -9,14 +9,15 @@ use Rattle.bisimulation.specs.definitions.Pairs.{Pairs}
 use Rattle.bisimulation.specs.definitions.Largest.{LargestBisimulation, Links}
 use Rattle.bisimulation.specs.argument.LargestPairs.{shared, shared-links, largest-pairs}
 use Rattle.bisimulation.specs.argument.Spelling.{oneAnswer}
-use Rattle.rules.specs.argument.AnyRule.{CertificateRule, PairRules, pairsOf}
+use Rattle.rules.specs.argument.AnyRule.{CertificateRule, PairRules, pairsOf, spelledBy}
+use Rattle.rules.specs.definitions.Limits.{anyTerms, withTerms}
 use Rattle.rules.specs.definitions.Model.{Model, automatonOf, HoldOneAutomaton}
 use Rattle.rules.specs.definitions.SoundModel.{Bytes, SoundModel}
 use Rattle.rules.specs.argument.SoundModelLaws.{sound-automaton}
 use Rattle.rules.specs.definitions.Reading.{model}
 use Rattle.rules.specs.definitions.Judging.{NameSameBlocks}
-use Rattle.rules.specs.definitions.JudgedBy.{AcceptedBy}
-use Rattle.rules.specs.argument.AcceptedExactly.{AcceptedAs, accepted-exactly}
+use Rattle.rules.specs.definitions.JudgedBy.{AcceptedBy, AcceptedSpelled}
+use Rattle.rules.specs.argument.AcceptedExactly.{AcceptedAs, keeps-limit, accepted-exactly}
 use Rattle.rules.specs.argument.LargestBlocks.{kept-largest, Numbered, one-numbering}
 use Rattle.rules.specs.definitions.Demand3.{InOneBlock, HoldsModel, Demand3, LargestBlockPairs}
 use Rattle.rules.specs.definitions.Demands.{LargestOf}
@@ -81,8 +82,9 @@ module _ (by : PairRules) where
       let acc = accepted-exactly by bytes C blocks b c .0 a in
       subst (λ (N : Model). AcceptedFacts bytes N blocks) (one-model bytes (acc .M) M (holds bytes C blocks b acc) h) (facts bytes C blocks acc)
 
+module _ (by : PairRules) where
   -- two lists of blocks that are the largest relation of one automaton are one
-  same-blocks : (bytes other : List ℕ) (M N : Model) (b c : List ℕ) → AcceptedFacts bytes M b → AcceptedFacts other N c → by .oneAutomaton bytes other M N → b ≡ c
+  same-blocks : (bytes other : List ℕ) (M N : Model) (b c : List ℕ) → AcceptedFacts by bytes M b → AcceptedFacts (spelledBy by) other N c → by .oneAutomaton bytes other M N → b ≡ c
   unfolding HoldOneAutomaton automatonOf
   same-blocks bytes other M N b c x y together =
       let one : HoldOneAutomaton M N = by .holdOne bytes other M N together in
@@ -90,7 +92,7 @@ module _ (by : PairRules) where
       let largest = subst (λ (rule : CertificateRule (by .numbers)). LargestBisimulation (rule .theory .met) (automatonOf N) (InOneBlock c)) (sym (by .oneRule bytes other M N together)) (y .largest) in
       one-numbering (length (M .labels)) b c (x .whole) (omega (arith, y .whole)) (x .numbered) (subst (λ (k : ℕ). Numbered k c) (sym n) (y .numbered))
       (λ v u h l.
-      let e = oneAnswer (by .rule bytes .theory) (sound-automaton (by .limits) M (x .sound)) (sound-automaton (by .limits) N (y .sound)) one (x .largest) largest v u in (
+      let e = oneAnswer (by .rule bytes .theory) (sound-automaton (by .limits) M (x .sound)) (sound-automaton (withTerms anyTerms (by .limits)) N (y .sound)) one (x .largest) largest v u in (
         λ p. e .0 (record { first = omega (arith, x .whole); second = omega (arith, x .whole); same = p }) .same,
         λ p. e .1 (record { first = omega (arith, y .whole); second = omega (arith, y .whole); same = p }) .same,
       ))
@@ -102,10 +104,29 @@ module _ (by : PairRules) where
       record {
         largest = λ bytes C blocks b c a.
             let acc = accepted-exactly by bytes C blocks b c .0 a in
-            record { M = acc .M; holds = holds bytes C blocks b acc; largest = facts bytes C blocks acc .largest };
+            record { M = acc .M; holds = holds by bytes C blocks b acc; largest = facts by bytes C blocks acc .largest };
         oneAnswer = λ bytes₁ C₁ blocks₁ bytes₂ C₂ blocks₂ b₁ c₁ b₂ c₂ a₁ a₂ M₁ M₂ h₁ h₂ one.
-            same-blocks bytes₁ bytes₂ M₁ M₂ blocks₁ blocks₂ (facts-of bytes₁ C₁ blocks₁ b₁ c₁ a₁ M₁ h₁) (facts-of bytes₂ C₂ blocks₂ b₂ c₂ a₂ M₂ h₂) one;
+            same-blocks bytes₁ bytes₂ M₁ M₂ blocks₁ blocks₂ (facts-of by bytes₁ C₁ blocks₁ b₁ c₁ a₁ M₁ h₁) (facts-of (spelledBy by) bytes₂ C₂ blocks₂ b₂ c₂ a₂ M₂ h₂) one;
       }
+
+  -- a pair that is accepted is accepted in whatever terms, and the file holds the same model
+  pub accepted-spelled : (bytes C blocks : List ℕ) → Bytes bytes → Bytes C → AcceptedBy (pairsOf by) bytes C blocks → AcceptedSpelled (pairsOf by) bytes C blocks
+  accepted-spelled bytes C blocks b c a =
+      let k = accepted-exactly by bytes C blocks b c .0 a in
+      accepted-exactly (spelledBy by) bytes C blocks b c .1
+      (record {
+        M = k .M;
+        file = by .among bytes (k .M) (k .file);
+        kept = record { certificate = k .kept .certificate; encoded = k .kept .encoded; keeps = keeps-limit refl (k .kept .keeps); named = k .kept .named };
+      })
+
+  pub holds-spelled : (bytes : List ℕ) (M : Model) → Bytes bytes → HoldsModel (by .models .read) bytes M → HoldsModel (by .spelled .read) bytes M
+  holds-spelled bytes M b h = record { reads = by .spelled .exactly bytes M b .1 (by .among bytes M (by .models .exactly bytes M b .0 (h .reads))) }
+
+  -- so two accepted pairs of one automaton name the same blocks
+  pub one-answer : (bytes₁ C₁ blocks₁ bytes₂ C₂ blocks₂ : List ℕ) → Bytes bytes₁ → Bytes C₁ → Bytes bytes₂ → Bytes C₂ → AcceptedBy (pairsOf by) bytes₁ C₁ blocks₁ → AcceptedBy (pairsOf by) bytes₂ C₂ blocks₂ → (M₁ M₂ : Model) → HoldsModel (by .models .read) bytes₁ M₁ → HoldsModel (by .models .read) bytes₂ M₂ → by .oneAutomaton bytes₁ bytes₂ M₁ M₂ → NameSameBlocks blocks₁ blocks₂
+  one-answer bytes₁ C₁ blocks₁ bytes₂ C₂ blocks₂ b₁ c₁ b₂ c₂ a₁ a₂ M₁ M₂ h₁ h₂ one =
+      demand3 .oneAnswer bytes₁ C₁ blocks₁ bytes₂ C₂ blocks₂ b₁ c₁ b₂ c₂ a₁ (accepted-spelled bytes₂ C₂ blocks₂ b₂ c₂ a₂) M₁ M₂ h₁ (holds-spelled bytes₂ M₂ b₂ h₂) one
 
   -- its first clause for sets of pairs, as the contracts say it
   pub largest-block-pairs : (bytes C blocks : List ℕ) → Bytes bytes → Bytes C → AcceptedBy (pairsOf by) bytes C blocks → LargestBlockPairs (by .models .read) (by .rule bytes .theory .met) bytes blocks

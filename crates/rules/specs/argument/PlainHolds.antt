@@ -1,8 +1,8 @@
--- Demands 2 and 3 for today's limits, document 01's model files and step rule.
+-- Demands 2 and 3 for today's current, document 01's model files and step rule.
 use Prim.Native.Nat.{ℕ}
 use mathlib.Core.Logic.{_↔_}
 use mathlib.Core.List.{List}
-use Rattle.rules.specs.definitions.Limits.{limits}
+use Rattle.rules.specs.definitions.Limits.{current}
 use Rattle.rules.specs.definitions.SoundModel.{Bytes}
 use Rattle.rules.specs.definitions.Reading.{readWhole}
 use Rattle.rules.specs.definitions.PlainRule.{plainRule}
@@ -16,7 +16,7 @@ use Rattle.rules.specs.argument.Demand3Holds.{demand3}
 use Rattle.rules.specs.argument.PlainRules.{plainRules}
 
 -- accepted exactly when document 01's rules are kept; the mark of the certificate's head is 43 54
-pub plain-accepted : (bytes C blocks : List ℕ) → Bytes bytes → Bytes C → AcceptedFor limits (readWhole limits) plainRule bytes C blocks ↔ Accepted limits (FileOf limits) plainSays 0x4354 bytes C blocks
+pub plain-accepted : (bytes C blocks : List ℕ) → Bytes bytes → Bytes C → AcceptedFor current (readWhole current) plainRule bytes C blocks ↔ Accepted current (FileOf current) plainSays 0x4354 bytes C blocks
 plain-accepted = accepted-exactly plainRules
 
 -- demand 3

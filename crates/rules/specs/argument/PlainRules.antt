@@ -15,10 +15,10 @@ use Rattle.bisimulation.specs.definitions.StepRule.{Flow, Sides, beforeMove, af
 use Rattle.bisimulation.specs.definitions.Prices.{Side, priceAt, priceOfTargets}
 use Rattle.bisimulation.specs.definitions.Pairs.{Pairs}
 use Rattle.bisimulation.specs.argument.Plain.{plain}
-use Rattle.rules.specs.definitions.Limits.{Terms, Limits, limits, current}
+use Rattle.rules.specs.definitions.Limits.{Terms, anyTerms, Limits, limits, withTerms, current}
 use Rattle.rules.specs.definitions.Model.{HoldOneAutomaton}
 use Rattle.rules.specs.definitions.SoundModel.{FitsWidths}
-use Rattle.rules.specs.argument.SoundModelLaws.{limits-fit, current-fit}
+use Rattle.rules.specs.argument.SoundModelLaws.{limits-fit, current-fit, with-fits, sound-any}
 use Rattle.rules.specs.definitions.Faults.{Fault, faultBy, fault, noFault}
 use Rattle.rules.specs.argument.FaultLaws.{Told, told-fault, either-first}
 use Rattle.rules.specs.definitions.Reading.{ReadNumber, Scan, sound, refused, scanWhole, noModel, readingOf, readWhole}
@@ -161,6 +161,8 @@ wholeRules L widths few {numbers} rule =
       widths = widths;
       refutations = few;
       models = wholeFiles L widths;
+      spelled = wholeFiles (withTerms anyTerms L) (with-fits anyTerms L widths);
+      among = λ bytes M f. record { sound = sound-any L M (f .sound); encoded = f .encoded };
       numbers = numbers;
       rule = λ model. rule;
       oneAutomaton = λ model other. HoldOneAutomaton;

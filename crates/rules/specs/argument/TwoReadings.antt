@@ -15,7 +15,7 @@ use Rattle.rules.specs.definitions.JudgedBy.{AcceptedBy, plainPairsAt}
 use Rattle.rules.specs.definitions.Encoding.{Certificate}
 use Rattle.rules.specs.argument.MappedLists.{each-all}
 use Rattle.rules.specs.argument.AnyRule.{PairRules, pairsOf}
-use Rattle.rules.specs.argument.AcceptedExactly.{accepted-exactly}
+use Rattle.rules.specs.argument.AcceptedExactly.{keeps-limit, accepted-exactly}
 use Rattle.rules.specs.argument.Demand3Holds.{one-model}
 use Rattle.rules.specs.argument.PlainRules.{plainRulesAt}
 
@@ -47,19 +47,6 @@ sound-lowest L M = (
   λ s. (sound-terms lowestTerms anyTerms L M s (any-terms M), s .terms),
   λ s. sound-terms anyTerms lowestTerms L M (s .0) (s .1),
 )
-
--- of the limits, a certificate's rules have the most refutations alone
-pub keeps-limit : {L N : Limits} {says : RuleSays} {A : Automaton} {K : Certificate} → L .refutations ≡ N .refutations → KeepsRules L says A K → KeepsRules N says A K
-keeps-limit e k =
-    record {
-      left = k .left;
-      few = omega (arith, k .few, e);
-      refutations = k .refutations;
-      blocks = k .blocks;
-      asked = k .asked;
-      isAsked = k .isAsked;
-      flows = k .flows;
-    }
 
 -- two ways to judge pairs, of which the second asks for lowest terms too
 pub record AlsoLowest (any low : PairRules) : Type 1 where

@@ -8,7 +8,7 @@ use Rattle.rules.specs.definitions.Model.{Model, automatonOf}
 use Rattle.rules.specs.definitions.SoundModel.{Bytes}
 use Rattle.rules.specs.definitions.Judging.{NameSameBlocks}
 use Rattle.rules.specs.definitions.Accepted.{Among, Kept}
-use Rattle.rules.specs.definitions.JudgedBy.{JudgedBy, AcceptedBy}
+use Rattle.rules.specs.definitions.JudgedBy.{JudgedBy, AcceptedSpelled}
 use Rattle.rules.specs.definitions.Answers.{Outcome, leftIn, Follows, firstLent, pairOutcome}
 use Rattle.rules.specs.definitions.Demand3.{HoldsModel, LargestBlockPairs}
 
@@ -28,10 +28,10 @@ module _ (by : JudgedBy) where
     pub kept : Kept (by .limits) (by .says model) (by .file model .mark) (automatonOf M) certificate blocks
 
   -- demand 3 of blocks: lying in one of them is the largest relation, and a certificate accepted for a model file that holds the same
-  -- automaton has the same blocks
+  -- automaton, in whatever terms, has the same blocks
   pub record LargestOf (model blocks : List ℕ) : Type 0 where
     pub largest : LargestBlockPairs (by .read) (by .met model) model blocks
-    pub oneAnswer : (other certificate₂ blocks₂ : List ℕ) → Bytes other → Bytes certificate₂ → AcceptedBy by other certificate₂ blocks₂ → (M N : Model) → HoldsModel (by .read) model M → HoldsModel (by .read) other N → by .oneAutomaton model other M N → NameSameBlocks blocks blocks₂
+    pub oneAnswer : (other certificate₂ blocks₂ : List ℕ) → Bytes other → Bytes certificate₂ → AcceptedSpelled by other certificate₂ blocks₂ → (M N : Model) → HoldsModel (by .read) model M → HoldsModel (by .spelled) other N → by .oneAutomaton model other M N → NameSameBlocks blocks blocks₂
 
   module _ (follows : Follows) where
     -- what the call answers, and leaves in the lent buffers

@@ -2,7 +2,7 @@
 use Prim.Native.Nat.{ℕ}
 use mathlib.Core.List.{List}
 use Rattle.bisimulation.specs.definitions.StepRule.{StepRule, Met}
-use Rattle.rules.specs.definitions.Limits.{Limits, limits, current}
+use Rattle.rules.specs.definitions.Limits.{anyTerms, Limits, limits, withTerms, current}
 use Rattle.rules.specs.definitions.Model.{Model, HoldOneAutomaton}
 use Rattle.rules.specs.definitions.Reading.{readWhole}
 use Rattle.rules.specs.definitions.Certificate.{FileRule}
@@ -11,11 +11,12 @@ use Rattle.rules.specs.definitions.Judging.{Reader, AcceptedFor}
 use Rattle.rules.specs.definitions.Accepted.{RuleSays, IsFile, FileOf}
 use Rattle.rules.specs.definitions.PlainSays.{plainSays}
 
--- limits; how a model file is read, and which bytes are the file of a model; the step rule of a model file, whose bytes may tell of it: what it
+-- limits; how a model file is read, in the terms that they ask and in whatever terms, and which bytes are the file of a model; the step rule of a model file, whose bytes may tell of it: what it
 -- decides of a certificate file, what it says of a certificate, and when a question is met; and when two model files hold one automaton
 pub record JudgedBy : Type 1 where
   pub limits : Limits
   pub read : Reader
+  pub spelled : Reader
   pub isFile : IsFile
   pub file : (model : List ℕ) → FileRule
   pub says : (model : List ℕ) → RuleSays
@@ -28,6 +29,7 @@ plainPairsAt L =
     record {
       limits = L;
       read = readWhole L;
+      spelled = readWhole (withTerms anyTerms L);
       isFile = FileOf L;
       file = λ model. plainRule;
       says = λ model. plainSays;
@@ -46,3 +48,7 @@ storedPairs = plainPairsAt limits
 -- a certificate accepted for a model, with its accepted blocks: judged by that model's rule
 abbrev pub AcceptedBy : JudgedBy → (model certificate blocks : List ℕ) → Type 0
 AcceptedBy by model certificate blocks = AcceptedFor (by .limits) (by .read) (by .file model) model certificate blocks
+
+-- the same, in whatever terms the model is written
+abbrev pub AcceptedSpelled : JudgedBy → (model certificate blocks : List ℕ) → Type 0
+AcceptedSpelled by model certificate blocks = AcceptedFor (withTerms anyTerms (by .limits)) (by .spelled) (by .file model) model certificate blocks

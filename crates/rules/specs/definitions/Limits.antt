@@ -37,9 +37,9 @@ withTerms terms L =
       terms = terms;
     }
 
--- what the calls read by
+-- K10: 'A transition whose weights have a common divisor above 1 is refused from now on': what the calls read by, but for those that rewrite
 abbrev pub current : Limits
-current = withTerms anyTerms limits
+current = withTerms lowestTerms limits
 
 -- the bytes of the longest model: its head and the mark of its labels, a label for each state, and so many for each transition and each entry
 abbrev pub longestModel : Limits → ℕ

@@ -185,11 +185,11 @@ unfoldable pub readingOf : List ℕ → Scan → Reading
 readingOf s (sound n m count end) = model (modelAt s) end
 readingOf s (refused f place) = noModel f place
 
--- reading the records of a model: refusals 1 to 8
+-- reading the records of a model: refusals 1 to 8, and 34
 unfoldable pub readModel : Limits → List ℕ → Reading
 readModel L s = readingOf s (scanModel L s)
 
--- reading a file that holds a model and nothing else: refusals 1 to 9
+-- reading a file that holds a model and nothing else: refusals 1 to 9, and 34
 unfoldable pub readWhole : Limits → List ℕ → Reading
 readWhole L s = readingOf s (scanWhole L s)
 

@@ -1,6 +1,6 @@
 -- `transition_at` meets its contract: each return is one way out of `transitionFault`.
 use native.Mathlib.Omega.{arith}
-use Rattle.transition_record.specs.TransitionLaws.{not-opened, fixed-whole, not-fixed, cut, not-entries, stands}
+use Rattle.transition_record.specs.TransitionLaws.{not-opened, fixed-whole, not-fixed, cut, stands}
 use borrow.Author.Needs.{needs}
 use Rattle.transition_record.proofs.transition_at.Statement.{statement}
 use Rattle.transition_record.proofs.transition_at.Tie as tie
@@ -65,23 +65,9 @@ entries-at-requires c κs =
     let whole = fixed-whole _ _ (opens .result) (opens .ensures) (passed .if1 .left) in
     (omega arith, omega arith)
 
-refused-requires-4 : tie.Need-refused-requires-4
-refused-requires-4 c κs = search needs
-
-returns-4 : tie.Need-returns-4
-returns-4 c =
-    let read = c .before .before .before .before .before in
-    let fields = read .before .before .before in
-    let sound = fields .before in
-    let fixed = sound .before .before in
-    let passed = fixed .before in
-    let opens = passed .before .before .open-model in
-    not-entries _ _ _ _ _ _ _ (opens .result) (opens .ensures) (passed .if1 .left) (fixed .fixed-fault .result) (fixed .fixed-fault .ensures) (sound .if2 .left) (fields .fields-at .result) (fields .fields-at .ensures)
-    (read .entries-at .result) (read .entries-at .ensures) (omega (arith, fixed-whole _ _ (opens .result) (opens .ensures) (passed .if1 .left))) _ (c .refused4 .ensures) (c .before .if4 .taken)
-
 terms-fault-requires : tie.Need-terms-fault-requires
 terms-fault-requires c κs =
-    let read = c .before .before .before .before in
+    let read = c in
     let fields = read .before .before .before in
     let sound = fields .before in
     let fixed = sound .before .before in
@@ -89,12 +75,15 @@ terms-fault-requires c κs =
     let opens = passed .before .before .open-model in
     omega (arith, fixed-whole _ _ (opens .result) (opens .ensures) (passed .if1 .left), fields .fields-at .ensures .entries)
 
+first-of-requires : tie.Need-first-of-requires
+first-of-requires c κs = search needs
+
 at-requires : tie.Need-at-requires
 at-requires c κs = search needs
 
-returns-5 : tie.Need-returns-5
-returns-5 c =
-    let read = c .before .before .before .before .before .before in
+returns-4 : tie.Need-returns-4
+returns-4 c =
+    let read = c .before .before .before .before in
     let fields = read .before .before .before in
     let sound = fields .before in
     let fixed = sound .before .before in
@@ -102,7 +91,7 @@ returns-5 c =
     let opens = passed .before .before .open-model in
     stands _ _ _ _ _ _ _ (opens .result) (opens .ensures) (passed .if1 .left) (fixed .fixed-fault .result) (fixed .fixed-fault .ensures) (sound .if2 .left) (fields .fields-at .result) (fields .fields-at .ensures)
     (read .entries-at .result) (read .entries-at .ensures) (omega (arith, fixed-whole _ _ (opens .result) (opens .ensures) (passed .if1 .left)))
-    (c .before .before .if4 .left) (c .before .terms-fault .result) _ (c .before .terms-fault .ensures) (c .at .ensures)
+    (c .before .before .before .terms-fault .result) (c .before .first-of .result) _ (c .before .before .before .terms-fault .ensures) (c .before .first-of .ensures) (c .at .ensures)
 
 pub transition-at-spec : {M : Type 1} → statement M
 transition-at-spec =
@@ -121,8 +110,7 @@ transition-at-spec =
     refused-requires-3
     returns-3
     entries-at-requires
-    refused-requires-4
-    returns-4
     terms-fault-requires
+    first-of-requires
     at-requires
-    returns-5)
+    returns-4)

@@ -11,7 +11,7 @@ mod report;
 
 use compare::Numbers;
 use maker::families::{bytes, filled, flow_heavy, flow_heavy_with_costs, half, largest, one_source, refutation_heavy};
-use maker::files::{Certificate, Model};
+use maker::files::{Certificate, Model, Transition};
 use maker::prism::largest_text;
 use maker::random::random_model;
 use plain::{Limits, TODAY};
@@ -92,6 +92,19 @@ fn joining(length: Duration, pairs: &[Files]) -> Times {
     lending(length, raw::zolkirta_join, Limits::join, pairs)
 }
 
+/// A stored pair in any terms that is accepted, with buffers of just its lengths.
+fn rewriting(length: Duration, library: raw::LendingTwo, plain: compare::PlainLendingTwo, (model, certificate): &Files) -> Times {
+    let buffers = || (vec![0; model.len()], vec![0; certificate.len()]);
+    let ((mut pa, mut ct), (mut pa_plain, mut ct_plain)) = (buffers(), buffers());
+    let proved = || {
+        let (one, other) = (black_box(model), black_box(certificate));
+        let (out, other_out) = (pa.as_mut_ptr(), ct.as_mut_ptr());
+        unsafe { library(one.as_ptr(), one.len(), other.as_ptr(), other.len(), out, one.len(), other_out, other.len()) }.answer.number
+    };
+    let by_hand = || plain(&TODAY, black_box(model), black_box(certificate), &mut pa_plain, &mut ct_plain).answer.number;
+    measured(length, proved, by_hand)
+}
+
 fn on_paper(length: Duration, pairs: &[Files]) -> Times {
     lending(length, raw::zolkirta_sheet, Limits::sheet, pairs)
 }
@@ -127,6 +140,25 @@ fn random_pairs() -> Vec<Files> {
     pairs
 }
 
+/// The largest model with weights whose divisor takes long to find: the first two are neighbours among Fibonacci's numbers.
+fn in_longer_terms() -> Model {
+    let model = largest().0;
+    let longer = |r: &Transition| {
+        let weights: Vec<_> = r.weights.iter().map(|e| e.0).zip([17_711, 28_657, 2, 4, 6, 8, 10, 12]).collect();
+        Transition { d: weights.iter().map(|e| e.1).sum(), weights, ..r.clone() }
+    };
+    Model { transitions: model.transitions.iter().map(longer).collect(), ..model }
+}
+
+/// The same with D and w of every flow twice as large.
+fn paying_twice((model, mut certificate): (Model, Certificate)) -> (Model, Certificate) {
+    for flow in &mut certificate.flows {
+        flow.d *= 2;
+        flow.ws.iter_mut().for_each(|e| e.1 *= 2);
+    }
+    (model, certificate)
+}
+
 /// A line of the table: what was called, the times, the ratio that is the goal, and what is known of the reason where it is missed.
 pub struct Case {
     pub name: &'static str,
@@ -153,11 +185,25 @@ fn cases(random: &[Files]) -> Vec<Case> {
     let [flows, flows_128] = [64, 128].map(|n| [bytes(flow_heavy(n, 0))]);
     let [paying, paying_128] = [64, 128].map(|n| [bytes(flow_heavy_with_costs(n))]);
     let half = half().0.bytes();
+    let longer_terms = in_longer_terms().bytes();
+    let times = |(model, certificate): (Model, Certificate), factor: i64| {
+        let transitions = model.transitions.iter().map(|r| r.times(factor)).collect();
+        bytes((Model { transitions, ..model }, certificate))
+    };
+    // A self loop that no equation notices, or a refutation, is good in any terms; the flows of the last pay twice, and so does their D.
+    let stored_largest = times(maker::families::largest(), 8191);
+    let [stored_refutations, stored_flows] = [times(refutation_heavy(64), 2), times(flow_heavy(64, 3), 2)];
+    let stored_paying = times(paying_twice(flow_heavy_with_costs(64)), 2);
+    assert!([&stored_largest, &stored_refutations, &stored_flows].into_iter().all(|(pa, ct)| compare::rewrite(pa, ct).0.answer.number == 0));
+    assert_eq!(compare::rewrite_costs(&stored_paying.0, &stored_paying.1).0.answer.number, 0);
+    let rewriting_plain = |pair: &Files| rewriting(length, raw::zolkirta_rewrite, Limits::rewrite, pair);
+    let rewriting_costs = |pair: &Files| rewriting(length, raw::zolkirta_rewrite_costs, Limits::rewrite_costs, pair);
     let cut = (largest.0[..1].to_vec(), largest.1.clone());
     let case = |name, times, goal, reason| Case { name, times, goal, reason };
     vec![
         case("model read: fetch, 64 states, 256 transitions, 1,024 entries; no state 64", fetching(length, &once_largest, 64), no_slower, ""),
         case("largest model read: fetch, 128 states, 256 transitions, 2,048 entries; no state 128", fetching(length, &largest.0, 128), no_slower, ""),
+        case("largest model read, divisors that take long: fetch, d 46,410; no state 128", fetching(length, &longer_terms, 128), no_slower, ""),
         case("refusal at the first byte: judge, the model cut after it", judging(length, &[cut]), no_slower, ""),
         case("refutation-heavy: judge, 64 states, 2,016 refutations of 192 prices", judging(length, &refutations), by_a_third, ""),
         case("flow-heavy: judge, 64 states, 16,128 flows of one w entry", judging(length, &flows), by_a_third, ""),
@@ -171,6 +217,10 @@ fn cases(random: &[Files]) -> Vec<Case> {
         case("reduce, 256 different transitions of one state", reducing(length, &[one_source]), no_slower, COMPARED),
         case("reduce, flow-heavy, 64 states", reducing(length, &flows), no_slower, ""),
         case("join, two models of 64 states, 128 transitions, 1,024 entries", joining(length, &[(half.clone(), half)]), no_slower, ""),
+        case("rewrite, the largest model times 8,191, every state a block", rewriting_plain(&stored_largest), no_slower, ""),
+        case("rewrite, refutation-heavy, 64 states, all transitions 2/2", rewriting_plain(&stored_refutations), by_a_third, ""),
+        case("rewrite, flow-heavy, 64 states, all transitions 2/2, 16,128 flows of three k", rewriting_plain(&stored_flows), by_a_third, ""),
+        case("rewrite_costs, flow-heavy, 64 states, all transitions 2/2", rewriting_costs(&stored_paying), by_a_third, ""),
         case("alike, refutation-heavy, 64 states: no", comparing(length, &refutations[0]), by_a_third, ""),
         case("alike, flow-heavy, 64 states: yes", comparing(length, &flows[0]), by_a_third, ""),
         case("read_prism, 128 states, 256 choices, 2,048 lines, 31 names", reading(length, &largest_text(true)), no_slower, ""),

@@ -1,7 +1,7 @@
 //! The library beside the plain judge: the same answer and the same bytes in every lent buffer and around it, or the pair in hex.
 #![allow(dead_code)] // each test file uses its own part
 
-use crate::plain::{self, AlikeAnswer, Answer, Broken, Limits, Rule, BEFORE_K7, TODAY};
+use crate::plain::{self, AlikeAnswer, Answer, Broken, Limits, PairAnswer, Rule, Terms, BEFORE_K10, BEFORE_K7, TODAY};
 use std::cmp::Ordering;
 use std::collections::{BTreeSet, HashMap};
 use std::fmt;
@@ -34,6 +34,7 @@ pub fn fetch(model: &[u8], state: u32) -> Answer {
 }
 
 pub type PlainLending = fn(&Limits, &[u8], &[u8], &mut [u8]) -> Answer;
+pub type PlainLendingTwo = fn(&Limits, &[u8], &[u8], &mut [u8], &mut [u8]) -> PairAnswer;
 
 /// The calls that lend a buffer, by name: the library's and the plain judge's.
 fn lending(name: &str) -> (raw::Lending, PlainLending) {
@@ -47,41 +48,115 @@ fn lending(name: &str) -> (raw::Lending, PlainLending) {
     }
 }
 
-/// Calls both with a lent buffer of this length and compares answers, buffers and guard bytes. Hands back what was written.
-fn lent_to_both(
+/// The calls that lend two buffers.
+fn lending_two(name: &str) -> (raw::LendingTwo, PlainLendingTwo) {
+    match name {
+        "rewrite" => (raw::zolkirta_rewrite, Limits::rewrite),
+        "rewrite_costs" => (raw::zolkirta_rewrite_costs, Limits::rewrite_costs),
+        _ => panic!("no such call: {name}"),
+    }
+}
+
+/// What a call answers that lends so many buffers.
+trait Told<const N: usize>: Copy + PartialEq + fmt::Debug {
+    fn number(self) -> u32;
+    /// How many bytes it wrote into each.
+    fn written(self) -> [usize; N];
+}
+
+impl Told<1> for Answer {
+    fn number(self) -> u32 {
+        self.number
+    }
+
+    fn written(self) -> [usize; 1] {
+        [self.written]
+    }
+}
+
+impl Told<2> for PairAnswer {
+    fn number(self) -> u32 {
+        self.answer.number
+    }
+
+    fn written(self) -> [usize; 2] {
+        [self.answer.written, self.certificate_written]
+    }
+}
+
+/// The first bytes of each buffer from a place on, as many as were written.
+fn first_bytes<const N: usize>(buffers: [Vec<u8>; N], from: usize, written: [usize; N]) -> [Vec<u8>; N] {
+    let mut written = written.into_iter();
+    buffers.map(|mut buffer| {
+        buffer.truncate(from + written.next().unwrap());
+        buffer.split_off(from)
+    })
+}
+
+/// Calls both with lent buffers of these lengths and compares answers, buffers and guard bytes. Hands back what was written.
+fn lent_to_both<A: Told<N>, const N: usize>(
     name: &str,
     files: &[&[u8]],
-    length: usize,
-    call: impl FnOnce(*mut u8) -> Answer,
-    plain_call: impl FnOnce(&mut [u8]) -> Answer,
-) -> (Answer, Vec<u8>) {
-    let before: Vec<u8> = (0..length + 2 * GUARD).map(|i| (i * 89 + 165) as u8).collect();
+    lengths: [usize; N],
+    call: impl FnOnce([*mut u8; N]) -> A,
+    plain_call: impl FnOnce([&mut [u8]; N]) -> A,
+) -> (A, [Vec<u8>; N]) {
+    let before = lengths.map(|length| (0..length + 2 * GUARD).map(|i| (i * 89 + 165) as u8).collect::<Vec<u8>>());
     let (mut left, mut right) = (before.clone(), before.clone());
-    let library = call(left[GUARD..].as_mut_ptr());
-    let plain = plain_call(&mut right[GUARD..GUARD + length]);
-    let silent = plain.number == 0 || right == before;
+    let library = call(left.each_mut().map(|buffer| buffer[GUARD..].as_mut_ptr()));
+    let plain = plain_call(right.each_mut().map(|buffer| {
+        let end = buffer.len() - GUARD;
+        &mut buffer[GUARD..end]
+    }));
+    let silent = plain.number() == 0 || right == before;
+    let shown = |all: &[Vec<u8>]| all.iter().map(|bytes| hex(bytes)).collect::<Vec<_>>().join(" ");
     assert!(
         library == plain && left == right && silent,
-        "{name} with {length} bytes lent\nlibrary {library:?}\nplain   {plain:?}\nlibrary's buffer {}\nplain's buffer   {}\nfiles {}",
-        hex(&left),
-        hex(&right),
+        "{name} with {lengths:?} bytes lent\nlibrary {library:?}\nplain   {plain:?}\nlibrary's buffers {}\nplain's buffers   {}\nfiles {}",
+        shown(&left),
+        shown(&right),
         files.iter().map(|file| hex(file)).collect::<Vec<_>>().join(" ")
     );
-    right.truncate(GUARD + plain.written);
-    (plain, right.split_off(GUARD))
+    (plain, first_bytes(right, GUARD, plain.written()))
+}
+
+/// The answer of a call that lends one buffer, and what it wrote there.
+fn only<A>((answer, [written]): (A, [Vec<u8>; 1])) -> (A, Vec<u8>) {
+    (answer, written)
 }
 
 /// Makes a call with two files by both and compares.
 fn lent(name: &str, one: &[u8], other: &[u8], length: usize) -> (Answer, Vec<u8>) {
     let (call, plain_call) = lending(name);
-    let library = |out| unsafe { call(one.as_ptr(), one.len(), other.as_ptr(), other.len(), out, length) };
-    lent_to_both(name, &[one, other], length, library, |out| plain_call(&TODAY, one, other, out))
+    let library = |[out]: [_; 1]| unsafe { call(one.as_ptr(), one.len(), other.as_ptr(), other.len(), out, length) };
+    only(lent_to_both(name, &[one, other], [length], library, |[out]| plain_call(&TODAY, one, other, out)))
+}
+
+/// What a rewriting call answers, and what it writes into each buffer.
+pub type Rewritten = (PairAnswer, [Vec<u8>; 2]);
+
+/// Rewrites a pair by both, by the call's name and with lent buffers of these lengths, and compares.
+pub fn rewrite_by(name: &str, model: &[u8], certificate: &[u8], lengths: [usize; 2]) -> Rewritten {
+    let (call, plain_call) = lending_two(name);
+    let (m, c) = (model.as_ptr(), certificate.as_ptr());
+    let library = |[pa, ct]: [_; 2]| unsafe { call(m, model.len(), c, certificate.len(), pa, lengths[0], ct, lengths[1]) };
+    lent_to_both(name, &[model, certificate], lengths, library, |[pa, ct]| plain_call(&TODAY, model, certificate, pa, ct))
+}
+
+/// Rewrites a pair by both, with buffers of just its lengths, and compares.
+pub fn rewrite(model: &[u8], certificate: &[u8]) -> Rewritten {
+    rewrite_by("rewrite", model, certificate, [model.len(), certificate.len()])
+}
+
+/// The same of a cost pair.
+pub fn rewrite_costs(model: &[u8], certificate: &[u8]) -> Rewritten {
+    rewrite_by("rewrite_costs", model, certificate, [model.len(), certificate.len()])
 }
 
 /// Reads a text of PRISM by both and compares.
 pub fn read_prism(text: &[u8], length: usize) -> (Answer, Vec<u8>) {
-    let library = |out| unsafe { raw::zolkirta_read_prism(text.as_ptr(), text.len(), out, length) };
-    lent_to_both("read_prism", &[text], length, library, |out| TODAY.read_prism(text, out))
+    let library = |[out]: [_; 1]| unsafe { raw::zolkirta_read_prism(text.as_ptr(), text.len(), out, length) };
+    only(lent_to_both("read_prism", &[text], [length], library, |[out]| TODAY.read_prism(text, out)))
 }
 
 /// Judges by both and compares.
@@ -124,7 +199,7 @@ pub type Kind = (Broken, Ordering);
 
 /// The kind of an answer for a pair that was judged by a rule; none for other numbers.
 pub fn kind_by(rule: Rule, answer: Answer, model: &[u8], certificate: &[u8]) -> Option<Kind> {
-    let broken = || TODAY.broken(rule, model, certificate).expect("a state and a remainder").0;
+    let broken = || BEFORE_K10.broken(rule, model, certificate).expect("a state and a remainder").0;
     matches!(answer.number, 16 | 20 | 21).then(|| (broken(), answer.remainder.cmp(&0)))
 }
 
@@ -143,11 +218,16 @@ pub fn every_kind() -> BTreeSet<Kind> {
 
 /// How many answers of document 01's three calls had each number, of which kinds those of judging were, and how many pairs were sent
 /// through.
-#[derive(Default)]
 pub struct Counts {
-    pub answers: [u64; 25],
+    pub answers: [u64; 35],
     pub kinds: BTreeSet<Kind>,
     pub pairs: u64,
+}
+
+impl Default for Counts {
+    fn default() -> Counts {
+        Counts { answers: [0; 35], kinds: BTreeSet::new(), pairs: 0 }
+    }
 }
 
 impl Counts {
@@ -220,6 +300,27 @@ fn answer(fields: &[&str], fetched: bool, out: &[u8]) -> Answer {
     Answer { number: number as u32, file: file as u32, place, stretch_start, stretch_length, written: out.len(), state, remainder }
 }
 
+/// A model's file with its fractions in lowest terms, as far as its transitions are whole and add up: the divisor is found by trying.
+pub fn in_lowest_terms(file: &[u8]) -> Vec<u8> {
+    let mut out = file.to_vec();
+    let two = |at: usize| usize::from(file[at]) << 8 | usize::from(file[at + 1]);
+    let mut at = 8 + file.get(2).map_or(0, |&n| usize::from(n));
+    for _ in 0..if file.len() < 6 { 0 } else { two(4) } {
+        let Some(end) = file.get(at + 6).map(|&c| at + 7 + 3 * usize::from(c)).filter(|&end| end <= file.len()) else { break };
+        let weights: Vec<usize> = (at + 8..end).step_by(3).collect();
+        let least = weights.iter().map(|&p| two(p)).min().unwrap_or(0);
+        if least == 0 || weights.iter().map(|&p| two(p)).sum::<usize>() != two(at + 4) {
+            break;
+        }
+        let divisor = (1..=least).rev().find(|g| weights.iter().all(|&p| two(p) % g == 0)).unwrap();
+        for field in weights.into_iter().chain([at + 4]) {
+            out[field..field + 2].copy_from_slice(&((two(field) / divisor) as u16).to_be_bytes());
+        }
+        at = end;
+    }
+    out
+}
+
 /// A merged model from before K3 without the transitions that are the same as an earlier one of their block as fractions.
 fn as_fractions(merged: &[u8]) -> Vec<u8> {
     let model = plain::read(&BEFORE_K7, Rule::Plain, merged).ok().expect("a merged model");
@@ -250,8 +351,8 @@ pub struct Line {
     pub said: Said,
 }
 
-/// What a call says: its answer, 1 for yes, and the bytes that it wrote.
-pub type Said = (Answer, u32, Vec<u8>);
+/// What a call says: its answer, 1 for yes, and the bytes that it wrote into each lent buffer; none were where it lends none.
+pub type Said = (Answer, u32, Vec<Vec<u8>>);
 
 /// Who answers a line: the plain judge at some limits, both, or the safe calls.
 pub trait Answering {
@@ -260,14 +361,15 @@ pub trait Answering {
     /// A call, by its name, with two files and a lent buffer of this length, and what it writes there.
     fn lent(&self, call: &str, one: &[u8], other: &[u8], length: usize) -> (Answer, Vec<u8>);
     fn alike(&self, model: &[u8], certificate: &[u8], named: [u32; 3]) -> AlikeAnswer;
+    /// A rewriting call, by its name, with lent buffers of these lengths.
+    fn rewrite(&self, call: &str, model: &[u8], certificate: &[u8], lengths: [usize; 2]) -> Rewritten;
 }
 
-/// What a call answers that is lent a buffer of this length, and what it writes there.
-fn written(length: usize, call: impl FnOnce(&mut [u8]) -> Answer) -> (Answer, Vec<u8>) {
-    let mut buffer = vec![0; length];
-    let answer = call(&mut buffer);
-    buffer.truncate(answer.written);
-    (answer, buffer)
+/// What a call answers that is lent buffers of these lengths, and what it writes there.
+fn written<A: Told<N>, const N: usize>(lengths: [usize; N], call: impl FnOnce([&mut [u8]; N]) -> A) -> (A, [Vec<u8>; N]) {
+    let mut buffers = lengths.map(|length| vec![0; length]);
+    let answer = call(buffers.each_mut().map(Vec::as_mut_slice));
+    (answer, first_bytes(buffers, 0, answer.written()))
 }
 
 /// The plain judge by itself.
@@ -277,15 +379,19 @@ impl Answering for Limits {
     }
 
     fn read_prism(&self, text: &[u8], length: usize) -> (Answer, Vec<u8>) {
-        written(length, |buffer| self.read_prism(text, buffer))
+        only(written([length], |[buffer]| self.read_prism(text, buffer)))
     }
 
     fn lent(&self, call: &str, one: &[u8], other: &[u8], length: usize) -> (Answer, Vec<u8>) {
-        written(length, |buffer| lending(call).1(self, one, other, buffer))
+        only(written([length], |[buffer]| lending(call).1(self, one, other, buffer)))
     }
 
     fn alike(&self, model: &[u8], certificate: &[u8], [count, s, t]: [u32; 3]) -> AlikeAnswer {
         self.alike(model, count, certificate, s, t)
+    }
+
+    fn rewrite(&self, call: &str, model: &[u8], certificate: &[u8], lengths: [usize; 2]) -> Rewritten {
+        written(lengths, |[pa, ct]| lending_two(call).1(self, model, certificate, pa, ct))
     }
 }
 
@@ -308,6 +414,23 @@ impl Answering for Both {
     fn alike(&self, model: &[u8], certificate: &[u8], named: [u32; 3]) -> AlikeAnswer {
         alike(model, certificate, named)
     }
+
+    fn rewrite(&self, call: &str, model: &[u8], certificate: &[u8], lengths: [usize; 2]) -> Rewritten {
+        rewrite_by(call, model, certificate, lengths)
+    }
+}
+
+/// What holds a line from before K10, whatever its terms.
+#[derive(Clone, Copy, Debug, PartialEq, Eq, PartialOrd, Ord)]
+pub enum Held {
+    /// The rewriting accepts its pair, and for the rewritten one its call gets the line's own answer.
+    Rewritten,
+    /// The rewriting refuses its pair with the line's own answer.
+    Refused,
+    /// It has no certificate: its call gets the line's own answer for its models in lowest terms.
+    InLowestTerms,
+    /// The rewriting says what the line does not tell: this number.
+    Untold(u32),
 }
 
 impl Line {
@@ -320,14 +443,14 @@ impl Line {
             [_, _, files, .., yes, out] => (files.split(',').collect(), &field[3..10], yes.parse().unwrap(), out),
             _ => panic!("no line of {name}: {text}"),
         };
-        let out = bytes(out);
+        let outs: Vec<Vec<u8>> = out.split(',').map(bytes).collect();
         Line {
             text: text.into(),
             name,
             call: field[0].into(),
             numbers: field[1].split(',').map(|number| number.parse().unwrap()).collect(),
             files: files.into_iter().map(bytes).collect(),
-            said: (answer(fields, field[0] == "fetch", &out), yes, out),
+            said: (answer(fields, field[0] == "fetch", &outs[0]), yes, outs),
         }
     }
 
@@ -335,37 +458,95 @@ impl Line {
         self.said.0.number
     }
 
-    /// What is said to the line, as far as its file tells it: before K2 no state and no remainder.
-    pub fn said_by(&self, calls: &impl Answering) -> Said {
-        let lent = |(answer, out)| (answer, 0, out);
-        let (mut answer, yes, out) = match (&self.numbers[..], &self.files[..]) {
-            (&[state], [model]) if self.call == "fetch" => (calls.fetch(model, state), 0, Vec::new()),
-            (&[length], [text]) if self.call == "read_prism" => lent(calls.read_prism(text, length as usize)),
-            (&[length], [one, other]) => lent(calls.lent(&self.call, one, other, length as usize)),
-            (&[count, s, t], [model, certificate]) if self.call == "alike" => {
-                let said = calls.alike(model, certificate, [count, s, t]);
-                (said.answer, said.alike, Vec::new())
-            }
-            _ => panic!("no such call: {}", self.text),
-        };
+    /// An answer as far as the line's file tells it: before K2 no state and no remainder.
+    fn told(&self, mut answer: Answer) -> Answer {
         if matches!(self.name, "base" | "k1") && matches!(answer.number, 16 | 20 | 21) {
             (answer.state, answer.remainder) = (0, 0);
         }
-        (answer, yes, out)
+        answer
+    }
+
+    /// What is said to the line, as far as its file tells it.
+    pub fn said_by(&self, calls: &impl Answering) -> Said {
+        let lent = |(answer, out)| (answer, 0, vec![out]);
+        let (answer, yes, outs) = match (&self.numbers[..], &self.files[..]) {
+            (&[state], [model]) if self.call == "fetch" => lent((calls.fetch(model, state), Vec::new())),
+            (&[length], [text]) if self.call == "read_prism" => lent(calls.read_prism(text, length as usize)),
+            (&[length], [one, other]) => lent(calls.lent(&self.call, one, other, length as usize)),
+            (&[model_out, certificate_out], [model, certificate]) => {
+                let (said, outs) = calls.rewrite(&self.call, model, certificate, [model_out, certificate_out].map(|x| x as usize));
+                assert_eq!(said.certificate_written, outs[1].len());
+                (said.answer, 0, outs.into())
+            }
+            (&[count, s, t], [model, certificate]) if self.call == "alike" => {
+                let said = calls.alike(model, certificate, [count, s, t]);
+                (said.answer, said.alike, vec![Vec::new()])
+            }
+            _ => panic!("no such call: {}", self.text),
+        };
+        (self.told(answer), yes, outs)
     }
 
     /// The limits that the line was written under.
     pub fn limits(&self) -> &'static Limits {
         match self.name {
-            "k7" | "k9" => &TODAY,
+            "k9" | "k10" => &TODAY,
+            "k7" => &BEFORE_K10,
             _ => &BEFORE_K7,
         }
     }
 
-    /// Whether the line is about the limits from before K7: one of the four numbers that go by them refuses it, and by today's limits the
+    /// Whether the line is about the limits from before K7: one of the four numbers that go by them refuses it, and by K7's limits the
     /// plain judge says something else. That it says the line's own answer by the older ones is a test of its own.
     pub fn about_the_limits(&self) -> bool {
-        self.limits() == &BEFORE_K7 && matches!(self.number(), 3 | 8 | 13 | 25) && self.said_by(&TODAY) != self.said
+        self.limits() == &BEFORE_K7 && matches!(self.number(), 3 | 8 | 13 | 25) && self.said_by(&BEFORE_K10) != self.said
+    }
+
+    pub fn before_k10(&self) -> bool {
+        self.limits().terms == Terms::Any
+    }
+
+    /// Whether the line is from before K10, and 34 refuses it now.
+    pub fn in_other_terms(&self) -> bool {
+        self.before_k10() && self.said_by(&TODAY).0.number == 34
+    }
+
+    /// The line with what it must get since K10 where 34 does not refuse it: a merged or joined model in lowest terms.
+    fn since_k10(mut self) -> Line {
+        if self.before_k10() && matches!(self.call.as_str(), "reduce" | "join") {
+            self.said.2[0] = in_lowest_terms(&self.said.2[0]);
+        }
+        self
+    }
+
+    /// Whether the line has a certificate, and its pair may be rewritten: the call for it.
+    fn rewriting(&self) -> Option<&'static str> {
+        match self.call.as_str() {
+            "judge" | "reduce" | "sheet" | "alike" => Some("rewrite"),
+            "judge_costs" => Some("rewrite_costs"),
+            _ => None,
+        }
+    }
+
+    /// Holds a line from before K10 to the reading without 34.
+    pub fn held_by(&self, calls: &impl Answering) -> Held {
+        let same_for = |files: Vec<Vec<u8>>| Line { files, ..self.clone() }.since_k10().holds_for(calls);
+        let Some(call) = self.rewriting() else {
+            same_for(self.files.iter().map(|file| in_lowest_terms(file)).collect());
+            return Held::InLowestTerms;
+        };
+        let (said, files) = calls.rewrite(call, &self.files[0], &self.files[1], [0, 1].map(|i| self.files[i].len()));
+        match said.answer.number {
+            0 => {
+                same_for(files.into());
+                Held::Rewritten
+            }
+            _ if self.said.0.file > 0 => {
+                assert_eq!(self.told(said.answer), self.said.0, "{}: {}", self.name, self.text);
+                Held::Refused
+            }
+            number => Held::Untold(number),
+        }
     }
 
     /// Asks and compares with the line.
@@ -385,21 +566,21 @@ impl Line {
         }
         let Some(file) = merged.get(&self.files) else { return (self.number() != 23).then_some(self) };
         if file.len() <= self.numbers[0] as usize {
-            self.said = (Answer { written: file.len(), ..Answer::default() }, 0, file.clone());
+            self.said = (Answer { written: file.len(), ..Answer::default() }, 0, vec![file.clone()]);
         }
         Some(self)
     }
 }
 
 /// The files of vectors, in the order in which they came.
-pub const NAMES: [&str; 8] = ["base", "k1", "k2", "k3", "k4", "k6", "k7", "k9"];
+pub const NAMES: [&str; 9] = ["base", "k1", "k2", "k3", "k4", "k6", "k7", "k9", "k10"];
 
 /// The lines of a file of vectors.
 fn lines_of(name: &'static str) -> Vec<Line> {
     let text = std::fs::read_to_string(format!("{}/../../vectors/{name}.txt", env!("CARGO_MANIFEST_DIR"))).unwrap();
     let all: Vec<Line> = text.lines().map(|line| Line::new(name, line)).collect();
     let accepted = all.iter().filter(|v| v.reduces_before_k3() && v.number() == 0);
-    let merged = accepted.map(|v| (v.files.clone(), as_fractions(&v.said.2))).collect();
+    let merged = accepted.map(|v| (v.files.clone(), as_fractions(&v.said.2[0]))).collect();
     all.into_iter().filter_map(|v| v.since_k3(&merged)).collect()
 }
 
@@ -408,14 +589,21 @@ pub fn all_lines() -> Vec<Line> {
     NAMES.into_iter().flat_map(lines_of).collect()
 }
 
-/// The lines that are not about the older limits, with what they must get.
-pub fn lines() -> Vec<Line> {
-    all_lines().into_iter().filter(|v| !v.about_the_limits()).collect()
+/// The lines that are not about the older limits.
+pub fn of_todays_limits() -> impl Iterator<Item = Line> {
+    all_lines().into_iter().filter(|v| !v.about_the_limits())
 }
 
+/// Of these the ones that 34 does not refuse, with what they must get today.
+pub fn lines() -> Vec<Line> {
+    of_todays_limits().filter(|v| !v.in_other_terms()).map(Line::since_k10).collect()
+}
+
+type Pair = (Vec<u8>, Vec<u8>);
+
 /// The pairs of some lines, the shorter ones first, each once and at most three for one model.
-fn pairs_of(told: impl Fn(&Line) -> bool) -> Vec<(Vec<u8>, Vec<u8>)> {
-    let told = lines().into_iter().filter(|v| told(v));
+fn pairs_of(told: impl Fn(&Line) -> bool) -> Vec<Pair> {
+    let told = of_todays_limits().filter(|v| told(v));
     let mut pairs: Vec<_> = told.map(|mut v| (v.files.remove(0), v.files.remove(0))).collect();
     pairs.sort_by_key(|(model, certificate)| (model.len() + certificate.len(), model.clone(), certificate.clone()));
     pairs.dedup();
@@ -428,15 +616,35 @@ fn pairs_of(told: impl Fn(&Line) -> bool) -> Vec<(Vec<u8>, Vec<u8>)> {
     pairs
 }
 
-/// The accepted pairs of base.txt and k7.txt.
-pub fn accepted() -> Vec<(Vec<u8>, Vec<u8>)> {
+/// The accepted pairs of base.txt and k7.txt, in the terms that they are stored in.
+pub fn stored() -> Vec<Pair> {
     let judged = |v: &Line| matches!(v.call.as_str(), "judge" | "reduce") && matches!(v.number(), 0 | 23);
     pairs_of(|v| matches!(v.name, "base" | "k7") && judged(v))
 }
 
-/// The accepted cost pairs of the vectors.
-pub fn accepted_costs() -> Vec<(Vec<u8>, Vec<u8>)> {
+/// The accepted cost pairs of the vectors, likewise.
+pub fn stored_costs() -> Vec<Pair> {
     pairs_of(|v| v.call == "judge_costs" && v.number() == 0)
+}
+
+/// Stored pairs once rewritten; those with a k that does not fit then are left out.
+fn rewritten(pairs: Vec<Pair>, rewrite: impl Fn(&[u8], &[u8]) -> Rewritten) -> Vec<Pair> {
+    let all = pairs.into_iter().map(|(model, certificate)| rewrite(&model, &certificate));
+    let fitting = all.filter(|(said, _)| {
+        assert!(matches!(said.answer.number, 0 | 35));
+        said.answer.number == 0
+    });
+    fitting.map(|(_, [model, certificate])| (model, certificate)).collect()
+}
+
+/// The accepted pairs of base.txt and k7.txt, rewritten.
+pub fn accepted() -> Vec<Pair> {
+    rewritten(stored(), rewrite)
+}
+
+/// The accepted cost pairs of the vectors, rewritten.
+pub fn accepted_costs() -> Vec<Pair> {
+    rewritten(stored_costs(), rewrite_costs)
 }
 
 /// The texts of the vectors that are read.

@@ -223,6 +223,17 @@ impl Certificate {
         asked
     }
 
+    /// The same for the model in lowest terms: each k times what its transition is divided by. Where one does not fit, the place of its flow.
+    pub fn for_lowest(&self, model: &Model) -> Result<Certificate, usize> {
+        let mut flows = Vec::new();
+        for (i, flow) in self.flows.iter().enumerate() {
+            let times = |&((layer, r), k): &((u8, usize), u32)| Some(((layer, r), k.checked_mul(model.transitions[r].common() as u32)?));
+            let place = || Certificate { flows: self.flows[..i].to_vec(), ..self.clone() }.bytes().len();
+            flows.push(Flow { ks: flow.ks.iter().map(times).collect::<Option<_>>().ok_or_else(place)?, ..flow.clone() });
+        }
+        Ok(Certificate { flows, ..self.clone() })
+    }
+
     /// One for a model without costs.
     pub fn new(refutations: Vec<Refutation>, blocks: Vec<u8>, flows: Vec<Flow>) -> Certificate {
         Certificate { rule: Rule::Plain, refutations, blocks, flows }

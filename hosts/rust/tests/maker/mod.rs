@@ -10,7 +10,7 @@ pub mod random;
 mod simplex;
 mod varied;
 
-use crate::compare::Numbers;
+use crate::compare::{Numbers, Rewritten};
 use files::{Certificate, Flow, Model, Refutation};
 use question::{Met, Question};
 use varied::{added, varied_flow, varied_prices};
@@ -77,6 +77,21 @@ pub fn certificate(model: &Model, choices: &mut Numbers) -> Option<Certificate> 
         flows.push(varied_flow(model, flow, model.transitions[q].action, choices));
     }
     Some(Certificate { rule: model.rule, refutations, blocks: blocks_of(&related), flows })
+}
+
+/// A pair in any terms was rewritten to what the maker makes of it, which is handed back; none where a k does not fit, and 35 names its flow.
+pub fn rewritten(model: &Model, certificate: &Certificate, (said, files): Rewritten) -> Option<(Model, Certificate)> {
+    match certificate.for_lowest(model) {
+        Ok(own) => {
+            let lowest = model.lowest();
+            assert_eq!((said.answer.number, files), (0, [lowest.bytes(), own.bytes()]));
+            Some((lowest, own))
+        }
+        Err(place) => {
+            assert_eq!((said.answer.number, said.answer.file, said.answer.place), (35, 2, place));
+            None
+        }
+    }
 }
 
 /// Models for which the maker found no certificate: it may miss one in twenty.

@@ -78,7 +78,8 @@ fn costly(kernel: &Model, numbers: &mut Numbers) -> Model {
     })
 }
 
-/// A random automaton of 1 to `most` states: a kernel, with states copied, reached by internal steps only, looping and almost alike.
+/// A random automaton of 1 to `most` states, in lowest terms: a kernel, with states copied, reached by internal steps only, looping and almost
+/// alike.
 pub fn random_model(numbers: &mut Numbers, most: usize) -> Model {
     let kernel = kernel(numbers, most);
     grown(kernel, numbers, most)
@@ -153,7 +154,15 @@ fn renumbered(mut model: Model, numbers: &mut Numbers) -> Model {
     let mut to: Vec<usize> = (0..model.n()).collect();
     shuffle(&mut to, numbers);
     shuffle(&mut model.transitions, numbers);
-    let (model, _) = model.reordered(&to);
-    let factor = numbers.below(3);
-    if factor > 0 { model.respelled(factor) } else { model }
+    model.reordered(&to).0.lowest()
+}
+
+/// The same automaton in any terms: each transition times 1, a small factor, or now and then any that fits or the highest.
+pub fn in_any_terms(model: &Model, numbers: &mut Numbers) -> Model {
+    let spelled = |r: &Transition| {
+        let most = (65_535 / r.d) as usize;
+        let (small, any) = (1 + numbers.below(most.min(12)), 1 + numbers.below(most));
+        r.times([1, 1, 1, 2, 3, small, small, small, 1, 2, any, most][numbers.below(12)] as i64)
+    };
+    Model { transitions: model.transitions.iter().map(spelled).collect(), ..model.clone() }
 }

@@ -1,6 +1,7 @@
 //! Document 01's judge, reduce and fetch, document 02's join and alike (K1), the state and the remainder of 16, 20 and 21 (K2), its merged
-//! transitions that are the same as fractions (K3), its block sheet (K4), its cost pairs (K6), its limits (K7) and its texts of PRISM (K9) in
-//! plain Rust, written from the documents alone: what the library is compared with. Every call is one of a set of limits, today's or older ones.
+//! transitions that are the same as fractions (K3), its block sheet (K4), its cost pairs (K6), its limits (K7), its texts of PRISM (K9) and its
+//! lowest terms (K10) in plain Rust, written from the documents alone: what the library is compared with. Every call is one of a set of limits,
+//! today's or older ones.
 //!
 //! Every sum fits an i64. Weights of a transition add up to at most 65,535, so weights times prices stay below 2^47 and a difference
 //! of two such sums below 2^48; L times cost times d is below 2^53. k times d is below 2^48, and a state's equation has at most 768 of
@@ -9,21 +10,33 @@
 
 mod prism;
 
-pub use zolkirta::raw::{AlikeAnswer, Answer};
+pub use zolkirta::raw::{AlikeAnswer, Answer, PairAnswer};
 
-/// The most that a model and a certificate may have. Actions, transitions and labels are the same in all of them.
+/// The terms that the fractions of a model that is read may have, and those that a merged model is written in.
+#[derive(Clone, Copy, Debug, PartialEq, Eq)]
+pub enum Terms {
+    /// Any are read, and a merged transition keeps its d.
+    Any,
+    Lowest,
+}
+
+/// The most that a model and a certificate may have, and the terms. Actions, transitions and labels are the same in all of them.
 #[derive(Clone, Copy, Debug, PartialEq, Eq)]
 pub struct Limits {
     pub states: usize,
     pub entries: usize,
     pub refutations: usize,
+    pub terms: Terms,
 }
 
 /// Document 01's limits.
-pub const BEFORE_K7: Limits = Limits { states: 64, entries: 1024, refutations: 2016 };
+pub const BEFORE_K7: Limits = Limits { states: 64, entries: 1024, refutations: 2016, terms: Terms::Any };
 
 /// The limits of K7.
-pub const TODAY: Limits = Limits { states: 128, entries: 2048, refutations: 8128 };
+pub const BEFORE_K10: Limits = Limits { states: 128, entries: 2048, refutations: 8128, terms: Terms::Any };
+
+/// The limits of K7, and K10's terms.
+pub const TODAY: Limits = Limits { terms: Terms::Lowest, ..BEFORE_K10 };
 
 /// The most states by any limits, the length of every table.
 const STATES: usize = TODAY.states;
@@ -95,6 +108,11 @@ impl Transition<'_> {
         self.entries.chunks_exact(3).map(|e| (usize::from(e[0]), i64::from(two(e, 1))))
     }
 
+    /// The greatest common divisor of the weights, which divides d too: d is their sum.
+    pub fn divisor(&self) -> i64 {
+        divisor(self.weights())
+    }
+
     /// The sum of p(v) times the price of v.
     fn price(&self, prices: &[i64]) -> i64 {
         self.weights().map(|(v, p)| p * prices[v]).sum()
@@ -157,6 +175,15 @@ fn four(s: &[u8], at: usize) -> u32 {
     u32::from_be_bytes([s[at], s[at + 1], s[at + 2], s[at + 3]])
 }
 
+fn gcd(a: i64, b: i64) -> i64 {
+    if b == 0 { a } else { gcd(b, a % b) }
+}
+
+/// The greatest common divisor of some weights.
+fn divisor(weights: impl Iterator<Item = (usize, i64)>) -> i64 {
+    weights.fold(0, |g, (_, p)| gcd(g, p))
+}
+
 /// The file from a record's place on, once its mark is right and its fixed part is whole. `ends` is the number for a file that ends
 /// inside a record; the next number is that of a wrong mark.
 fn record<'a>(file: &'a [u8], at: usize, mark: &[u8; 2], fixed: usize, ends: u32) -> Result<&'a [u8], Fault> {
@@ -173,7 +200,7 @@ fn record<'a>(file: &'a [u8], at: usize, mark: &[u8; 2], fixed: usize, ends: u32
     Ok(bytes)
 }
 
-/// Reads a model, refusals 1 to 9, or a cost model: 29 as well.
+/// Reads a model, refusals 1 to 9 and, where the terms must be lowest, 34, or a cost model: 29 as well.
 pub fn read<'a>(limits: &Limits, rule: Rule, file: &'a [u8]) -> Result<Model<'a>, Fault> {
     let head = record(file, 0, b"PA", 6, 1)?;
     let (n, m, count) = (usize::from(head[2]), head[3], usize::from(two(head, 4)));
@@ -211,6 +238,9 @@ pub fn read<'a>(limits: &Limits, rule: Rule, file: &'a [u8]) -> Result<Model<'a>
         }
         if sum != d {
             return fault(7, at);
+        }
+        if limits.terms == Terms::Lowest && transition.divisor() > 1 {
+            return fault(34, at);
         }
         transitions.push(transition);
         last_source = source;
@@ -370,8 +400,15 @@ fn flow(model: &Model, related: &Related, sums: &mut Sums, file: &[u8], (challen
     Ok(at + size)
 }
 
-/// Judges a certificate for a sound model, refusals 11 to 22 and 30: the bytes of its blocks, and the pairs left.
-fn certificate<'a>(limits: &Limits, model: &Model, file: &'a [u8]) -> Result<(&'a [u8], Related), Fault> {
+/// What an accepted certificate says: the bytes of its blocks, the pairs left, and where its flows begin.
+struct Accepted<'a> {
+    blocks: &'a [u8],
+    related: Related,
+    flows: Vec<usize>,
+}
+
+/// Judges a certificate for a sound model, refusals 11 to 22 and 30.
+fn certificate<'a>(limits: &Limits, model: &Model, file: &'a [u8]) -> Result<Accepted<'a>, Fault> {
     let n = model.n();
     let count = usize::from(two(record(file, 0, model.rule.mark(), 4, 11)?, 2));
     if count > limits.refutations {
@@ -402,11 +439,12 @@ fn certificate<'a>(limits: &Limits, model: &Model, file: &'a [u8]) -> Result<(&'
         }
     }
     at += 2 + n;
-    let mut sums = [[0; STATES]; 3];
+    let (mut sums, mut flows) = ([[0; STATES]; 3], Vec::new());
     for s in 0..n {
         let leaving = model.leaving(s);
         for t in (0..n).filter(|&t| t != s && blocks[t] == blocks[s]) {
             for challenger in leaving {
+                flows.push(at);
                 at = flow(model, &related, &mut sums, file, (challenger, t), at)?;
             }
         }
@@ -414,7 +452,7 @@ fn certificate<'a>(limits: &Limits, model: &Model, file: &'a [u8]) -> Result<(&'
     if at < file.len() {
         return fault(22, at);
     }
-    Ok((blocks, related))
+    Ok(Accepted { blocks, related, flows })
 }
 
 /// A model's file without its transitions.
@@ -422,19 +460,21 @@ fn head_and_labels(labels: &[u8], m: u8, transitions: usize) -> Vec<u8> {
     [&b"PA"[..], &[labels.len() as u8, m], &(transitions as u16).to_be_bytes(), b"LB", labels].concat()
 }
 
-/// Appends a transition's record.
-fn append(out: &mut Vec<u8>, source: usize, r: &Transition, weights: impl Iterator<Item = (usize, u16)> + Clone) {
+/// Appends a transition's record, with d and these weights as they are or in lowest terms.
+fn append(out: &mut Vec<u8>, terms: Terms, source: usize, r: &Transition, weights: impl Iterator<Item = (usize, i64)> + Clone) {
+    let by = if terms == Terms::Lowest { divisor(weights.clone()) } else { 1 };
+    let number = |x: i64| ((x / by) as u16).to_be_bytes();
     out.extend([b'T', b'R', source as u8, r.action]);
-    out.extend((r.d as u16).to_be_bytes());
+    out.extend(number(r.d));
     out.push(weights.clone().count() as u8);
     for (v, p) in weights {
         out.push(v as u8);
-        out.extend(p.to_be_bytes());
+        out.extend(number(p));
     }
 }
 
 /// The merged model's file.
-fn merged(model: &Model, blocks: &[u8]) -> Vec<u8> {
+fn merged(terms: Terms, model: &Model, blocks: &[u8]) -> Vec<u8> {
     let count = usize::from(*blocks.iter().max().unwrap()) + 1;
     let member = |block: usize| blocks.iter().position(|&b| usize::from(b) == block).unwrap();
     let labels: Vec<u8> = (0..count).map(|block| model.labels[member(block)]).collect();
@@ -452,7 +492,7 @@ fn merged(model: &Model, blocks: &[u8]) -> Vec<u8> {
             if kept.iter().any(|(action, d, other)| *action == r.action && in_terms(*d, other)) {
                 continue;
             }
-            append(&mut out, block, r, weights.iter().map(|&p| p as u16).enumerate().filter(|&(_, p)| p > 0));
+            append(&mut out, terms, block, r, weights.iter().copied().enumerate().filter(|&(_, p)| p > 0));
             kept.push((r.action, r.d, weights));
             written += 1;
         }
@@ -472,10 +512,38 @@ fn joined(limits: &Limits, first: &Model, second: &Model) -> Option<Vec<u8>> {
     let mut out = head_and_labels(&labels, first.m.max(second.m), count);
     for (model, raised) in [(first, 0), (second, first.n())] {
         for r in &model.transitions {
-            append(&mut out, r.source + raised, r, r.weights().map(|(v, p)| (v + raised, p as u16)));
+            append(&mut out, Terms::Any, r.source + raised, r, r.weights().map(|(v, p)| (v + raised, p)));
         }
     }
     Some(out)
+}
+
+/// A field of two or four bytes as another value.
+fn put(file: &mut [u8], at: usize, width: usize, value: u64) {
+    file[at..at + width].copy_from_slice(&value.to_be_bytes()[8 - width..]);
+}
+
+/// The files of an accepted pair in lowest terms, refusal 35.
+fn rewritten(model: &Model, model_file: &[u8], accepted: &Accepted, certificate_file: &[u8]) -> Result<[Vec<u8>; 2], Fault> {
+    let [mut pa, mut ct] = [model_file, certificate_file].map(<[u8]>::to_vec);
+    let divisors: Vec<i64> = model.transitions.iter().map(Transition::divisor).collect();
+    for (r, g) in model.transitions.iter().zip(&divisors) {
+        put(&mut pa, r.place + 4, 2, (r.d / g) as u64);
+        for (i, (_, p)) in r.weights().enumerate() {
+            put(&mut pa, r.place + 8 + 3 * i, 2, (p / g) as u64);
+        }
+    }
+    for &flow in &accepted.flows {
+        for i in 0..usize::from(two(certificate_file, flow + 6)) {
+            let entry = flow + 8 + 7 * i;
+            let k = u64::from(four(certificate_file, entry + 3)) * divisors[usize::from(two(certificate_file, entry + 1))] as u64;
+            if k > u64::from(u32::MAX) {
+                return fault(35, flow);
+            }
+            put(&mut ct, entry + 3, 4, k);
+        }
+    }
+    Ok([pa, ct])
 }
 
 /// A refusal in a file, with the stretch from its place to the file's end.
@@ -503,8 +571,8 @@ fn sheet_of(blocks: &[u8], related: &Related) -> String {
     out
 }
 
-/// What a pair is judged to be: the model, the blocks of an accepted certificate and the pairs left, or a refusal.
-type Judged<'a> = Result<(Model<'a>, &'a [u8], Related), Answer>;
+/// What a pair is judged to be: the model and the accepted certificate, or a refusal.
+type Judged<'a> = Result<(Model<'a>, Accepted<'a>), Answer>;
 
 /// Writes a file first into the buffer, or refuses with this number where the buffer is shorter.
 fn write(file: &[u8], buffer: &mut [u8], shorter: u32) -> Answer {
@@ -540,8 +608,8 @@ impl Limits {
         if room < sound.n() {
             return Err(numbered(10));
         }
-        let (blocks, related) = certificate(self, &sound, certificate_file).map_err(|fault| refused(2, certificate_file, fault))?;
-        Ok((sound, blocks, related))
+        let accepted = certificate(self, &sound, certificate_file).map_err(|fault| refused(2, certificate_file, fault))?;
+        Ok((sound, accepted))
     }
 
     /// What breaks in a certificate that is refused with 16, 20 or 21.
@@ -552,7 +620,7 @@ impl Limits {
     /// Judges a certificate for a model by a rule; on acceptance the blocks stand first in the buffer.
     fn judge_by(&self, rule: Rule, model: &[u8], certificate: &[u8], buffer: &mut [u8]) -> Answer {
         match self.judged(rule, model, certificate, buffer.len()) {
-            Ok((_, blocks, _)) => {
+            Ok((_, Accepted { blocks, .. })) => {
                 buffer[..blocks.len()].copy_from_slice(blocks);
                 Answer { written: blocks.len(), ..Answer::default() }
             }
@@ -573,7 +641,7 @@ impl Limits {
     /// Judges a certificate for a model; on acceptance the merged model's file stands first in the buffer.
     pub fn reduce(&self, model: &[u8], certificate: &[u8], buffer: &mut [u8]) -> Answer {
         match self.judged(Rule::Plain, model, certificate, usize::MAX) {
-            Ok((model, blocks, _)) => write(&merged(&model, blocks), buffer, 23),
+            Ok((model, accepted)) => write(&merged(self.terms, &model, accepted.blocks), buffer, 23),
             Err(answer) => answer,
         }
     }
@@ -581,7 +649,7 @@ impl Limits {
     /// Judges a certificate for a model; on acceptance the sheet of its blocks stands first in the buffer.
     pub fn sheet(&self, model: &[u8], certificate: &[u8], buffer: &mut [u8]) -> Answer {
         match self.judged(Rule::Plain, model, certificate, usize::MAX) {
-            Ok((_, blocks, related)) => write(sheet_of(blocks, &related).as_bytes(), buffer, 28),
+            Ok((_, Accepted { blocks, related, .. })) => write(sheet_of(blocks, &related).as_bytes(), buffer, 28),
             Err(answer) => answer,
         }
     }
@@ -601,7 +669,7 @@ impl Limits {
     /// Judges a certificate for a joined model; on acceptance says whether a state of each part share a block.
     pub fn alike(&self, model: &[u8], first_count: u32, certificate: &[u8], first_state: u32, second_state: u32) -> AlikeAnswer {
         let blocks = match self.judged(Rule::Plain, model, certificate, usize::MAX) {
-            Ok((_, blocks, _)) => blocks,
+            Ok((_, accepted)) => accepted.blocks,
             Err(answer) => return AlikeAnswer { answer, alike: 0 },
         };
         let [count, s, t] = [first_count, first_state, second_state].map(|number| number as usize);
@@ -609,5 +677,32 @@ impl Limits {
             return AlikeAnswer { answer: numbered(27), alike: 0 };
         }
         AlikeAnswer { answer: Answer::default(), alike: u32::from(blocks[s] == blocks[t]) }
+    }
+
+    /// Judges a pair by a rule, in any terms; on acceptance both files stand first in their buffers, in lowest terms.
+    fn rewrite_by(&self, rule: Rule, model: &[u8], certificate: &[u8], model_out: &mut [u8], certificate_out: &mut [u8]) -> PairAnswer {
+        let refusal = |answer| PairAnswer { answer, certificate_written: 0 };
+        let (sound, accepted) = match (Limits { terms: Terms::Any, ..*self }).judged(rule, model, certificate, usize::MAX) {
+            Ok(judged) => judged,
+            Err(answer) => return refusal(answer),
+        };
+        let [pa, ct] = match rewritten(&sound, model, &accepted, certificate) {
+            Ok(files) => files,
+            Err(fault) => return refusal(refused(2, certificate, fault)),
+        };
+        if model_out.len() < pa.len() || certificate_out.len() < ct.len() {
+            return refusal(numbered(36));
+        }
+        PairAnswer { answer: write(&pa, model_out, 36), certificate_written: write(&ct, certificate_out, 36).written }
+    }
+
+    /// Judges a stored pair, and writes it in lowest terms.
+    pub fn rewrite(&self, model: &[u8], certificate: &[u8], model_out: &mut [u8], certificate_out: &mut [u8]) -> PairAnswer {
+        self.rewrite_by(Rule::Plain, model, certificate, model_out, certificate_out)
+    }
+
+    /// The same of a cost pair.
+    pub fn rewrite_costs(&self, model: &[u8], certificate: &[u8], model_out: &mut [u8], certificate_out: &mut [u8]) -> PairAnswer {
+        self.rewrite_by(Rule::Costs, model, certificate, model_out, certificate_out)
     }
 }

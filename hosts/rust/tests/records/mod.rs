@@ -239,11 +239,11 @@ fn damage(pair: &mut Records, other: &Records, n: u64, numbers: &mut Numbers) {
     }
 }
 
-/// A sound pair with some of its certificate's records spelled otherwise.
+/// A sound pair with some of its certificate's records spelled otherwise; of two models none are.
 fn respell_some(pair: &mut Records, numbers: &mut Numbers) {
     let rule = rule_of(pair);
     for record in &mut pair[1] {
-        if numbers.below(4) == 0 {
+        if !record.starts_with(b"TR") && numbers.below(4) == 0 {
             respell(record, rule, numbers);
         }
     }

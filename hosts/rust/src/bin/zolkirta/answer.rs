@@ -23,6 +23,12 @@ pub enum Found {
     },
     Fetched(Vec<Transition>),
     Alike(bool),
+    /// A pair in lowest terms.
+    Rewritten {
+        blocks: Vec<u8>,
+        model: Vec<u8>,
+        certificate: Vec<u8>,
+    },
     /// The model of a text, with the names of its actions from 1 on.
     Read {
         names: Vec<String>,
@@ -42,6 +48,17 @@ fn owned(written: Result<&[u8], Refusal>) -> Result<Vec<u8>, OwnedRefusal> {
 /// What a call writes into a buffer of so many bytes.
 fn lent(call: Lending, files: &[&[u8]], most: usize) -> Result<Vec<u8>, OwnedRefusal> {
     owned(call(files[0], files[1], &mut vec![0; most]))
+}
+
+/// A call of the library that lends a buffer for each of two files.
+type LendingTwo =
+    for<'a, 'b> fn(&'a [u8], &'a [u8], &'b mut [u8], &'b mut [u8]) -> Result<(&'b [u8], &'b [u8]), Refusal<'a>>;
+
+/// What a call rewrites a pair to, and the blocks that judging that gives.
+fn rewritten(call: LendingTwo, judge: Lending, files: &[&[u8]]) -> Answer {
+    let [mut model, mut certificate] = [0, 1].map(|file: usize| vec![0; files[file].len()]);
+    call(files[0], files[1], &mut model, &mut certificate).map_err(Refusal::into_owned)?;
+    Ok(Found::Rewritten { blocks: lent(judge, &[&model, &certificate], STATES)?, model, certificate })
 }
 
 /// The block of each state.
@@ -98,4 +115,12 @@ pub fn alike(files: &[&[u8]], asked: &[u32]) -> Answer {
 pub fn read_prism(files: &[&[u8]], _: &[u32]) -> Answer {
     let model = owned(zolkirta::read_prism(files[0], &mut [0; MODEL]))?;
     Ok(Found::Read { names: prism::names(files[0]), model })
+}
+
+pub fn rewrite(files: &[&[u8]], _: &[u32]) -> Answer {
+    rewritten(zolkirta::rewrite, zolkirta::judge, files)
+}
+
+pub fn rewrite_costs(files: &[&[u8]], _: &[u32]) -> Answer {
+    rewritten(zolkirta::rewrite_costs, zolkirta::judge_costs, files)
 }

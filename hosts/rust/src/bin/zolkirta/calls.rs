@@ -1,6 +1,6 @@
 //! The calls: what each is named, what it takes, and what it is for.
 
-use crate::answer::{alike, fetch, join, judge, judge_costs, read_prism, reduce, sheet, Answer};
+use crate::answer::{alike, fetch, join, judge, judge_costs, read_prism, reduce, rewrite, rewrite_costs, sheet, Answer};
 use zolkirta::File;
 
 /// A file that a call takes: the word for it in usage lines, which file of the library it is, and its name in sentences.
@@ -21,6 +21,19 @@ pub enum Writes {
     Never,
     WhereNamed,
     Always,
+    /// A model and a certificate, always.
+    Pair,
+}
+
+impl Writes {
+    /// The words for the files, behind one -o.
+    pub fn words(&self) -> &'static [&'static str] {
+        match self {
+            Writes::Never => &[],
+            Writes::WhereNamed | Writes::Always => &["OUT"],
+            Writes::Pair => &["MODEL_OUT", "CERTIFICATE_OUT"],
+        }
+    }
 }
 
 pub struct Call {
@@ -45,16 +58,17 @@ impl Call {
     pub fn usage(&self) -> String {
         let files = self.files.iter().map(|role| role.word);
         let words: Vec<&str> = ["zolkirta", self.name].into_iter().chain(files).chain(self.states.iter().copied()).collect();
+        let outputs = self.writes.words().join(" ");
         let output = match self.writes {
-            Writes::Never => "",
-            Writes::WhereNamed => " [-o OUT]",
-            Writes::Always => " -o OUT",
+            Writes::Never => String::new(),
+            Writes::WhereNamed => format!(" [-o {outputs}]"),
+            Writes::Always | Writes::Pair => format!(" -o {outputs}"),
         };
-        words.join(" ") + output
+        words.join(" ") + &output
     }
 }
 
-pub const CALLS: [Call; 8] = [
+pub const CALLS: [Call; 10] = [
     Call {
         name: "judge",
         files: &[MODEL, CERTIFICATE],
@@ -71,7 +85,7 @@ pub const CALLS: [Call; 8] = [
         writes: Writes::Never,
         purpose: "what judge does, for a model whose transitions have costs",
         more: "After the first line each block has a line with its states. Every other call\n\
-               refuses a cost model with 9.",
+               but rewrite-costs refuses a cost model with 9.",
         make: judge_costs,
     },
     Call {
@@ -137,5 +151,27 @@ pub const CALLS: [Call; 8] = [
                name has which action. Labels and rewards of the PRISM model stand in other\n\
                files and are not read, so states that differ only there may be merged.",
         make: read_prism,
+    },
+    Call {
+        name: "rewrite",
+        files: &[MODEL, CERTIFICATE],
+        states: &[],
+        writes: Writes::Pair,
+        purpose: "writes a stored pair in lowest terms, as every other call wants it",
+        more: "A transition whose weights have a common divisor above 1 is refused with 34\n\
+               since version 0.10.0. rewrite judges such a pair without 34, divides weights\n\
+               and d, and multiplies each k of the flows to match: the files written have\n\
+               their old lengths, and are accepted with the same blocks. Both are written,\n\
+               or none.",
+        make: rewrite,
+    },
+    Call {
+        name: "rewrite-costs",
+        files: &[MODEL, CERTIFICATE],
+        states: &[],
+        writes: Writes::Pair,
+        purpose: "what rewrite does, for a model whose transitions have costs",
+        more: "Costs and the prices of costs stay as they are. Both files are written, or none.",
+        make: rewrite_costs,
     },
 ];

@@ -18,14 +18,15 @@ pub struct Command {
     /// The names of its files, in its order.
     pub files: Vec<OsString>,
     pub states: Vec<u32>,
-    pub output: Option<Output>,
+    /// The files that it writes, as many as are named.
+    pub outputs: Vec<Output>,
     pub json: bool,
     pub quiet: bool,
 }
 
 pub fn parse(words: impl Iterator<Item = OsString>) -> Result<Asked, Usage> {
     let given = Given::sorted(words);
-    let call = given.words.first().map(|name| (name, CALLS.iter().find(|call| name == call.name)));
+    let call = given.words.first().map(|name| (name, call_of(name)));
     let known = call.and_then(|(_, call)| call);
     let usage = |fault| Usage { call: known, fault };
     if let Some(fault) = given.fault {
@@ -45,7 +46,7 @@ pub fn parse(words: impl Iterator<Item = OsString>) -> Result<Asked, Usage> {
 struct Given {
     /// The call and what it takes.
     words: Vec<OsString>,
-    output: Option<OsString>,
+    outputs: Vec<OsString>,
     json: bool,
     quiet: bool,
     help: bool,
@@ -65,10 +66,10 @@ impl Given {
                 b"--help" | b"-h" => given.help = true,
                 b"--version" | b"-V" => given.version = true,
                 // An option after -o is more likely a name forgotten than a name.
-                b"-o" | b"--output" => given.set_output(rest.next().filter(|name| !is_option(name))),
-                [b'-', b'o', name @ ..] => given.set_output(Some(OsStr::from_bytes(name).to_owned())),
+                b"-o" | b"--output" => given.set_outputs(None, &mut rest),
+                [b'-', b'o', name @ ..] => given.set_outputs(Some(OsStr::from_bytes(name).to_owned()), &mut rest),
                 bytes => match bytes.strip_prefix(b"--output=") {
-                    Some(name) => given.set_output(Some(OsStr::from_bytes(name).to_owned())),
+                    Some(name) => given.set_outputs(Some(OsStr::from_bytes(name).to_owned()), &mut rest),
                     None if is_option(&word) => given.fail(format!("there is no option {}", shown(&word))),
                     None => given.words.push(word),
                 },
@@ -77,12 +78,17 @@ impl Given {
         given
     }
 
-    fn set_output(&mut self, name: Option<OsString>) {
-        match name.filter(|name| !name.is_empty()) {
-            None => self.fail("-o needs the name of a file".to_owned()),
-            Some(_) if self.output.is_some() => self.fail("-o stands twice".to_owned()),
-            name => self.output = name,
+    /// Takes the name that stands with -o, and as many more as the call writes files, where it is named already.
+    fn set_outputs(&mut self, first: Option<OsString>, rest: &mut impl Iterator<Item = OsString>) {
+        let count = self.words.first().and_then(|name| call_of(name)).map_or(1, |call| call.writes.words().len().max(1));
+        let more = count - usize::from(first.is_some());
+        let names: Vec<OsString> = first.into_iter().chain(rest.by_ref().take(more).take_while(|name| !is_option(name))).collect();
+        if names.len() < count || names.iter().any(|name| name.is_empty()) {
+            self.fail(if count == 1 { "-o needs the name of a file" } else { "-o needs the names of two files" }.to_owned());
+        } else if !self.outputs.is_empty() {
+            self.fail("-o stands twice".to_owned());
         }
+        self.outputs = names;
     }
 
     fn fail(&mut self, fault: String) {
@@ -102,12 +108,19 @@ impl Command {
         if let Some(word) = words.next() {
             return Err(format!("{} is one word too many", shown(&word)));
         }
-        match (&call.writes, &given.output) {
-            (Writes::Never, Some(_)) => Err("it writes no file, and takes no -o".to_owned()),
-            (Writes::Always, None) => Err("-o OUT is missing".to_owned()),
-            _ => Ok(Command { call, files, states, output: given.output.map(Output::new), json: given.json, quiet: given.quiet }),
+        let outputs: Vec<Output> = given.outputs.into_iter().map(Output::new).collect();
+        match (&call.writes, &outputs[..]) {
+            (Writes::Never, [_, ..]) => Err("it writes no file, and takes no -o".to_owned()),
+            (Writes::Always | Writes::Pair, []) => Err(format!("-o {} is missing", call.writes.words().join(" "))),
+            (Writes::Pair, [_]) => Err("-o with its two names must stand behind the call".to_owned()),
+            (_, [one, other]) if one.same_as(other) => Err(format!("-o names {} twice", one.shown())),
+            _ => Ok(Command { call, files, states, outputs, json: given.json, quiet: given.quiet }),
         }
     }
+}
+
+fn call_of(name: &OsStr) -> Option<&'static Call> {
+    CALLS.iter().find(|call| name == call.name)
 }
 
 /// The names of the call's files, of which one may be standard input.

@@ -32,6 +32,8 @@ Options, in any place:
   -o OUT, --output OUT  the file to write: whole, or not at all. A refusal
                         leaves an older file as it was. - stands for standard
                         output; the verdict then goes to standard error.
+                        rewrite and rewrite-costs write two files, both or
+                        none, whose names follow one -o behind the call.
   --json                the verdict as one JSON object on one line
   -q, --quiet           no verdict, only the status and errors
   -h, --help            this text, or that of a call
@@ -62,7 +64,8 @@ status 2 there is no object:
   place                 the byte of it where the record or line at fault begins
   state, remainder      for 16, 20 and 21: the state; left side less right side
   blocks                the block of each state, from state 0 on
-  written, output       how many bytes were written; the name of their file
+  written, output       how many bytes were written; the name of their file; of
+                        two files the model's
   states, transitions   how many the model written has
   names                 the names of its actions in the text, from action 1 on
   sheet                 the sheet, where no -o is given
@@ -70,4 +73,6 @@ status 2 there is no object:
                         action (0 is internal), denominator, and targets, each
                         with state and weight
   alike                 true for yes, false for no
+  certificate_written,  how many bytes of the certificate were written; the
+  certificate_output    name of its file
 ";

@@ -2,7 +2,7 @@
 
 use crate::command::Command;
 use crate::failure::{shown, Failure, Usage};
-use crate::output::Identity;
+use crate::output::{Identity, Output};
 use std::ffi::OsStr;
 use std::fs::File;
 use std::io::{self, Read};
@@ -21,16 +21,16 @@ pub fn shown_input(name: &OsStr) -> String {
     }
 }
 
-/// The bytes of all files of a call, in its order. None of them is the file to be written.
+/// The bytes of all files of a call, in its order. None of them is a file to be written.
 pub fn read(command: &Command) -> Result<Vec<Vec<u8>>, Failure> {
-    let taken = command.output.as_ref().and_then(|output| output.identity());
-    command.files.iter().map(|name| read_one(command, name, taken)).collect()
+    let taken: Vec<Identity> = command.outputs.iter().filter_map(Output::identity).collect();
+    command.files.iter().map(|name| read_one(command, name, &taken)).collect()
 }
 
-fn read_one(command: &Command, name: &OsStr, taken: Option<Identity>) -> Result<Vec<u8>, Failure> {
+fn read_one(command: &Command, name: &OsStr, taken: &[Identity]) -> Result<Vec<u8>, Failure> {
     let told = |error| Failure::File(shown_input(name), error);
     let mut file = open(name).map_err(told)?;
-    if taken.is_some() && Identity::of(&file.metadata().map_err(told)?) == taken {
+    if !taken.is_empty() && Identity::of(&file.metadata().map_err(told)?).is_some_and(|own| taken.contains(&own)) {
         let fault = format!("-o names the same file as {}, which would be lost", shown_input(name));
         return Err(Failure::Usage(Usage { call: Some(command.call), fault }));
     }

@@ -1,4 +1,4 @@
-//! `zolkirta`, the tool: reads, judges, reduces, joins and compares models by file name. Its help says how.
+//! `zolkirta`, the tool: reads, judges, reduces, joins, compares and rewrites models by file name. Its help says how.
 
 mod answer;
 mod automaton;
@@ -16,6 +16,7 @@ mod verdict;
 
 use command::{Asked, Command};
 use failure::Failure;
+use output::Output;
 use std::process::ExitCode;
 use verdict::Verdict;
 
@@ -58,22 +59,18 @@ fn run(command: &Command) -> u8 {
     }
 }
 
-/// Reads the files, has the library judge them, and writes the file that an accepted call is for.
+/// Reads the files, has the library judge them, and writes the files that an accepted call is for: all of them, or none.
 fn answer(command: &Command) -> Result<Verdict<'_>, Failure> {
     let files = input::read(command)?;
     let slices: Vec<&[u8]> = files.iter().map(Vec::as_slice).collect();
     let answer = command.call.answer(&slices, &command.states);
     let verdict = Verdict { command, files, answer };
-    if let (Some(output), Some(bytes)) = (&command.output, verdict.product()) {
-        output.write(bytes)?;
-    }
+    output::write(command.outputs.iter().zip(verdict.products()))?;
     Ok(verdict)
 }
 
 fn say_what_stays(command: &Command) {
-    if let Some(output) = &command.output {
-        output.say_what_stays();
-    }
+    command.outputs.iter().for_each(Output::say_what_stays);
 }
 
 /// Says the verdict, on standard error where standard output is for the file.
@@ -83,8 +80,8 @@ fn report(verdict: &Verdict) -> Result<(), Failure> {
         return Ok(());
     }
     let said = if command.json { object::line(verdict) } else { text::lines(verdict) };
-    match &command.output {
-        Some(output) if output.is_standard() => output::to_standard_error(said.as_bytes()),
-        _ => output::to_standard_output(said.as_bytes()),
+    match command.outputs.iter().any(Output::is_standard) {
+        true => output::to_standard_error(said.as_bytes()),
+        false => output::to_standard_output(said.as_bytes()),
     }
 }

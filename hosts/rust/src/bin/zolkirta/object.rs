@@ -14,9 +14,9 @@ fn object(verdict: &Verdict) -> Value {
     let file = refusal.and_then(|refusal| refusal.file);
     let name = refusal.and_then(|refusal| verdict.place(refusal)).map(|place| place.name.as_os_str());
     let difference = refusal.and_then(|refusal| refusal.difference);
-    let output = verdict.command.output.as_ref();
-    let product = verdict.product().filter(|_| output.is_some());
-    let model = product.filter(|_| !matches!(found, Some(Found::Sheet { .. })));
+    let mut written = verdict.command.outputs.iter().zip(verdict.products());
+    let (product, certificate) = (written.next(), written.next());
+    let model = product.map(|(_, bytes)| bytes).filter(|_| !matches!(found, Some(Found::Sheet { .. })));
     Value::Object(vec![
         ("call", verdict.command.call.name.into()),
         ("number", refusal.map_or(0, |refusal| refusal.number).into()),
@@ -27,20 +27,24 @@ fn object(verdict: &Verdict) -> Value {
         ("state", difference.map(|difference| difference.state).into()),
         ("remainder", difference.map(|difference| difference.remainder).into()),
         ("blocks", found.and_then(blocks).into()),
-        ("written", product.map(<[u8]>::len).into()),
-        ("output", output.filter(|_| product.is_some()).map(|output| output.name()).into()),
+        ("written", product.map(|(_, bytes)| bytes.len()).into()),
+        ("output", product.map(|(output, _)| output.name()).into()),
         ("states", model.map(states).into()),
         ("transitions", model.map(transitions).into()),
         ("names", found.and_then(names).into()),
-        ("sheet", found.filter(|_| output.is_none()).and_then(sheet).into()),
+        ("sheet", found.filter(|_| product.is_none()).and_then(sheet).into()),
         ("run", found.and_then(run).into()),
         ("alike", found.and_then(alike).into()),
+        ("certificate_written", certificate.map(|(_, bytes)| bytes.len()).into()),
+        ("certificate_output", certificate.map(|(output, _)| output.name()).into()),
     ])
 }
 
 fn blocks(found: &Found) -> Option<Value> {
     match found {
-        Found::Judged(blocks) | Found::Reduced { blocks, .. } | Found::Sheet { blocks, .. } => Some(Value::list(blocks.iter().copied())),
+        Found::Judged(blocks) | Found::Reduced { blocks, .. } | Found::Sheet { blocks, .. } | Found::Rewritten { blocks, .. } => {
+            Some(Value::list(blocks.iter().copied()))
+        }
         _ => None,
     }
 }

@@ -1,4 +1,4 @@
-//! The file that a call writes, whole or not at all, and the standard streams.
+//! The files that a call writes, whole or not at all, and the standard streams.
 
 use crate::failure::{complain, shown, Failure};
 use std::ffi::{OsStr, OsString};
@@ -60,23 +60,71 @@ impl Output {
         }
     }
 
-    pub fn write(&self, bytes: &[u8]) -> Result<(), Failure> {
+    /// Whether both names lead to one file, which is there or not.
+    pub fn same_as(&self, other: &Output) -> bool {
+        let end = |output: &Output| {
+            let path = end_of_links(Path::new(&output.name));
+            fs::canonicalize(folder_of(&path)).ok().zip(path.file_name().map(OsStr::to_owned)).filter(|_| !output.is_standard())
+        };
+        self.name == other.name || end(self).is_some_and(|own| Some(own) == end(other))
+    }
+
+    fn prepared<'a>(&self, bytes: &'a [u8]) -> Result<Prepared<'a>, Failure> {
         if self.is_standard() {
-            return to_standard_output(bytes);
+            return Ok(Prepared::Standard(bytes));
         }
-        write_whole(Path::new(&self.name), bytes).map_err(|error| Failure::File(self.shown(), error))
+        prepared(Path::new(&self.name), bytes).map_err(|error| Failure::File(self.shown(), error))
     }
 }
 
-/// Writes a file beside its name, and gives it the name once it is whole. What is no regular file, as a device, is written directly.
-fn write_whole(path: &Path, bytes: &[u8]) -> io::Result<()> {
+/// Writes all files, or none: no file has its name before all are whole.
+pub fn write<'a>(files: impl Iterator<Item = (&'a Output, &'a [u8])>) -> Result<(), Failure> {
+    let mut all: Vec<(&Output, Prepared)> = Vec::new();
+    for (output, bytes) in files {
+        all.push((output, output.prepared(bytes)?));
+    }
+    // What is written directly may still fail.
+    all.sort_by_key(|(_, file)| matches!(file, Prepared::Beside { .. }));
+    all.into_iter().try_for_each(|(output, file)| file.finish(output))
+}
+
+/// A file that is to be written.
+enum Prepared<'a> {
+    Standard(&'a [u8]),
+    /// What is no regular file, as a device, is written directly.
+    Direct(File, &'a [u8]),
+    /// It stands whole beside its name, and is removed unless it gets it.
+    Beside { beside: PathBuf, path: PathBuf },
+}
+
+impl Prepared<'_> {
+    fn finish(mut self, output: &Output) -> Result<(), Failure> {
+        let done = match &mut self {
+            Prepared::Standard(bytes) => return to_standard_output(bytes),
+            Prepared::Direct(file, bytes) => file.write_all(bytes),
+            Prepared::Beside { beside, path } => fs::rename(beside, path),
+        };
+        done.map_err(|error| Failure::File(output.shown(), error))
+    }
+}
+
+impl Drop for Prepared<'_> {
+    fn drop(&mut self) {
+        if let Prepared::Beside { beside, .. } = self {
+            let _ = fs::remove_file(beside); // gone where it has its name
+        }
+    }
+}
+
+/// Writes a file beside its name, where it is a regular file.
+fn prepared<'a>(path: &Path, bytes: &'a [u8]) -> io::Result<Prepared<'a>> {
     // Opened for writing, since an older file that may not be written may not be replaced either.
     match OpenOptions::new().write(true).open(path) {
-        Ok(mut older) => match older.metadata()? {
-            data if data.is_file() => replace(&end_of_links(path), Some(&data), bytes),
-            _ => older.write_all(bytes),
+        Ok(older) => match older.metadata()? {
+            data if data.is_file() => beside(&end_of_links(path), Some(&data), bytes),
+            _ => Ok(Prepared::Direct(older, bytes)),
         },
-        Err(error) if error.kind() == ErrorKind::NotFound => replace(&end_of_links(path), None, bytes),
+        Err(error) if error.kind() == ErrorKind::NotFound => beside(&end_of_links(path), None, bytes),
         Err(error) => Err(error),
     }
 }
@@ -101,13 +149,10 @@ fn folder_of(path: &Path) -> &Path {
     }
 }
 
-fn replace(path: &Path, older: Option<&Metadata>, bytes: &[u8]) -> io::Result<()> {
+fn beside<'a>(path: &Path, older: Option<&Metadata>, bytes: &[u8]) -> io::Result<Prepared<'a>> {
     let (beside, file) = create_beside(path)?;
-    let done = fill(file, older, bytes).and_then(|()| fs::rename(&beside, path));
-    if done.is_err() {
-        let _ = fs::remove_file(&beside);
-    }
-    done
+    let prepared = Prepared::Beside { beside, path: path.to_owned() };
+    fill(file, older, bytes).map(|()| prepared)
 }
 
 /// A new file in the folder of this one, with a name that no other run has.

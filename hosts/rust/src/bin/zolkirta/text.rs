@@ -28,7 +28,7 @@ pub fn lines(verdict: &Verdict) -> String {
 
 fn first_line(verdict: &Verdict, found: &Found) -> String {
     match found {
-        Found::Judged(blocks) | Found::Reduced { blocks, .. } | Found::Sheet { blocks, .. } => {
+        Found::Judged(blocks) | Found::Reduced { blocks, .. } | Found::Sheet { blocks, .. } | Found::Rewritten { blocks, .. } => {
             format!("accepted: {} in {}", counted(blocks.len(), "state"), counted(block_count(blocks), "block"))
         }
         Found::Joined { counts: [first, second], joined } => {
@@ -60,20 +60,24 @@ fn further_lines(verdict: &Verdict, found: &Found) -> String {
             let name_lines: String = names.iter().zip(1..).map(|(name, action)| format!("action {action}: {name}\n")).collect();
             name_lines + &model_line(verdict, model)
         }
-        Found::Sheet { sheet, .. } if verdict.command.output.is_none() => sheet.clone(),
+        Found::Rewritten { model, certificate, .. } => {
+            model_line(verdict, model) + &written_line(verdict, 1, &counted(certificate.len(), "byte"))
+        }
+        Found::Sheet { sheet, .. } if verdict.command.outputs.is_empty() => sheet.clone(),
         Found::Sheet { sheet, .. } => {
-            written_line(verdict, &format!("{}, {}", counted(sheet.lines().count(), "line"), counted(sheet.len(), "byte")))
+            written_line(verdict, 0, &format!("{}, {}", counted(sheet.lines().count(), "line"), counted(sheet.len(), "byte")))
         }
     }
 }
 
 fn model_line(verdict: &Verdict, model: &[u8]) -> String {
     let sizes = [counted(states(model), "state"), counted(transitions(model), "transition"), counted(model.len(), "byte")];
-    written_line(verdict, &sizes.join(", "))
+    written_line(verdict, 0, &sizes.join(", "))
 }
 
-fn written_line(verdict: &Verdict, sizes: &str) -> String {
-    verdict.command.output.as_ref().map_or(String::new(), |output| format!("written: {}: {sizes}\n", output.shown()))
+/// The line of the file that is written first, or second.
+fn written_line(verdict: &Verdict, file: usize, sizes: &str) -> String {
+    verdict.command.outputs.get(file).map_or(String::new(), |output| format!("written: {}: {sizes}\n", output.shown()))
 }
 
 /// Blocks are numbered from 0 without gaps.

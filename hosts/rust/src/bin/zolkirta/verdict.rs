@@ -33,14 +33,13 @@ impl Verdict<'_> {
         !matches!(self.answer, Err(_) | Ok(Found::Alike(false)))
     }
 
-    /// The bytes that the call is to write where a file for them is named.
-    pub fn product(&self) -> Option<&[u8]> {
+    /// What the call is to write where files for it are named.
+    pub fn products(&self) -> Vec<&[u8]> {
         match &self.answer {
-            Ok(Found::Reduced { merged, .. }) => Some(merged),
-            Ok(Found::Joined { joined, .. }) => Some(joined),
-            Ok(Found::Read { model, .. }) => Some(model),
-            Ok(Found::Sheet { sheet, .. }) => Some(sheet.as_bytes()),
-            _ => None,
+            Ok(Found::Reduced { merged: model, .. } | Found::Joined { joined: model, .. } | Found::Read { model, .. }) => vec![model],
+            Ok(Found::Sheet { sheet, .. }) => vec![sheet.as_bytes()],
+            Ok(Found::Rewritten { model, certificate, .. }) => vec![model, certificate],
+            _ => Vec::new(),
         }
     }
 

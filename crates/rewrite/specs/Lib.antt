@@ -1,0 +1,3 @@
+pub mod Rewrite
+pub mod TwoBuffers
+pub mod RewriteLaws

@@ -1,0 +1,3 @@
+-- What a buyer reads and believes.
+pub mod Rewritten
+pub mod RewriteAnswer

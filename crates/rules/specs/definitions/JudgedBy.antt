@@ -11,8 +11,9 @@ use Rattle.rules.specs.definitions.Judging.{Reader, AcceptedFor}
 use Rattle.rules.specs.definitions.Accepted.{RuleSays, IsFile, FileOf}
 use Rattle.rules.specs.definitions.PlainSays.{plainSays}
 
--- limits; how a model file is read, in the terms that they ask and in whatever terms, and which bytes are the file of a model; the step rule of a model file, whose bytes may tell of it: what it
--- decides of a certificate file, what it says of a certificate, and when a question is met; and when two model files hold one automaton
+-- limits; how a model file is read, in the terms that they ask for and in whatever terms, and which bytes are the file of a model; the step rule of
+-- a model file, whose bytes may tell of it: what it decides of a certificate file, what it says of a certificate, and when a question is met; and
+-- when two model files hold one automaton
 pub record JudgedBy : Type 1 where
   pub limits : Limits
   pub read : Reader

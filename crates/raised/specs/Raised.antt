@@ -1,25 +1,15 @@
 -- What the writer of raised transition records writes, and what it needs.
-use Prim.Native.Nat.{ℕ, _+_, _*_, _-_, _≤_, _<_}
+use Prim.Native.Nat.{ℕ, _+_, _*_, _-_, _≤_}
 use mathlib.Core.List.{List, map}
 use lib.ListN.{length}
-use Rattle.rules.specs.definitions.Model.{Entry, Transition, entriesBytes, transitionsBytes}
-use Rattle.rules.specs.definitions.Reading.{statesOf, entryCountAt, entriesAt, placeOf}
-use Rattle.rules.specs.definitions.SoundModel.{Each}
+use Rattle.rules.specs.definitions.Model.{Transition, transitionsBytes}
+use Rattle.rules.specs.definitions.Reading.{statesOf, entryCountAt, placeOf}
 use Rattle.transition.specs.Known.{Known, KnownTransition}
-use Rattle.joined.specs.definitions.Joined.{raisedEntry, raisedTransition}
+use Rattle.joined.specs.definitions.Joined.{raisedTransition}
 
--- the bytes of entries and of transitions, raised by k
-abbrev pub raisedEntries : ℕ → List Entry → List ℕ
-raisedEntries k es = entriesBytes (map (raisedEntry k) es)
-
+-- the bytes of transitions, raised by k
 abbrev pub raisedTransitions : ℕ → List Transition → List ℕ
 raisedTransitions k ts = transitionsBytes (map (raisedTransition k) ts)
-
--- so many entries at a place, whose states fit a byte when raised, and room for them
-pub record CanRaiseEntries (s : List ℕ) (left place k : ℕ) (out : List ℕ) (at : ℕ) : Type 0 where
-  pub inside : place + 3 * left ≤ length s
-  pub states : Each (λ (e : Entry). k + e .state < 256) (entriesAt s left place)
-  pub room : at + 3 * left ≤ length out
 
 -- a transition r of a sound model, whose states fit a byte when raised, and room for its record: raising makes no record longer
 pub record CanRaiseTransition (s table : List ℕ) (r k : ℕ) (out : List ℕ) (at : ℕ) : Type 0 where

@@ -1,37 +1,12 @@
 // The transition records of a sound model with its states raised, appended to a lent buffer.
 ghost use Rattle.rules.specs.definitions.Model.{transitionBytes};
-ghost use Rattle.rules.specs.definitions.Reading.{entriesAt, transitionAt, modelAt, placeOf};
+ghost use Rattle.rules.specs.definitions.Reading.{transitionAt, modelAt, placeOf};
 ghost use Rattle.joined.specs.definitions.Joined.{raisedTransition};
 ghost use Rattle.writer.specs.Appends.{Appends};
-ghost use Rattle.raised.specs.Raised.{raisedEntries, raisedTransitions, CanRaiseEntries, CanRaiseTransition, CanRaise};
-use field::Cursor;
+ghost use Rattle.raised.specs.Raised.{raisedTransitions, CanRaiseTransition, CanRaise};
 use model::Places;
 
-// So many entries, from a place of the model on, with k added to their states. Hands back the place after them.
-fn write_entries(
-    s: &[u8],
-    count: usize,
-    first: Cursor,
-    k: usize,
-    out: &mut [u8],
-    at: usize,
-) -> usize
-    requires { ⌜ CanRaiseEntries (now s) count (first .at) k (now out) at ⌝ }
-    ensures { λ r. ⌜ Appends (raisedEntries k (entriesAt (now (s .entry)) count (first .at))) at (now (out .entry)) (now (out .exit)) r ⌝ }
-{
-    let mut left = count;
-    let mut place = first;
-    let mut next = at;
-    while 0 < left {
-        let entry = transition::entry_at(s, place);
-        next = writer::entry(out, next, k + entry.state, entry.weight);
-        place = entry.next;
-        left -= 1;
-    }
-    next
-}
-
-// The record of the transition r, the same way.
+// The record of the transition r, with k added to its source and its targets. Hands back the place after it.
 fn write_transition(
     s: &[u8],
     places: &Places,
@@ -45,7 +20,7 @@ fn write_transition(
 {
     let t = transition::fields_of(s, places, r);
     let next = writer::fixed(out, at, k + t.source, t.action, t.denominator, t.count);
-    write_entries(s, t.count, t.entries, k, out, next)
+    placed_entries::write_entries(s, t.count, t.entries, 1, k, 1, out, next)
 }
 
 // All records of the model, the same way.

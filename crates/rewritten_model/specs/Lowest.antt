@@ -1,22 +1,20 @@
 -- What the writer of a model in lowest terms writes, and what it needs.
-use Prim.Native.Nat.{ℕ, _+_, _*_, _≤_, _<_}
+use Prim.Native.Nat.{ℕ, _+_, _*_, _≤_}
 use mathlib.Core.Path.{_≡_}
 use mathlib.Core.List.{List, _++_, map}
 use lib.ListN.{length, take, drop}
-use Rattle.rules.specs.definitions.Model.{Entry, transitionsBytes}
-use Rattle.rules.specs.definitions.LowestTerms.{inLowest}
-use Rattle.rules.specs.definitions.Reading.{statesOf, countOf, entryCountAt, entriesAt, modelAt, placeOf}
-use Rattle.rules.specs.definitions.SoundModel.{Each}
+use Rattle.rules.specs.definitions.Model.{transitionsBytes}
+use Rattle.rules.specs.definitions.LowestTerms.{dividedEntry, inLowest}
+use Rattle.rules.specs.definitions.Reading.{statesOf, countOf, entryCountAt, modelAt, placeOf}
 use Rattle.transition.specs.Known.{Known, KnownTransition}
+use Rattle.writer.specs.ChangedRecords.{CanChangeEntries}
 use Rattle.divisors.specs.Table.{HoldsDivisors}
 use Rattle.rewriting.specs.definitions.Rewritten.{divisorAt}
 
--- so many entries at a place, whose states fit a byte, a divisor, and room for them
+-- so many entries at a place, and a divisor
 pub record CanDivideEntries (s : List ℕ) (left place g : ℕ) (out : List ℕ) (at : ℕ) : Type 0 where
-  pub inside : place + 3 * left ≤ length s
-  pub states : Each (λ (e : Entry). e .state < 256) (entriesAt s left place)
+  pub entries : CanChangeEntries (dividedEntry g) s left place out at
   pub divisor : 1 ≤ g
-  pub room : at + 3 * left ≤ length out
 
 -- a transition r of a sound model with its divisor, and room for its record
 pub record CanDivide (s table : List ℕ) (r g : ℕ) (out : List ℕ) (at : ℕ) : Type 0 where

@@ -5,11 +5,13 @@ use mathlib.Core.List.{List, _++_, map}
 use lib.ListN.{length, getD, take, drop, length-map, length-append, length-drop}
 use lib.Seq.{take-all, length-take-le}
 use native.Mathlib.Omega.{arith}
+use native.Mathlib.Nat.{div-le-self}
 use Rattle.rules.specs.definitions.Bytes.{twoBytes}
 use Rattle.rules.specs.definitions.Model.{Entry, entriesBytes, transitionBytes}
 use Rattle.rules.specs.definitions.LowestTerms.{divisorIn, dividedEntry, inLowest}
 use Rattle.rules.specs.definitions.Reading.{statesOf, countOf, entryCountAt, afterTransition, entriesAt, transitionAt, placeOf}
 use Rattle.rules.specs.argument.SoundModelLaws.{each-map}
+use Rattle.rules.specs.argument.MappedLists.{each-both, each-most}
 use Rattle.rules.specs.argument.FetchedRun.{length-entriesAt}
 use Rattle.rules.specs.argument.ModelAutomaton.{transition-is, automaton-source, automaton-action, automaton-denominator}
 use Rattle.rules.specs.argument.TermsLaws.{lowest-count}
@@ -26,16 +28,23 @@ use Rattle.rewritten_model.specs.Lowest.{CanDivideEntries, CanDivide, lo
 -- one record
 module _ {s table : List ℕ} {r g : ℕ} {out : List ℕ} {at : ℕ} (m : CanDivide s table r g out at) {f : Fields} (t : FieldsOf s r f) (source action denominator count : ℕ) {head : List ℕ} {next : ℕ} (fixed : Appends (fixedBytes source action denominator count) at out head next) where
   pub transition-asks : CanDivideEntries s (f .count) (f .entries .at) g head next
-  unfolding twoBytes
+  unfolding twoBytes dividedEntry
   transition-asks =
       let e = entries-known (m .transition) in
       subst (λ (n : ℕ). CanDivideEntries s n (f .entries .at) g head next) (sym (t .count))
       (subst (λ (p : ℕ). CanDivideEntries s (entryCountAt s (placeOf s r)) p g head next) (sym (t .entries))
       (record {
-        inside = e .inside;
-        states = each-map (λ (x : Entry). x .state < statesOf s) (λ (x : Entry). x .state < 256) (λ x h. omega (arith, h, few-states (m .transition .known))) _ (e .states);
+        entries =
+            record {
+              inside = e .inside;
+              fit =
+                  each-map (λ (x : Entry). (x .state < statesOf s) × (x .weight ≤ 65535)) _
+                  (λ x h. (omega (arith, h .0, few-states (m .transition .known)), omega (arith, h .1, div-le-self (x .weight) g)))
+                  _
+                  (each-both _ _ _ (e .states) (each-most (λ (x : Entry). x .weight) 65535 _ (omega (arith, e .whole, e .light))));
+              room = omega (arith, m .room, fixed .place, fixed .size);
+            };
         divisor = m .some;
-        room = omega (arith, m .room, fixed .place, fixed .size);
       }))
 
   below : r < countOf s

@@ -18,35 +18,46 @@ use Rattle.writer.specs.AppendsLaws.{Ahead, ahead-start, ahead-turn, ahe
 abbrev pub entryAt : List ℕ → (place : ℕ) → Entry
 entryAt s place = record { state = byteAt s place; weight = twoAt s (place + 1) }
 
+-- 'state 1, weight 2': an entry's fields have room for it
+abbrev pub EntryFits : Entry → Type 0
+EntryFits e = (e .state < 256) × (e .weight < 65536)
+
 -- entries
 module _ (f : Entry → Entry) where
   abbrev pub changedEntries : List Entry → List ℕ
   changedEntries es = entriesBytes (map f es)
 
+  -- so many entries at a place, that fit their fields when changed, and room for them
+  pub record CanChangeEntries (s : List ℕ) (left place : ℕ) (out : List ℕ) (at : ℕ) : Type 0 where
+    pub inside : place + 3 * left ≤ length s
+    pub fit : Each (λ (e : Entry). EntryFits (f e)) (entriesAt s left place)
+    pub room : at + 3 * left ≤ length out
+
   -- what is known before each entry that is written
   pub record ChangingEntries (s all : List ℕ) (at : ℕ) (before : List ℕ) (left place : ℕ) (out : List ℕ) (next : ℕ) : Type 0 where
-    pub inside : place + 3 * left ≤ length s
-    pub states : Each (λ (e : Entry). f e .state < 256) (entriesAt s left place)
-    pub room : next + 3 * left ≤ length out
+    pub asked : CanChangeEntries s left place out next
     pub ahead : Ahead all at before (changedEntries (entriesAt s left place)) next out
 
-  pub entries-start : {s : List ℕ} {count place at : ℕ} {out : List ℕ} → place + 3 * count ≤ length s → Each (λ (e : Entry). f e .state < 256) (entriesAt s count place) → at + 3 * count ≤ length out → ChangingEntries s (changedEntries (entriesAt s count place)) at out count place out at
-  entries-start inside states room = record { inside = inside; states = states; room = room; ahead = ahead-start (omega (arith, room)) }
+  pub entries-start : {s : List ℕ} {count place at : ℕ} {out : List ℕ} → CanChangeEntries s count place out at → ChangingEntries s (changedEntries (entriesAt s count place)) at out count place out at
+  entries-start a = record { asked = a; ahead = ahead-start (omega (arith, a .room)) }
 
   module _ {s all : List ℕ} {at : ℕ} {before : List ℕ} where
-    -- the next state fits its byte
-    pub entries-state : (left : ℕ) {place next : ℕ} {out : List ℕ} → ChangingEntries s all at before left place out next → 0 < left → f (entryAt s place) .state < 256
+    -- the next one fits its fields
+    pub entries-fit : (left : ℕ) {place next : ℕ} {out : List ℕ} → ChangingEntries s all at before left place out next → 0 < left → EntryFits (f (entryAt s place))
     unfolding Each entriesAt
-    entries-state zero h some = absurd (omega arith)
-    entries-state (suc left) h some = h .states .0
+    entries-fit zero h some = absurd (omega arith)
+    entries-fit (suc left) h some = h .asked .fit .0
 
     one-entry : (left place next past state weight : ℕ) (out more : List ℕ) → ChangingEntries s all at before (suc left) place out next → state ≡ f (entryAt s place) .state → weight ≡ f (entryAt s place) .weight → Appends (state ∷ twoBytes weight) next out more past → ChangingEntries s all at before left (place + 3) more past
     unfolding Each entriesAt entriesBytes twoBytes
     one-entry left place next past state weight out more h isState isWeight a =
         record {
-          inside = omega (arith, h .inside);
-          states = h .states .1;
-          room = omega (arith, h .room, a .place, a .size);
+          asked =
+              record {
+                inside = omega (arith, h .asked .inside);
+                fit = h .asked .fit .1;
+                room = omega (arith, h .asked .room, a .place, a .size);
+              };
           ahead = ahead-turn (h .ahead) (ap₂ (λ (x y : ℕ). x ∷ (twoBytes y ++ changedEntries (entriesAt s left (place + 3)))) (sym isState) (sym isWeight)) a;
         }
 

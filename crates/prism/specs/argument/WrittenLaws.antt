@@ -16,7 +16,7 @@ use Rattle.rules.specs.definitions.Limits.{Limits}
 use Rattle.rules.specs.definitions.Model.{Entry, Transition, Model}
 use Rattle.rules.specs.definitions.SoundModel.{Each, Along, sumOver, TransitionRules, LowestTerms}
 use Rattle.rules.specs.argument.SoundModelLaws.{each-map}
-use Rattle.rules.specs.argument.MappedLists.{each-both, each-mapped, along-mapped}
+use Rattle.rules.specs.argument.MappedLists.{each-both, each-most, each-mapped, along-mapped}
 use Rattle.prism.specs.definitions.Reading.{actionOf, withName}
 use Rattle.prism.specs.definitions.HeldModel.{weightsOf, entryOver, transitionOver, transitionOf, heldModel}
 use Rattle.prism.specs.definitions.AllowedText.{one, point, WrittenChoice, ProbabilityRules, partsOf, ChoiceRules, NextChoice, FirstChoice, namesFrom, namesOf, readChoice, AllowedText}
@@ -87,12 +87,6 @@ unfolding Each DividesEach
 each-divides k [] d = tt
 each-divides k (e ∷ es) d = (d .0, each-divides k es (d .1))
 
--- a weight is no more than the sum
-each-most : (most : ℕ) (es : List Entry) → sumOver (λ (e : Entry). e .weight) es ≤ most → Each (λ (e : Entry). e .weight ≤ most) es
-unfolding Each sumOver
-each-most most [] h = tt
-each-most most (e ∷ es) h = (omega arith, each-most most es (omega arith))
-
 -- a transition that keeps the rules, in lowest terms over a denominator that divides 10,000, written as a choice
 module _ (n m : ℕ) (t : Transition) (rules : TransitionRules n m t) (decimals : Divides (t .denominator) 10000) where
   abbrev times : ℕ
@@ -107,7 +101,7 @@ module _ (n m : ℕ) (t : Transition) (rules : TransitionRules n m t) (decimals 
   parts-most : Each (λ (e : Entry). e .weight * times ≤ 10000) (t .entries)
   parts-most =
       each-map (λ (e : Entry). e .weight ≤ t .denominator) _ (λ e k. omega (arith, mul-le-mul-right times k, is-whole)) (t .entries)
-      (each-most (t .denominator) (t .entries) (omega (arith, rules .whole)))
+      (each-most _ (t .denominator) (t .entries) (omega (arith, rules .whole)))
 
   read-entries : map entryFor (map (targetOf times) (t .entries)) ≡ map (timesEntry times) (t .entries)
   read-entries = entries-read times (t .entries) parts-most

@@ -1,8 +1,10 @@
 -- `write_transition` meets its contract: the fixed fields are the transition's, and then its entries.
 use mathlib.Core.Path.{refl}
 use native.Mathlib.Omega.{arith}
+use Rattle.rules.specs.definitions.Bytes.{twoBytes}
 use Rattle.transition.specs.KnownLaws.{fields-small}
-use Rattle.raised.specs.RaisedLaws.{transition-asks, transition-raised}
+use Rattle.placed_entries.specs.PlacedLaws.{known-placed}
+use Rattle.raised.specs.RaisedLaws.{transition-raised}
 use borrow.Author.Needs.{needs}
 use Rattle.raised.proofs.write_transition.Statement.{statement}
 use Rattle.raised.proofs.write_transition.Tie as tie
@@ -21,10 +23,14 @@ fixed-requires c κs =
     (omega arith, omega arith, small .0, fields .fields-of .ensures .small, small .1)
 
 write-entries-requires : tie.Need-write-entries-requires
+unfolding twoBytes
 write-entries-requires c κs =
     let fixed = c .before .before .before in
     let fields = fixed .before .before .before in
-    transition-asks (fields .before .before .before .pre) (fields .fields-of .ensures) _ _ _ _ (fixed .fixed .ensures)
+    let m = fields .before .before .before .pre in
+    let t = fields .fields-of .ensures in
+    let a = fixed .fixed .ensures in
+    known-placed _ _ _ (m .transition) t (omega (arith, m .states)) (omega (arith, t .small)) (omega (arith, m .room, t .count, a .place, a .size))
 
 same-length : tie.Need-same-length
 same-length c = search needs

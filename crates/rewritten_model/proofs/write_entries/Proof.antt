@@ -3,11 +3,10 @@ use Prim.Native.Nat.{ℕ, _/_}
 use mathlib.Core.Path.{ap}
 use mathlib.Core.List.{map}
 use native.Mathlib.Omega.{arith}
-use native.Mathlib.Nat.{div-le-self}
 use Rattle.rules.specs.definitions.Model.{entriesBytes}
 use Rattle.rules.specs.definitions.LowestTerms.{dividedEntry}
 use Rattle.rules.specs.definitions.Reading.{entriesAt}
-use Rattle.writer.specs.ChangedRecords.{ChangingEntries, entries-start, entries-state, entries-turn, entries-end}
+use Rattle.writer.specs.ChangedRecords.{ChangingEntries, entries-start, entries-fit, entries-turn, entries-end}
 use Rattle.rewritten_model.proofs.write_entries.Statement.{statement}
 use Rattle.rewritten_model.proofs.write_entries.Tie as tie
 
@@ -19,8 +18,7 @@ abbrev μ-loop : tie.MeasureT-loop
 μ-loop s count g out₀ at left₀ place₀ next₀ out left place next = left
 
 loop-holds : tie.Need-loop-holds Inv-loop μ-loop
-unfolding dividedEntry
-loop-holds c = let p = c .before .before .pre in entries-start _ (p .inside) (p .states) (p .room)
+loop-holds c = entries-start _ (c .before .before .pre .entries)
 
 entry-at-requires : tie.Need-entry-at-requires Inv-loop μ-loop
 entry-at-requires c κs = omega arith
@@ -32,9 +30,9 @@ entry-requires : tie.Need-entry-requires Inv-loop μ-loop
 unfolding dividedEntry
 entry-requires c κs =
     let taken = c .before .before in
-    let l = taken .before .before .loop in
     let e = taken .entry-at .ensures in
-    (omega arith, omega (arith, entries-state _ _ (l .inv) (omega arith), e .state), omega (arith, div-le-self (taken .entry-at .result .weight) (taken .before .before .before .before .before .args .g), e .small))
+    let g = taken .before .before .before .before .before .args .g in
+    omega (arith, entries-fit _ _ (taken .before .before .loop .inv) (omega arith), e .state, ap (λ (x : ℕ). x / g) (e .weight))
 
 sub-left : tie.Need-sub-left Inv-loop μ-loop
 sub-left c = omega arith

@@ -1,5 +1,5 @@
 -- What holds of the elements of a list, of a list made from it element by element.
-use Prim.Native.Nat.{ℕ, zero, suc}
+use Prim.Native.Nat.{ℕ, zero, suc, _≤_}
 use mathlib.Core.Path.{_≡_, refl, ap₂}
 use mathlib.Core.List.{List, [], _∷_, map}
 use lib.ListN.{getD}
@@ -11,6 +11,12 @@ pub each-both : {A : Type 0} (P Q : A → Type 0) (xs : List A) → Each P xs �
 unfolding Each
 each-both P Q [] h k = tt
 each-both P Q (x ∷ xs) h k = ((h .0, k .0), each-both P Q xs (h .1) (k .1))
+
+-- a number of each is no more than the sum
+pub each-most : {A : Type 0} (f : A → ℕ) (most : ℕ) (xs : List A) → sumOver f xs ≤ most → Each (λ (x : A). f x ≤ most) xs
+unfolding Each sumOver
+each-most f most [] h = tt
+each-most f most (x ∷ xs) h = (omega (arith, h), each-most f most xs (omega (arith, h)))
 
 -- what holds of all
 pub each-all : {A : Type 0} (P : A → Type 0) → ((x : A) → P x) → (xs : List A) → Each P xs

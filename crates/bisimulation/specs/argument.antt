@@ -1,5 +1,6 @@
 -- Laws and theorems: the argument, which the prover has read.
 pub mod ChoiceLaws
+pub mod LargerLaws
 pub mod SumLaws
 pub mod Product
 pub mod ProductLaws

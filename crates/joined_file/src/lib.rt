@@ -1,9 +1,7 @@
 // The file of two models written as one.
 ghost use Prim.Native.Nat.{_+_, _≤_};
-ghost use mathlib.Core.Path.{_≡_};
 ghost use mathlib.Core.List.{_++_};
 ghost use lib.ListN.{length, drop};
-ghost use Rattle.bisimulation.specs.definitions.Joined as joined;
 ghost use Rattle.rules.specs.definitions.Reading.{modelAt};
 ghost use Rattle.joined.specs.definitions.Joined.{joinedFile};
 ghost use Rattle.answer.specs.Answered.{FileWritten};
@@ -12,15 +10,6 @@ ghost use Rattle.raised.specs.Raised.{raisedTransitions};
 ghost use Rattle.joined_file.specs.JoinedFile.{labelsOf, CanWriteRecords, CanJoin, CanWriteJoined};
 use model::Model;
 use model::Places;
-
-fn larger(a: usize, b: usize) -> usize
-    ensures { λ r. ⌜ r ≡ joined.larger a b ⌝ }
-{
-    if a < b {
-        return b;
-    }
-    a
-}
 
 // The labels of two files, of so many states each. Hands back the place after them.
 fn write_labels(first: &[u8], k: usize, second: &[u8], n: usize, out: &mut [u8], at: usize) -> usize
@@ -64,7 +53,7 @@ fn write_joined(
     requires { ⌜ CanWriteJoined (now first) m (now second) n (now places) (now out) ⌝ }
     ensures { λ r. ⌜ Appends (joinedFile (modelAt (now (first .entry))) (modelAt (now (second .entry)))) 0 (now (out .entry)) (now (out .exit)) r ⌝ }
 {
-    let actions = larger(m.actions, n.actions);
+    let actions = two_models::larger(m.actions, n.actions);
     let labels = writer::head(
         out,
         m.states + n.states,

@@ -2,7 +2,7 @@
 use Prim.Native.Nat.{ℕ, zero, suc, _+_, _*_, _-_, _/_, _≤_, _<_}
 use mathlib.Core.Path.{_≡_, refl, sym, _∙_, ap, ap₂, subst}
 use mathlib.Core.Logic.{_⊎_, inl, inr}
-use mathlib.Core.List.{List, [], _∷_, _++_, map, append-assoc, append-nil}
+use mathlib.Core.List.{List, [], _∷_, _++_, map, append-assoc, append-nil, map-append}
 use lib.ListN.{length, getD, set, length-set, length-append, length-map, replicate, length-replicate, getD-replicate}
 use lib.Seq.{getD-set-same, getD-set-other}
 use native.Mathlib.Decide.{ℕ-discrete, decLt}
@@ -31,11 +31,6 @@ use Rattle.writer.specs.Appends.{Appends}
 use Rattle.writer.specs.AppendsLaws.{append-none, append-more, entries-append}
 use Rattle.merged_transition.specs.MergedTransition.{NoWeights}
 use Rattle.merged_transition.specs.Weights.{weightIn, entryOf, weightEntries, weightsByBlock, CanAdd, WeightsOf, CanDivide, CanWriteEntry, WroteEntry, CanWriteEntries, WroteEntries}
-
--- two lists in a row, each element changed
-map-append : {A B : Type 0} (f : A → B) (xs ys : List A) → map f (xs ++ ys) ≡ map f xs ++ map f ys
-map-append f [] ys = refl
-map-append f (x ∷ xs) ys = ap (λ (l : List _). f x ∷ l) (map-append f xs ys)
 
 -- with 1 there is no divisor but 1
 pub divisor-with-one : (x : ℕ) → (divisor 1 x ≡ 1) × (divisor x 1 ≡ 1)

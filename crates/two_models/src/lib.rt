@@ -1,6 +1,7 @@
-// Two models read in the order named: the first is file 1, the second file 3.
+// Two models read in the order named: the first is file 1, the second file 3; and the larger of two numbers.
 ghost use mathlib.Core.Path.{_≡_};
 ghost use lib.ListN.{length};
+ghost use Rattle.bisimulation.specs.definitions.Joined as joined;
 ghost use Rattle.limits.specs.Sizes as sizes;
 ghost use Rattle.two_models.specs.TwoModels.{SoundFile, TwoReadIs};
 use answer::Answer;
@@ -40,4 +41,14 @@ pub fn read_two(first: &[u8], second: &[u8], places: &mut Places) -> TwoRead
         Scanned::Sound(m) => read_second(first, m, second, places),
         Scanned::Refused(wrong) => TwoRead::Refused(answer::refusal_in(wrong, 1, first.len())),
     }
+}
+
+// The larger of two numbers, as of their action counts.
+pub fn larger(a: usize, b: usize) -> usize
+    ensures { λ r. ⌜ r ≡ joined.larger a b ⌝ }
+{
+    if a < b {
+        return b;
+    }
+    a
 }

@@ -3,47 +3,22 @@ use Prim.Native.Nat.{ℕ, zero, suc, _+_, _≤_, _<_}
 use mathlib.Core.Path.{_≡_, refl, sym, _∙_, ap}
 use mathlib.Core.List.{List, [], _∷_, _++_, map}
 use lib.ListN.{length, getD, length-append, length-map}
-use native.Mathlib.Decide.{ℕ-discrete, decLt}
+use native.Mathlib.Decide.{ℕ-discrete}
 use native.Mathlib.Omega.{arith}
-use Rattle.bisimulation.specs.definitions.Choice.{ifLess, ifSame}
-use Rattle.bisimulation.specs.argument.ChoiceLaws.{same, notSame, eitherLess, less, notLess}
+use Rattle.bisimulation.specs.definitions.Choice.{ifSame}
+use Rattle.bisimulation.specs.argument.ChoiceLaws.{same, notSame}
+use Rattle.bisimulation.specs.argument.LargerLaws.{largerAbove, largerMost}
 use Rattle.numbers.specs.definitions.Divisor.{Divides}
 use Rattle.rules.specs.definitions.Limits.{Terms, anyTerms, lowestTerms, Limits}
 use Rattle.rules.specs.definitions.Model.{Entry, Transition, Model, noTransition, weightOf, automatonOf, modelBytes}
 use Rattle.rules.specs.definitions.Reading.{model, readWhole}
 use Rattle.rules.specs.definitions.SoundModel.{Each, Along, sumOver, TransitionRules, LowestTerms, HasTerms, entryCount, SoundModel, FitsWidths}
 use Rattle.rules.specs.argument.SoundModelLaws.{each-at, each-append, each-map}
+use Rattle.rules.specs.argument.MappedLists.{sum-append}
 use Rattle.rules.specs.argument.ReadBack.{read-back-whole}
 use Rattle.bisimulation.specs.definitions.Joined.{larger, IsJoined}
 use Rattle.rules.specs.argument.LengthLaws.{file-length, Within}
 use Rattle.joined.specs.definitions.Joined.{raisedEntry, raisedTransition, joined, joinedFile}
-
--- the larger of two is at least each, and one of them
-larger-first : (a b : ℕ) → a ≤ larger a b
-unfolding larger ifLess
-larger-first a b = go (decLt a b)
-  where
-    go : Dec (a < b) → a ≤ larger a b
-    go (yes l) = omega (arith, less {z = b} a {a = a} {b = b} l refl)
-    go (no l) = omega (arith, notLess {z = a} b {a = a} {b = b} (omega arith) refl)
-
-larger-second : (a b : ℕ) → b ≤ larger a b
-unfolding larger ifLess
-larger-second a b = go (decLt a b)
-  where
-    go : Dec (a < b) → b ≤ larger a b
-    go (yes l) = omega (arith, less {z = b} a {a = a} {b = b} l refl)
-    go (no l) = omega (arith, notLess {z = a} b {a = a} {b = b} (omega arith) refl)
-
-larger-most : (a b most : ℕ) → a ≤ most → b ≤ most → larger a b ≤ most
-unfolding larger
-larger-most a b most h k = eitherLess (λ (x : ℕ). x ≤ most) a b k h
-
--- sums of two lists in a row
-sum-append : {X : Type 0} (f : X → ℕ) (xs ys : List X) → sumOver f (xs ++ ys) ≡ sumOver f xs + sumOver f ys
-unfolding sumOver
-sum-append f [] ys = omega arith
-sum-append f (x ∷ xs) ys = omega (arith, sum-append f xs ys)
 
 -- an element of two lists in a row
 get-first : {X : Type 0} (xs ys : List X) (d : X) (i : ℕ) → i < length xs → getD (xs ++ ys) i d ≡ getD xs i d
@@ -201,14 +176,14 @@ module _ (L : Limits) (M N : Model) (first : SoundModel L M) (second : SoundMode
       record {
         someState = omega (arith, size, first .someState);
         states = w .states;
-        someAction = omega (arith, larger-first (M .actions) (N .actions), first .someAction);
-        actions = larger-most (M .actions) (N .actions) (L .actions) (first .actions) (second .actions);
+        someAction = omega (arith, largerAbove (M .actions) (N .actions) .0, first .someAction);
+        actions = largerMost (M .actions) (N .actions) (L .actions) (first .actions) (second .actions);
         count = w .transitions;
         labels = each-append _ (M .labels) (N .labels) (first .labels) (second .labels);
         transitions =
             each-append _ (M .transitions) _
-            (each-map _ _ (λ t r. grown-rules _ _ _ _ (omega (arith, size)) (larger-first (M .actions) (N .actions)) t r) (M .transitions) (first .transitions))
-            (rw size (raised-all (k M N) (length (N .labels)) (N .actions) _ (larger-second (M .actions) (N .actions)) (N .transitions) (second .transitions)));
+            (each-map _ _ (λ t r. grown-rules _ _ _ _ (omega (arith, size)) (largerAbove (M .actions) (N .actions) .0) t r) (M .transitions) (first .transitions))
+            (rw size (raised-all (k M N) (length (N .labels)) (N .actions) _ (largerAbove (M .actions) (N .actions) .1) (N .transitions) (second .transitions)));
         sources =
             sources-follow (k M N) (M .transitions) (N .transitions) (first .sources)
             (each-map (TransitionRules (k M N) (M .actions)) (λ (t : Transition). t .source < k M N) (λ t r. r .source) (M .transitions) (first .transitions)) (second .sources);

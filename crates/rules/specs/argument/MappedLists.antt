@@ -1,7 +1,7 @@
 -- What holds of the elements of a list, of a list made from it element by element.
-use Prim.Native.Nat.{ℕ, zero, suc, _≤_}
+use Prim.Native.Nat.{ℕ, zero, suc, _+_, _≤_}
 use mathlib.Core.Path.{_≡_, refl, ap₂}
-use mathlib.Core.List.{List, [], _∷_, map}
+use mathlib.Core.List.{List, [], _∷_, _++_, map}
 use lib.ListN.{getD}
 use native.Mathlib.Omega.{arith}
 use Rattle.rules.specs.definitions.SoundModel.{Each, Along, sumOver}
@@ -17,6 +17,12 @@ pub each-most : {A : Type 0} (f : A → ℕ) (most : ℕ) (xs : List A) → sumO
 unfolding Each sumOver
 each-most f most [] h = tt
 each-most f most (x ∷ xs) h = (omega (arith, h), each-most f most xs (omega (arith, h)))
+
+-- the sum of two lists in a row
+pub sum-append : {A : Type 0} (f : A → ℕ) (xs ys : List A) → sumOver f (xs ++ ys) ≡ sumOver f xs + sumOver f ys
+unfolding sumOver
+sum-append f [] ys = omega arith
+sum-append f (x ∷ xs) ys = omega (arith, sum-append f xs ys)
 
 -- what holds of all
 pub each-all : {A : Type 0} (P : A → Type 0) → ((x : A) → P x) → (xs : List A) → Each P xs

@@ -3,8 +3,8 @@ use mathlib.Core.Path.{refl}
 use native.Mathlib.Omega.{arith}
 use Rattle.bisimulation.specs.argument.ChoiceLaws.{less, notLess}
 use Rattle.bisimulation.specs.definitions.Joined as joined
-use Rattle.joined_file.proofs.larger.Statement.{statement}
-use Rattle.joined_file.proofs.larger.Tie as tie
+use Rattle.two_models.proofs.larger.Statement.{statement}
+use Rattle.two_models.proofs.larger.Tie as tie
 
 returns : tie.Need-returns
 unfolding joined.larger

@@ -6,9 +6,9 @@
  * lent buffer.
  *
  * Stack. zolkirta_judge, zolkirta_judge_costs and zolkirta_alike use at most 12,500 bytes each, zolkirta_sheet 16,500, zolkirta_reduce
- * 23,500, zolkirta_rewrite and zolkirta_rewrite_costs 18,500, zolkirta_read_prism 11,000, zolkirta_join and zolkirta_fetch 2,500
- * (measured, rounded up). In a dynamically linked program the loader adds some 3 KiB when it binds memcpy or memset at the first
- * call. No heap is used.
+ * 23,500, zolkirta_rewrite and zolkirta_rewrite_costs 18,500, zolkirta_read_prism 11,000, zolkirta_compose 7,000, zolkirta_hide 2,800,
+ * zolkirta_join and zolkirta_fetch 2,500 (measured, rounded up). In a dynamically linked program the loader adds some 3 KiB when it
+ * binds memcpy or memset at the first call. No heap is used.
  *
  * Threads. The library has no state and keeps no pointer: any number of calls may run at once.
  *
@@ -20,14 +20,14 @@
 #include <stddef.h>
 #include <stdint.h>
 
-#define ZOLKIRTA_VERSION "0.10.0"
-#define ZOLKIRTA_VERSION_NUMBER 1000 /* major * 10000 + minor * 100 + patch */
+#define ZOLKIRTA_VERSION "0.11.0"
+#define ZOLKIRTA_VERSION_NUMBER 1100 /* major * 10000 + minor * 100 + patch */
 
 /* The most states that a model has: a block buffer of this length is always long enough. */
 #define ZOLKIRTA_STATES 128
 /* The bytes of the longest model, 8 + 128 + 7 * 256 + 3 * 2048: an output buffer of this length is always long enough for
- * zolkirta_reduce, zolkirta_join and zolkirta_read_prism, and a longer model file is always refused; a cost model's has up to 258 bytes
- * more. */
+ * zolkirta_reduce, zolkirta_join, zolkirta_read_prism, zolkirta_compose and zolkirta_hide, and a longer model file is always refused; a
+ * cost model's has up to 258 bytes more. */
 #define ZOLKIRTA_MODEL 8072
 /* The bytes of the longest sheet, 128 lines of 73: a sheet buffer of this length is always long enough. */
 #define ZOLKIRTA_SHEET 9344
@@ -87,7 +87,10 @@ enum zolkirta_number {
     ZOLKIRTA_TERMS = 34,                /* a transition's weights have a common divisor above 1 */
     /* of the two calls that rewrite: in the certificate, file 2, then of the call, no file and no place */
     ZOLKIRTA_REWRITTEN_K = 35,          /* the certificate is accepted, and a k of the rewritten flow is above 4,294,967,295 */
-    ZOLKIRTA_REWRITTEN_BUFFER = 36      /* the certificate is accepted, and a buffer is shorter than its rewritten file */
+    ZOLKIRTA_REWRITTEN_BUFFER = 36,     /* the certificate is accepted, and a buffer is shorter than its rewritten file */
+    /* of the call, no file and no place */
+    ZOLKIRTA_COMPOSED_MODEL = 37,       /* the composition passes a limit: 128 states, 256 transitions, 2,048 entries, d 65,535 or label 63 */
+    ZOLKIRTA_COMPOSED_BUFFER = 38       /* the buffer is shorter than the file of the composition, or of the model with actions hidden */
 };
 
 /* What a call answers.
@@ -223,6 +226,30 @@ zolkirta_pair_answer zolkirta_rewrite(const uint8_t *model, size_t model_length,
 zolkirta_pair_answer zolkirta_rewrite_costs(const uint8_t *model, size_t model_length, const uint8_t *certificate,
                                             size_t certificate_length, uint8_t *model_out, size_t model_out_length,
                                             uint8_t *certificate_out, size_t certificate_out_length);
+
+/* Writes the parallel composition of two models: both work side by side. An external action below both action counts is shared, whether a
+ * transition has it or not: both do it together, or neither does. Every other action, internal ones among them, is done by one side alone
+ * while the other stands still. State s of the left with state e of the right is state s times the right's state count, plus e; label l with
+ * label r is l times (one more than the highest label of the right's states), plus r. The action count is the larger one. The transitions of a
+ * state: the left's, in file order, a shared one once for each transition of e with its action, in file order; then those of the right that
+ * are not shared. A shared one has the product of both d, and of the weights of both at each pair of their targets, so the file is in lowest
+ * terms. Number 0: the first `written` bytes of `out` are the composition's file; its later bytes stay. Else a refusal, which writes nothing:
+ * 1 to 9 and 34 in the left model (file 1), then the same in the right (file 3), then 37 where the composition passes a limit and 38 where
+ * `out` is shorter than the file (no file, no place).
+ *
+ * States of the left model that behave alike do so beside every state of the right: for s and t of one block of an accepted certificate, s
+ * with e and t with e are in one block of the composition's. */
+zolkirta_answer zolkirta_compose(const uint8_t *left, size_t left_length, const uint8_t *right, size_t right_length, uint8_t *out,
+                                 size_t out_length);
+
+/* Writes a model with the external actions of a set made internal, action 0. The set is `actions`, one byte for each member, in any order and
+ * as often as it likes; it may be empty. Members that are 0 or not below the action count change nothing, and the action count stays. Number
+ * 0: the first `written` bytes of `out` are the file, which is as long as the model's; its later bytes stay. Else a refusal, which writes
+ * nothing: 1 to 9 and 34 in the model (file 1), then 38 where `out` is shorter than the file (no file, no place).
+ *
+ * States that behave alike do so with actions hidden. */
+zolkirta_answer zolkirta_hide(const uint8_t *model, size_t model_length, const uint8_t *actions, size_t actions_length, uint8_t *out,
+                              size_t out_length);
 
 #ifdef __cplusplus
 }

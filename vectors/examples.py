@@ -2,7 +2,8 @@
 """Writes the pairs small and repeats of examples/, with their merged models by hand: the small pair S, and a pair whose merged model drops
 repeated transitions, one of them in other terms once its targets are joined, keeps an equal one of another block, joins two targets, and changes
 the order. The pair stored: the pair repeats from before lowest terms were asked for, with 2/4 for 1/2 in one transition. A certificate for S that
-is refused: 2 for D in its first flow. And the text relay, with its model and a certificate for it by hand.
+is refused: 2 for D in its first flow. The text relay, with its model and a certificate for it by hand. And the models sender and channel, with the
+two side by side and that model with two actions hidden, both by hand.
 """
 import os
 
@@ -91,10 +92,29 @@ MEETS_RELAY = certificate(DELIVERS + COMES, (0, 1, 1, 1, 0), [
     flow(1, [], [(0, 0, 1)]),
 ])
 
+SENDER = model(3, 4, (1, 0, 0), [(0, 3, 1, [(1, 1)]), (1, 1, 1, [(2, 1)]), (2, 2, 1, [(0, 1)])])
+CHANNEL = model(3, 3, (0, 0, 1), [(0, 1, 10, [(1, 9), (2, 1)]), (1, 2, 1, [(0, 1)]), (2, 0, 10, [(1, 9), (2, 1)])])
+
+
+def side_by_side(send, receive):
+    """The two side by side, with these actions for the two that they share."""
+    return model(9, 4, (2, 2, 3, 0, 0, 1, 0, 0, 1), [
+        (0, 3, 1, [(3, 1)]),
+        (1, 3, 1, [(4, 1)]),
+        (2, 3, 1, [(5, 1)]),
+        (2, 0, 10, [(1, 9), (2, 1)]),
+        (3, send, 10, [(7, 9), (8, 1)]),
+        (5, 0, 10, [(4, 9), (5, 1)]),
+        (7, receive, 1, [(0, 1)]),
+        (8, 0, 10, [(7, 9), (8, 1)]),
+    ])
+
+
 for name, data in [
         ('small.model', S), ('small.certificate', S_CERTIFICATE), ('small.merged', MERGED_S), ('broken.certificate', BROKEN),
         ('repeats.model', REPEATS), ('repeats.certificate', MEETS_REPEATS), ('repeats.merged', MERGED),
         ('stored.model', STORED), ('stored.certificate', MEETS_STORED),
-        ('relay.tra', RELAY_TEXT), ('relay.model', RELAY), ('relay.certificate', MEETS_RELAY)]:
+        ('relay.tra', RELAY_TEXT), ('relay.model', RELAY), ('relay.certificate', MEETS_RELAY),
+        ('sender.model', SENDER), ('channel.model', CHANNEL), ('composed.model', side_by_side(1, 2)), ('hidden.model', side_by_side(0, 0))]:
     with open(os.path.join(HERE, '..', 'examples', name), 'wb') as f:
         f.write(data)

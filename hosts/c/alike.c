@@ -6,24 +6,13 @@
 
 #include "common.h"
 
-static uint32_t read_state(const char *digits)
-{
-    char *end;
-    unsigned long state = strtoul(digits, &end, 10);
-    if (*digits < '0' || *digits > '9' || *end || state > UINT32_MAX) {
-        fprintf(stderr, "%s is no state\n", digits);
-        exit(2);
-    }
-    return (uint32_t)state;
-}
-
 /* The answer for two states of a joined model, printed. */
 static zolkirta_answer ask(const uint8_t *model, size_t length, uint32_t first_count, char **names)
 {
     size_t certificate_length;
     uint8_t *certificate = read_file(names[0], &certificate_length);
-    zolkirta_alike_answer said = zolkirta_alike(model, length, first_count, certificate, certificate_length, read_state(names[1]),
-                                                read_state(names[2]));
+    zolkirta_alike_answer said = zolkirta_alike(model, length, first_count, certificate, certificate_length,
+                                                read_number(names[1], UINT32_MAX, "state"), read_number(names[2], UINT32_MAX, "state"));
     if (said.answer.number == ZOLKIRTA_ACCEPTED)
         puts(said.alike ? "yes" : "no");
     else

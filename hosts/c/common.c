@@ -45,6 +45,17 @@ void write_file(const char *path, const uint8_t *bytes, size_t length)
     }
 }
 
+uint32_t read_number(const char *digits, uint32_t most, const char *thing)
+{
+    char *end;
+    unsigned long number = strtoul(digits, &end, 10);
+    if (*digits < '0' || *digits > '9' || *end || number > most) {
+        fprintf(stderr, "%s is no %s\n", digits, thing);
+        exit(2);
+    }
+    return (uint32_t)number;
+}
+
 void print_answer(zolkirta_answer answer)
 {
     static const char *const files[] = {"no file", "the model", "the certificate", "the second model", "an unknown file"};

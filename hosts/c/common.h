@@ -1,9 +1,12 @@
-/* What the examples share. A file that cannot be read or written ends the program with status 2. */
+/* What the examples share. A file that cannot be read or written, and a word that is no number, end the program with status 2. */
 #include <zolkirta.h>
 
 /* The bytes of a file, to be freed. */
 uint8_t *read_file(const char *path, size_t *length);
 void write_file(const char *path, const uint8_t *bytes, size_t length);
+
+/* A decimal number up to the highest; `thing` is what it is for. */
+uint32_t read_number(const char *digits, uint32_t most, const char *thing);
 
 /* A line with the number, file and place, for 16, 20 and 21 also state and remainder. */
 void print_answer(zolkirta_answer answer);

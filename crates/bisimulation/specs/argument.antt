@@ -27,3 +27,14 @@ pub mod Duality
 pub mod Plain
 pub mod JoinedMoves
 pub mod BesideLaws
+pub mod PlainAllowed
+pub mod LayerValues
+pub mod HiddenLaws
+pub mod Grid
+pub mod GridLaws
+pub mod Pushed
+pub mod AtOnce
+pub mod HighestLaws
+pub mod ComposedLabels
+pub mod ComposedMoves
+pub mod ComposedLaws

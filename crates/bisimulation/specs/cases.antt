@@ -1,2 +1,3 @@
 -- Computed cases.
 pub mod SmallPair
+pub mod ComposedCases

@@ -13,3 +13,5 @@ pub mod Largest
 pub mod StandsFor
 pub mod Joined
 pub mod Beside
+pub mod Composed
+pub mod Hidden

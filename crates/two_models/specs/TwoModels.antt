@@ -10,7 +10,7 @@ use Rattle.rules.specs.definitions.SoundModel.{SoundModel}
 use Rattle.rules.specs.definitions.Made.{OfTwo, twoOutcome, twoFiles}
 use Rattle.limits.specs.TermsBy.{currentTerms}
 use Rattle.model.specs.declared.Model.{Model as Found}
-use Rattle.transition.specs.Known.{Known}
+use Rattle.transition.specs.Known.{Known, KnownModel}
 use Rattle.transition.specs.ModelRead.{ReadsModel}
 use Rattle.answer.specs.declared.Answer.{Answer}
 use Rattle.answer.specs.Answered.{OutcomeIs}
@@ -20,6 +20,7 @@ use Rattle.two_models.specs.declared.TwoRead.the-variants.{Sound, Refuse
 -- a file that is read as a sound model, with the numbers of its head
 pub record SoundFile (s : List ℕ) (m : Found) : Type 0 where
   pub model : ReadsModel currentTerms s
+  pub known : KnownModel s (m .states) (m .transitions)
   pub sound : SoundModel current (modelAt s)
   pub bytes : s ≡ modelBytes (modelAt s)
   pub head : m .states ≡ statesOf s

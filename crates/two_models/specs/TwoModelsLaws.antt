@@ -31,11 +31,12 @@ use Rattle.two_models.specs.TwoModels.{SoundFile, BothSound, RefusesTwo,
 -- a file that the reader found sound
 pub sound-file : (s : List ℕ) {table : List ℕ} {r : Scanned} → Scans s (scanWhole current s) r table → {m : Found} → r ≡ scanned.Sound m → Bytes s → SoundFile s m
 unfolding automatonOf
-sound-file s g e b =
+sound-file s {table} g e b =
     let k = sound-known currentTerms s g e b in
     let whole = read-whole-sound current s (modelAt s) (k .1 .end) b (k .1 .reads) in
     record {
       model = k .1;
+      known = record { table = table; known = k .0 };
       sound = whole .0;
       bytes = whole .1;
       head = k .0 .states;

@@ -1,13 +1,14 @@
 -- Loops that append the records of a model's file, each transition or entry changed in itself. No record becomes longer or shorter.
 use Prim.Native.Nat.{ℕ, zero, suc, _+_, _*_, _-_, _≤_, _<_}
 use mathlib.Core.Path.{_≡_, refl, sym, _∙_, ap, ap₂, subst}
-use mathlib.Core.List.{List, [], _∷_, _++_, map}
-use lib.ListN.{length, length-append}
+use mathlib.Core.List.{List, [], _∷_, _++_, map, append-assoc}
+use lib.ListN.{length, length-append, length-map}
 use native.Mathlib.Omega.{arith}
 use Rattle.rules.specs.definitions.Bytes.{byteAt, twoAt, twoBytes}
-use Rattle.rules.specs.definitions.Model.{Entry, Transition, entriesBytes, transitionBytes, transitionsBytes}
+use Rattle.rules.specs.definitions.Model.{Entry, Transition, Model, entriesBytes, transitionBytes, transitionsBytes, headBytes, labelsBytes, modelBytes}
 use Rattle.rules.specs.definitions.Reading.{statesOf, countOf, entryCountAt, afterTransition, entriesAt, transitionAt, transitionsAt, modelAt, placeOf}
 use Rattle.rules.specs.definitions.SoundModel.{Each}
+use Rattle.rules.specs.argument.AnswerLaws.{labels-length}
 use Rattle.rules.specs.argument.ReadBack.{transitionBytes-length}
 use Rattle.rules.specs.argument.ReadingLaws.{placeOf-next}
 use Rattle.rules.specs.argument.FetchedRun.{length-entriesAt}
@@ -73,6 +74,25 @@ module _ (f : Entry → Entry) where
     unfolding entriesAt entriesBytes
     entries-end zero h none = ahead-end (h .ahead) refl
     entries-end (suc left) h none = absurd (omega arith)
+
+-- what stands in a model's file before its transition records
+abbrev pub frontBytes : Model → List ℕ
+frontBytes M = headBytes M ++ labelsBytes M
+
+pub front-then : (M : Model) (rest : List ℕ) → modelBytes M ++ rest ≡ frontBytes M ++ (transitionsBytes (M .transitions) ++ rest)
+unfolding modelBytes
+front-then M rest =
+    ap (λ (l : List ℕ). l ++ rest) (sym (append-assoc (headBytes M) (labelsBytes M) (transitionsBytes (M .transitions))))
+    ∙ append-assoc (frontBytes M) (transitionsBytes (M .transitions)) rest
+
+pub front-size : (s : List ℕ) → 8 + statesOf s ≤ length s → length (frontBytes (modelAt s)) ≡ 8 + statesOf s
+unfolding headBytes labelsBytes twoBytes
+front-size s inside = length-append (headBytes (modelAt s)) (labelsBytes (modelAt s)) ∙ omega (arith, labels-length s inside)
+
+-- it stays when transitions are changed
+pub front-changed : (f : Transition → Transition) (M : Model) → frontBytes (record { actions = M .actions; labels = M .labels; transitions = map f (M .transitions) }) ≡ frontBytes M
+unfolding headBytes labelsBytes
+front-changed f M = ap (λ (k : ℕ). 0x50 ∷ 0x41 ∷ length (M .labels) ∷ M .actions ∷ (twoBytes k ++ labelsBytes M)) (length-map (M .transitions) f)
 
 one-less : (s : List ℕ) (left at : ℕ) → 0 < left → transitionsAt s left at ≡ transitionAt s at ∷ transitionsAt s (left - 1) (afterTransition s at)
 unfolding transitionsAt

@@ -7,6 +7,8 @@ ghost use Rattle.reduce.specs.Reduce.{ReduceAnswered};
 ghost use Rattle.rewrite.specs.Rewrite.{RewriteAnswered};
 ghost use Rattle.sheet.specs.Sheet.{SheetAnswered};
 ghost use Rattle.join.specs.Join.{JoinAnswered};
+ghost use Rattle.compose.specs.Compose.{ComposeAnswered};
+ghost use Rattle.hide.specs.Hide.{HideAnswered};
 ghost use Rattle.alike.specs.Alike.{named, AlikeAnswered};
 ghost use Rattle.read_prism.specs.Prism.{PrismAnswered};
 use alike::AlikeAnswer;
@@ -112,4 +114,20 @@ pub extern "C" fn zolkirta_rewrite_costs(
     ensures { λ r. ⌜ RewriteAnswered Costs (now (model .entry)) (now (certificate .entry)) (now («model_out» .entry)) (now («certificate_out» .entry)) (now («model_out» .exit)) (now («certificate_out» .exit)) r ⌝ }
 {
     rewrite::rewrite_costs_answer(model, certificate, model_out, certificate_out)
+}
+
+// Writes the composition of two models, the two working side by side. A fault in the right model has file 3.
+#[no_mangle]
+pub extern "C" fn zolkirta_compose(left: &[u8], right: &[u8], out: &mut [u8]) -> Answer
+    ensures { λ r. ⌜ ComposeAnswered (now (left .entry)) (now (right .entry)) (now (out .entry)) (now (out .exit)) r ⌝ }
+{
+    compose::compose_answer(left, right, out)
+}
+
+// Writes a model with the external actions of a set, one byte a member, made internal.
+#[no_mangle]
+pub extern "C" fn zolkirta_hide(model: &[u8], actions: &[u8], out: &mut [u8]) -> Answer
+    ensures { λ r. ⌜ HideAnswered (now (model .entry)) (now (actions .entry)) (now (out .entry)) (now (out .exit)) r ⌝ }
+{
+    hide::hide_answer(model, actions, out)
 }

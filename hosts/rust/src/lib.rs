@@ -5,8 +5,9 @@
 //! finds the transitions that leave a state. [`sheet`] writes the blocks as text for paper. [`join`] writes two models as one, and
 //! [`alike`] says whether a state of the one behaves as a state of the other. [`judge_costs`] judges where each transition has a cost.
 //! [`read_prism`] makes a model of PRISM's transition file. [`rewrite`] and [`rewrite_costs`] take a stored pair whose fractions are not in
-//! lowest terms, which every other call refuses, and write it in lowest terms. What is not accepted gets one numbered [`Refusal`]. The tool
-//! `zolkirta` makes these calls by file name: `zolkirta --help` tells how.
+//! lowest terms, which every other call refuses, and write it in lowest terms. [`compose`] writes two models that work side by side, and
+//! [`hide`] a model with some of its actions made internal. What is not accepted gets one numbered [`Refusal`]. The tool `zolkirta` makes
+//! these calls by file name: `zolkirta --help` tells how.
 //!
 //! The small pair S of document 01: state 0 moves to state 2 by action 1, state 1 moves to state 0 internally.
 //!
@@ -39,7 +40,8 @@ mod readme {}
 /// The most states that a model has. A block buffer of this length is always long enough.
 pub const STATES: usize = 128;
 
-/// The bytes of the longest model. An output buffer of this length is always long enough for [`reduce`], [`join`] and [`read_prism`].
+/// The bytes of the longest model. An output buffer of this length is always long enough for [`reduce`], [`join`], [`read_prism`],
+/// [`compose`] and [`hide`].
 pub const MODEL: usize = 8072;
 
 /// The bytes of the longest sheet. A sheet buffer of this length is always long enough.
@@ -49,10 +51,10 @@ pub const SHEET: usize = 9344;
 #[derive(Clone, Copy, Debug, PartialEq, Eq, Hash)]
 #[non_exhaustive]
 pub enum File {
-    /// The model; of two that are joined, the first.
+    /// The model; of two that are joined or composed, the first.
     Model,
     Certificate,
-    /// The second of two models that are joined.
+    /// The second of two models that are joined or composed.
     SecondModel,
     /// The text of PRISM that a model is read from.
     Text,
@@ -117,7 +119,7 @@ impl fmt::Display for Difference {
 #[derive(Clone, Copy, PartialEq, Eq)]
 #[non_exhaustive]
 pub struct Refusal<'a> {
-    /// 1 to 36: [`meaning`](Refusal::meaning) says it in words.
+    /// 1 to 38: [`meaning`](Refusal::meaning) says it in words.
     pub number: u32,
     /// The file at fault, if one is.
     pub file: Option<File>,
@@ -130,7 +132,7 @@ pub struct Refusal<'a> {
     pub difference: Option<Difference>,
 }
 
-const MEANINGS: [&str; 37] = [
+const MEANINGS: [&str; 39] = [
     "accepted",
     "the file ends inside a record",
     "a record has a wrong mark",
@@ -168,6 +170,8 @@ const MEANINGS: [&str; 37] = [
     "a transition's weights have a common divisor above 1",
     "the certificate is accepted, and a k of the rewritten flow is above 4,294,967,295",
     "the certificate is accepted, and a buffer is shorter than its rewritten file",
+    "the composition passes a limit: 128 states, 256 transitions, 2,048 entries, d 65,535 or label 63",
+    "the buffer is shorter than the file of the composition, or of the model with actions hidden",
 ];
 
 fn meaning_of(number: u32) -> &'static str {
@@ -445,12 +449,68 @@ pub fn join<'a, 'b>(first: &'a [u8], second: &'a [u8], buffer: &'b mut [u8]) -> 
     lend(raw::zolkirta_join, [(File::Model, first), (File::SecondModel, second)], buffer)
 }
 
+/// Writes the parallel composition of two models, which work side by side: external actions below both action counts are done together, all
+/// others by one side alone while the other stands still. State s of `left` with state e of `right` is state s times the right's state
+/// count, plus e; label l with label r is l times (one more than the right's highest label), plus r. The first bytes of `buffer` are then
+/// the composition's file, and they are what is handed back; the buffer's later bytes stay.
+///
+/// States of `left` that behave alike do so beside every state of `right`.
+///
+/// Refusals: 1 to 9 and 34 in the left model, then in the right ([`File::SecondModel`]); 37 where the composition passes a limit; 38 where the
+/// buffer is shorter than the file ([`MODEL`] bytes are always enough).
+///
+/// ```
+/// // Both do action 1: a switch that is on one time in two, and a user of it who then rests by an internal step.
+/// let left = b"PA\x02\x02\0\x01LB\0\x01TR\0\x01\0\x02\x02\0\0\x01\x01\0\x01";
+/// let right = b"PA\x02\x02\0\x02LB\0\0TR\0\x01\0\x01\x01\x01\0\x01TR\x01\0\0\x01\x01\0\0\x01";
+/// let mut buffer = [0; zolkirta::MODEL];
+/// let composed = zolkirta::compose(left, right, &mut buffer).unwrap();
+/// assert_eq!(composed[..12], *b"PA\x04\x02\0\x03LB\0\0\x01\x01"); // (0,0), (0,1), (1,0) and (1,1)
+/// assert_eq!(composed[12..25], *b"TR\0\x01\0\x02\x02\x01\0\x01\x03\0\x01"); // together, from (0,0) to (0,1) and (1,1)
+/// assert_eq!(composed[25..], *b"TR\x01\0\0\x01\x01\0\0\x01TR\x03\0\0\x01\x01\x02\0\x01"); // the right alone
+///
+/// let refusal = zolkirta::compose(left, b"PA\0", &mut buffer).unwrap_err();
+/// assert_eq!((refusal.number, refusal.file), (1, Some(zolkirta::File::SecondModel)));
+/// ```
+pub fn compose<'a, 'b>(left: &'a [u8], right: &'a [u8], buffer: &'b mut [u8]) -> Result<&'b [u8], Refusal<'a>> {
+    lend(raw::zolkirta_compose, [(File::Model, left), (File::SecondModel, right)], buffer)
+}
+
+/// Writes a model with the external actions of a set made internal. `actions` has the set's members, in any order and as often as it likes;
+/// members that are 0 or not below the action count change nothing, and the action count stays. The first bytes of `buffer` are then the
+/// file, as long as the model's, and they are what is handed back; the buffer's later bytes stay.
+///
+/// States that behave alike do so with actions hidden.
+///
+/// Refusals: 1 to 9 and 34 in the model; 38 where the buffer is shorter than the file (as many bytes as the model has are always enough, and so
+/// are [`MODEL`]).
+///
+/// ```
+/// let model = b"PA\x01\x03\0\x02LB\0TR\0\x01\0\x01\x01\0\0\x01TR\0\x02\0\x01\x01\0\0\x01"; // actions 1 and 2
+/// let mut buffer = [0; zolkirta::MODEL];
+/// let hidden = zolkirta::hide(model, &[2, 9], &mut buffer).unwrap();
+/// assert_eq!(hidden, b"PA\x01\x03\0\x02LB\0TR\0\x01\0\x01\x01\0\0\x01TR\0\0\0\x01\x01\0\0\x01");
+/// assert_eq!(zolkirta::hide(model, &[], &mut [0; 28]).unwrap_err().number, 38);
+/// ```
+pub fn hide<'a, 'b>(model: &'a [u8], actions: &[u8], buffer: &'b mut [u8]) -> Result<&'b [u8], Refusal<'a>> {
+    lend_to(raw::zolkirta_hide, [model, actions], &[(File::Model, model)], buffer)
+}
+
 /// Makes a call that lends a buffer, and hands back the part of it that was written.
 fn lend<'a, 'b>(call: raw::Lending, files: [Handed<'a>; 2], buffer: &'b mut [u8]) -> Result<&'b [u8], Refusal<'a>> {
-    let [(_, one), (_, other)] = files;
+    lend_to(call, files.map(|(_, bytes)| bytes), &files, buffer)
+}
+
+/// The same for two slices, of which these are files.
+fn lend_to<'a, 'b>(
+    call: raw::Lending,
+    [one, other]: [&[u8]; 2],
+    files: &[Handed<'a>],
+    buffer: &'b mut [u8],
+) -> Result<&'b [u8], Refusal<'a>> {
     // SAFETY: pointers and lengths are those of the slices, and a `&mut` overlaps no other slice.
     let answer = unsafe { call(one.as_ptr(), one.len(), other.as_ptr(), other.len(), buffer.as_mut_ptr(), buffer.len()) };
-    Ok(&buffer[..accepted(answer, &files)?.written])
+    Ok(&buffer[..accepted(answer, files)?.written])
 }
 
 /// Judges a certificate for a joined model, and says whether a state of the first part behaves as a state of the second: whether the two
@@ -624,10 +684,10 @@ mod tests {
 
     #[test]
     fn an_unknown_number_is_said() {
-        for number in [37, 38, u32::MAX] {
+        for number in [39, 40, u32::MAX] {
             assert_eq!(refusal(number, 0, 0).to_string(), format!("refusal {number}: unknown number"));
         }
-        assert_eq!(refusal(37, 2, 5).to_string(), "refusal 37: unknown number (certificate, byte 5)");
+        assert_eq!(refusal(39, 2, 5).to_string(), "refusal 39: unknown number (certificate, byte 5)");
     }
 
     #[test]
@@ -655,7 +715,7 @@ mod tests {
 
     #[test]
     fn only_16_20_and_21_have_a_difference() {
-        for number in (1..=37).chain([u32::MAX]) {
+        for number in (1..=39).chain([u32::MAX]) {
             let told = [16, 20, 21].contains(&number).then_some(Difference { state: 5, remainder: 9 });
             assert_eq!(off(number, 5, 9).difference, told, "{number}");
         }

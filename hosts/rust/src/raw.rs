@@ -60,7 +60,7 @@ const _: () = {
     assert!(matches!(pair, [0, 56, 64]));
 };
 
-/// A call that lends a buffer: two files and the buffer, each a pointer and a length.
+/// A call that lends a buffer: two files, or a model and a set, and the buffer, each a pointer and a length.
 pub type Lending = unsafe extern "C" fn(*const u8, usize, *const u8, usize, *mut u8, usize) -> Answer;
 
 /// A call that lends two buffers: model and certificate, then a buffer for each, all four a pointer and a length.
@@ -148,4 +148,22 @@ extern "C" {
         certificate_out: *mut u8,
         certificate_out_length: usize,
     ) -> PairAnswer;
+    /// [`compose`](crate::compose)
+    pub fn zolkirta_compose(
+        left: *const u8,
+        left_length: usize,
+        right: *const u8,
+        right_length: usize,
+        out: *mut u8,
+        out_length: usize,
+    ) -> Answer;
+    /// [`hide`](crate::hide)
+    pub fn zolkirta_hide(
+        model: *const u8,
+        model_length: usize,
+        actions: *const u8,
+        actions_length: usize,
+        out: *mut u8,
+        out_length: usize,
+    ) -> Answer;
 }

@@ -3,12 +3,13 @@ mod compare;
 mod maker;
 mod plain;
 
-use compare::{accepted, accepted_costs, accepted_texts, alike, fetch, join, judge, judge_costs, lines, read_prism, reduce, rewrite_by, sheet, Counts};
-use maker::families::{bytes, flow_heavy, half, largest, refutation_heavy, still};
+use compare::{accepted, accepted_costs, accepted_texts, alike, compose, fetch, hide, join, judge, judge_costs, lines, read_prism, reduce};
+use compare::{rewrite_by, sheet, Answering, Both, Counts, Lent};
+use maker::families::{bytes, flow_heavy, half, largest, parts, refutation_heavy, still};
 use plain::Answer;
 use std::ptr::{null, null_mut};
-use zolkirta::raw::{zolkirta_alike, zolkirta_fetch, zolkirta_join, zolkirta_judge, zolkirta_judge_costs, zolkirta_read_prism};
-use zolkirta::raw::{zolkirta_reduce, zolkirta_rewrite, zolkirta_rewrite_costs, zolkirta_sheet, Lending, LendingTwo};
+use zolkirta::raw::{zolkirta_alike, zolkirta_compose, zolkirta_fetch, zolkirta_hide, zolkirta_join, zolkirta_judge, zolkirta_judge_costs};
+use zolkirta::raw::{zolkirta_read_prism, zolkirta_reduce, zolkirta_rewrite, zolkirta_rewrite_costs, zolkirta_sheet, Lending, LendingTwo};
 use zolkirta::{MODEL, SHEET, STATES};
 
 /// Makes a call with buffers from none to one byte longer than what it writes, and with these: a shorter one is refused with a number.
@@ -29,6 +30,8 @@ fn buffers_of_every_length() {
         every_length(|length| judge(model, certificate, length), 10, &[STATES, STATES + 1, 255, 256, 257]);
         every_length(|length| reduce(model, certificate, length), 23, &[model.len() + 1]);
         every_length(|length| sheet(model, certificate, length), 28, &[SHEET, SHEET + 1]);
+        assert_eq!(hide(model, &[1, 2], MODEL).1.len(), model.len());
+        every_length(|length| hide(model, &[1, 2], length), 38, &[MODEL, MODEL + 1]);
     }
     for (model, certificate) in &accepted_costs() {
         assert_eq!(judge_costs(model, certificate, STATES).1.len(), usize::from(model[2]));
@@ -39,6 +42,12 @@ fn buffers_of_every_length() {
     for (first, second) in small().zip(small().rev()).chain([(&half, &half)]) {
         assert_eq!(join(first, second, MODEL).1.len(), first.len() + second.len() - 8); // one head and one mark of labels less
         every_length(|length| join(first, second, length), 26, &[MODEL, MODEL + 1]);
+    }
+    let parts = parts().map(|model| model.bytes());
+    assert_eq!(compose(&parts[0], &parts[1], MODEL).1.len(), MODEL);
+    let side_by_side = small().zip(small().rev()).filter(|(left, right)| compose(left, right, MODEL).0.number == 0);
+    for (left, right) in side_by_side.chain([(&parts[0], &parts[1])]) {
+        every_length(|length| compose(left, right, length), 38, &[MODEL, MODEL + 1]);
     }
     for text in &accepted_texts() {
         every_length(|length| read_prism(text, length), 33, &[MODEL, MODEL + 1]);
@@ -71,13 +80,13 @@ fn a_refusal_writes_nothing_whatever_the_length() {
     }
     assert!(refused > 10_000);
     let mut refused = 0;
-    for v in said(&["join"], 0).filter(|v| matches!(v.number(), 1..=25)) {
+    for v in said(&["join", "compose", "hide"], 0).filter(|v| !matches!(v.number(), 0 | 26 | 38)) {
         for length in (0..=66).chain(126..=130) {
-            assert_eq!(join(&v.files[0], &v.files[1], length).0, v.said.0);
+            assert_eq!(Both.lent(&v.call, &v.files[0], &v.files[1], length).0, v.said.0);
             refused += 1;
         }
     }
-    assert!(refused > 5_000);
+    assert!(refused > 15_000, "{refused}");
     let mut refused = 0;
     for v in said(&["read_prism"], 1) {
         for length in (0..=66).chain([MODEL]) {
@@ -97,13 +106,13 @@ fn null_pointers_at_length_0() {
     let mut blocks = [7; STATES];
     let b = blocks.as_mut_ptr();
     // The same call with an empty slice for every null pointer.
-    type Lent = fn(&[u8], &[u8], usize) -> (Answer, Vec<u8>);
-    let lending: [(Lending, Lent, &[u8], &[u8]); 5] = [
+    let lending: [(Lending, Lent, &[u8], &[u8]); 6] = [
         (zolkirta_judge, judge, model, certificate),
         (zolkirta_judge_costs, judge_costs, costly, its_certificate),
         (zolkirta_reduce, reduce, model, certificate),
         (zolkirta_sheet, sheet, model, certificate),
         (zolkirta_join, join, model, model),
+        (zolkirta_compose, compose, model, model),
     ];
     for (call, same, one, other) in lending {
         let (p, p_length, o, o_length) = (one.as_ptr(), one.len(), other.as_ptr(), other.len());
@@ -145,8 +154,20 @@ fn null_pointers_at_length_0() {
     assert_eq!(with_costs.map(|answer| (answer.number, answer.file)), [(10, 0), (11, 2), (1, 1)]);
     let texts = [read_prism(text, 0).0, read_prism(&[], STATES).0];
     assert_eq!(texts.map(|answer| (answer.number, answer.file)), [(33, 0), (31, 1)]);
-    let joined = [join(model, model, 0).0, join(model, &[], STATES).0];
-    assert_eq!(joined.map(|answer| (answer.number, answer.file)), [(26, 0), (1, 3)]);
+    for (call, shorter) in [(join as Lent, 26), (compose, 38)] {
+        let two_models = [call(model, model, 0).0, call(model, &[], STATES).0];
+        assert_eq!(two_models.map(|answer| (answer.number, answer.file)), [(shorter, 0), (1, 3)]);
+    }
+    // A set may be empty, and its pointer null.
+    let mut whole = vec![7; m_length];
+    unsafe {
+        assert_eq!(zolkirta_hide(null(), 0, null(), 0, null_mut(), 0), hide(&[], &[], 0).0);
+        assert_eq!(zolkirta_hide(null(), 0, c, c_length, b, STATES), hide(&[], certificate, STATES).0);
+        assert_eq!(zolkirta_hide(m, m_length, null(), 0, null_mut(), 0), hide(model, &[], 0).0);
+        assert_eq!(zolkirta_hide(m, m_length, null(), 0, whole.as_mut_ptr(), m_length), hide(model, &[], m_length).0);
+    }
+    assert_eq!((&whole, blocks), (model, [7; STATES]));
+    assert_eq!([hide(model, &[], 0), hide(&[], &[1], STATES)].map(|(answer, _)| (answer.number, answer.file)), [(38, 0), (1, 1)]);
 }
 
 /// Numbers below 130, and those that are one of them in their lowest bits.

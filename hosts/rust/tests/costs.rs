@@ -5,7 +5,8 @@ mod maker;
 mod plain;
 mod records;
 
-use compare::{accepted_costs, alike, changes, every_kind, fetch, join, judge, judge_costs, kind_by, reduce, rewrite_costs, rounds, sheet, Numbers};
+use compare::{accepted_costs, alike, changes, compose, every_kind, fetch, hide, join, judge, judge_costs, kind_by, reduce, rewrite_costs, rounds};
+use compare::{sheet, Lent, Numbers};
 use maker::families::{
     bytes, copies, flow_heavy, flow_heavy_with_costs, internal_chain, largest, late_steps, most_copies, one_source, refutation_heavy, tolls,
     with_costs,
@@ -370,9 +371,12 @@ fn every_other_call_refuses_a_cost_model() {
         }
         assert_eq!(fetch(model, 0), left(1));
         assert_eq!(fetch(model, 128), left(1));
-        assert_eq!(join(model, still, MODEL).0, left(1));
-        assert_eq!(join(still, model, MODEL).0, left(3));
-        assert_eq!(join(model, model, MODEL).0, left(1));
+        assert_eq!(hide(model, &[1], MODEL).0, left(1));
+        for call in [join as Lent, compose] {
+            assert_eq!(call(model, still, MODEL).0, left(1));
+            assert_eq!(call(still, model, MODEL).0, left(3));
+            assert_eq!(call(model, model, MODEL).0, left(1));
+        }
         // Without the record it is a model, which in turn is no cost model.
         assert_eq!(fetch(&model[..place], 128).number, 24);
         let answer = judge_costs(&model[..place], certificate, STATES).0;

@@ -9,7 +9,7 @@ use compare::{accepted, alike, changes, every_kind, join, judge, kind, reduce, r
 use maker::families::{half, in_any_order, internal_chain, refutation_heavy, still};
 use maker::files::{Certificate, Model, Transition};
 use maker::random::{in_any_terms, random_model};
-use records::{crowded, each_damaged, split, split_models, Records};
+use records::{crowded, damaged_models, each_damaged, small_damage_of_models, split, Records};
 use std::collections::BTreeSet;
 use zolkirta::{MODEL, STATES};
 
@@ -134,20 +134,7 @@ fn a_merged_model_stands_for_its_original() {
 
 #[test]
 fn damaged_models_are_joined_alike() {
-    let mut models: Vec<Vec<u8>> = accepted().into_iter().map(|(model, _)| model).collect();
-    models.dedup();
-    let mut pairs: Vec<Records> = models.iter().zip(models.iter().rev()).map(|(first, second)| split_models(first, second)).collect();
-    let crowded = crowded().0;
-    pairs.extend(models.iter().take(10).flat_map(|small| [split_models(small, &crowded), split_models(&crowded, small)]));
-    let mut told = BTreeSet::new();
-    each_damaged(&pairs, rounds(60_000), 33, |first, second, _, numbers| {
-        let whole = first.len() + second.len();
-        let length = if numbers.below(4) == 0 { numbers.below(whole + 2) } else { whole };
-        let (answer, _) = join(first, second, length);
-        told.insert((answer.number, answer.file));
-    });
-    let all = (1..=9).chain([34]).flat_map(|number| [(number, 1), (number, 3)]).chain([(0, 0), (25, 0), (26, 0)]);
-    assert_eq!(told, all.collect());
+    damaged_models(join, [25, 26], rounds(60_000), 33);
 }
 
 #[test]
@@ -190,18 +177,10 @@ fn every_truncation_and_change_of_one_byte_of_small_models() {
         pairs += 1;
         let (first, second, certificate) = (first.bytes(), second.bytes(), joined.certificate.bytes());
         let named = [joined.count, 0, joined.count].map(|x| x as u32);
-        for size in 0..first.len() {
-            assert_eq!(join(&first[..size], &second, MODEL).0.file, 1);
-        }
-        for size in 0..second.len() {
-            let answer = join(&first, &second[..size], MODEL).0;
-            assert_eq!((answer.number, answer.file, answer.place + answer.stretch_length), (1, 3, size));
-        }
+        small_damage_of_models(join, &first, &second);
         for size in 0..certificate.len() {
             assert_eq!(alike(&joined.model, &certificate[..size], named).answer.number, 11);
         }
-        changes(&first, |damaged| _ = join(damaged, &second, MODEL));
-        changes(&second, |damaged| _ = join(&first, damaged, MODEL));
         changes(&joined.model, |damaged| _ = alike(damaged, &certificate, named));
         changes(&certificate, |damaged| _ = alike(&joined.model, damaged, named));
     }

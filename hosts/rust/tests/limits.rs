@@ -3,7 +3,7 @@ mod compare;
 mod maker;
 mod plain;
 
-use compare::{accepted, accepted_costs, alike, fetch, join, judge, judge_costs, reduce, sheet, Answering, Numbers};
+use compare::{accepted, accepted_costs, alike, fetch, judge, judge_costs, reduce, sheet, Answering, Both, Numbers};
 use maker::families::{
     bytes, copies, flow_heavy, flow_heavy_with_costs, half, in_any_order, internal_chain, largest, late_steps, one_source, random_large,
     refutation_heavy, still, tolls,
@@ -239,34 +239,95 @@ fn sheets_with_three_digits() {
     assert_eq!(sheet(&model, &certificate, 8 * 73 - 1).0.number, 28);
 }
 
-/// What two models are joined to by today's limits, from both, and by the older ones.
-fn joined(first: &[u8], second: &[u8]) -> [u32; 2] {
-    [join(first, second, MODEL).0, BEFORE_K7.lent("join", first, second, MODEL).0].map(|answer| answer.number)
+/// What a call says of two models by today's limits, from both, and by the older ones.
+fn of_two(call: &str, first: &[u8], second: &[u8]) -> [u32; 2] {
+    [Both.lent(call, first, second, MODEL).0, BEFORE_K7.lent(call, first, second, MODEL).0].map(|answer| answer.number)
+}
+
+/// So many states of one label without transitions.
+fn states_alone(n: usize) -> Vec<u8> {
+    still(&vec![0; n]).0.bytes()
+}
+
+/// A state with so many transitions to itself by each action, from internal on.
+fn loops(counts: &[usize]) -> Vec<u8> {
+    let each = counts.iter().enumerate().flat_map(|(action, &count)| vec![Transition::step(0, action, 0); count]);
+    Model::new(vec![0], counts.len(), each.collect()).bytes()
 }
 
 #[test]
 fn joined_models() {
-    let still = |n: usize| still(&vec![0; n]).0.bytes();
-    let loops = |count: usize| Model::new(vec![0], 1, vec![Transition::step(0, 0, 0); count]).bytes();
+    let joined = |first: &[u8], second: &[u8]| of_two("join", first, second);
     let spread = |sizes: &[usize]| with_entries(sizes).0;
-    assert_eq!(joined(&still(32), &still(32)), [0, 0]);
-    assert_eq!(joined(&still(64), &still(1)), [0, 25]);
-    assert_eq!(joined(&still(64), &still(64)), [0, 25]);
-    assert_eq!(joined(&still(127), &still(1)), [0, 3]);
-    assert_eq!(joined(&still(1), &still(128)), [25, 3]);
-    assert_eq!(joined(&still(65), &still(64)), [25, 3]);
-    assert_eq!(joined(&loops(128), &loops(128)), [0, 0]);
-    assert_eq!(joined(&loops(128), &loops(129)), [25, 25]);
-    assert_eq!(joined(&loops(256), &loops(1)), [25, 25]);
+    assert_eq!(joined(&states_alone(32), &states_alone(32)), [0, 0]);
+    assert_eq!(joined(&states_alone(64), &states_alone(1)), [0, 25]);
+    assert_eq!(joined(&states_alone(64), &states_alone(64)), [0, 25]);
+    assert_eq!(joined(&states_alone(127), &states_alone(1)), [0, 3]);
+    assert_eq!(joined(&states_alone(1), &states_alone(128)), [25, 3]);
+    assert_eq!(joined(&states_alone(65), &states_alone(64)), [25, 3]);
+    assert_eq!(joined(&loops(&[128]), &loops(&[128])), [0, 0]);
+    assert_eq!(joined(&loops(&[128]), &loops(&[129])), [25, 25]);
+    assert_eq!(joined(&loops(&[256]), &loops(&[1])), [25, 25]);
     assert_eq!(joined(&spread(&[64; 16]), &spread(&[64; 16])), [0, 25]);
     assert_eq!(joined(&spread(&[64; 16]), &spread(&[&[64; 16][..], &[1]].concat())), [25, 8]);
     assert_eq!(joined(&spread(&[64; 31]), &spread(&[64, 1])), [25, 8]);
     assert_eq!(joined(&spread(&[64; 31]), &spread(&[63, 1])), [0, 8]);
 }
 
+/// Each limit of a composition by itself, with all others kept: the most that is within, and what passes it by the least and by a lot. The two
+/// models change sides.
+#[test]
+fn composed_models() {
+    let composed = |left: &[u8], right: &[u8], told: [u32; 2]| {
+        assert_eq!([of_two("compose", left, right), of_two("compose", right, left)], [told; 2]);
+        for shorter in [0, 8] {
+            assert_eq!(Both.lent("compose", left, right, shorter).0.number, if told[0] == 0 { 38 } else { told[0] });
+        }
+    };
+    let both_kept = [(8, 8, [0, 0]), (13, 5, [0, 37]), (16, 8, [0, 37]), (43, 3, [37, 37]), (16, 16, [37, 37])];
+    let one_larger = [(1, 128, [0, 3]), (2, 65, [37, 3]), (2, 128, [37, 3]), (128, 128, [37, 3])];
+    for (left, right, told) in both_kept.into_iter().chain(one_larger) {
+        composed(&states_alone(left), &states_alone(right), told);
+    }
+
+    // Internal ones of both, of which each side makes its own; shared ones, each with each; and one that only one side declares.
+    let within: [[&[usize]; 2]; 5] = [[&[128], &[128]], [&[256], &[0]], [&[0, 16], &[0, 16]], [&[0, 256], &[0, 1]], [&[0, 256], &[0, 0]]];
+    let passing: [[&[usize]; 2]; 6] =
+        [[&[128], &[129]], [&[256], &[1]], [&[1, 16], &[0, 16]], [&[0, 16, 1], &[0, 16, 1]], [&[0, 256], &[0, 256]], [&[0, 256], &[1]]];
+    for ([left, right], number) in within.map(|pair| (pair, 0)).into_iter().chain(passing.map(|pair| (pair, 37))) {
+        composed(&loops(left), &loops(right), [number; 2]);
+    }
+
+    // Of 8 and of 16 states the first moves by action 1 to all, together 128 entries, and by action 2 to one.
+    let spread = |n: usize, actions: &[usize]| {
+        let entries = |action: usize| if action == 1 { n } else { 1 };
+        let step = |&action: &usize| Transition::to(0, action, &(0..entries(action)).map(|v| (v, 1)).collect::<Vec<_>>());
+        Model::new(vec![0; n], 3, actions.iter().map(step).collect()).bytes()
+    };
+    for (actions, told) in [(vec![1; 16], [0, 37]), ([&[1; 16][..], &[2]].concat(), [37, 37]), (vec![1; 17], [37, 37]), (vec![1; 256], [37, 8])] {
+        composed(&spread(8, &actions), &spread(16, &[1, 2]), told);
+    }
+
+    // d by a shared action, where the product counts, and where one side makes its move alone.
+    let over = |d: i64| Model::new(vec![0; 2], 2, vec![Transition::to(0, 1, &[(0, 1), (1, d - 1)])]).bytes();
+    let within = [[255, 257], [2, 32_767], [3, 21_845]].map(|pair| (pair, 0));
+    let passing = [[256, 256], [2, 32_768], [3, 21_846], [65_535, 2], [65_535, 65_535]].map(|pair| (pair, 37));
+    for ([left, right], number) in within.into_iter().chain(passing) {
+        composed(&over(left), &over(right), [number; 2]);
+        composed(&over(left), &Both.lent("hide", &over(right), &[1], MODEL).1, [0; 2]);
+    }
+
+    // The highest label of each side.
+    let within = [[7, 7], [63, 0], [31, 1]].map(|pair| (pair, 0));
+    let passing = [[12, 4], [32, 1], [63, 1], [8, 31], [63, 63]].map(|pair| (pair, 37));
+    for ([left, right], number) in within.into_iter().chain(passing) {
+        composed(&still(&[0, left]).0.bytes(), &still(&[right, 0]).0.bytes(), [number; 2]);
+    }
+}
+
 /// What a pair that is accepted today gets by the older limits: the same answer and the same bytes, or 3 or 8 as its model is larger.
 fn older_answer(call: &str, rule: Rule, model: &[u8], certificate: &[u8], length: usize) -> u32 {
-    let now = compare::Both.lent(call, model, certificate, length);
+    let now = Both.lent(call, model, certificate, length);
     assert_eq!(now.0.number, 0);
     let before = BEFORE_K7.lent(call, model, certificate, length);
     let (n, sound) = (usize::from(model[2]), plain::read(&TODAY, rule, model).ok().expect("a sound model"));

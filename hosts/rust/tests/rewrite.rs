@@ -6,8 +6,8 @@ mod plain;
 mod records;
 
 use compare::{
-    alike, changes, every_kind, fetch, in_lowest_terms, join, judge, judge_costs, kind_by, reduce, rewrite, rewrite_by, rewrite_costs, rounds,
-    sheet, stored, stored_costs, Answering, Numbers, Rewritten,
+    alike, changes, compose, every_kind, fetch, hide, in_lowest_terms, join, judge, judge_costs, kind_by, reduce, rewrite, rewrite_by,
+    rewrite_costs, rounds, sheet, stored, stored_costs, Answering, Numbers, Rewritten,
 };
 use maker::families::{bytes, flow_heavy, flow_heavy_with_costs, internal_chain, largest, late_steps, one_source, tolls, with_costs};
 use maker::files::{Certificate, Flow, Model, Refutation, Transition};
@@ -213,10 +213,13 @@ fn read_by_all(model: &[u8], told: (u32, usize)) {
         sheet(model, certificate, SHEET).0,
         alike(model, certificate, [1, 0, 1]).answer,
         fetch(model, 200),
+        hide(model, &[], 0).0,
         join(model, still, 0).0,
+        compose(model, still, 0).0,
         join(still, model, 0).0,
+        compose(still, model, 0).0,
     ];
-    for (answer, file) in answers.into_iter().zip([1, 1, 1, 1, 1, 1, 3]) {
+    for (answer, file) in answers.into_iter().zip([1, 1, 1, 1, 1, 1, 1, 1, 3, 3]) {
         let stretch = (answer.stretch_start, answer.stretch_length);
         assert_eq!((answer.number, answer.place, answer.file, stretch), (told.0, told.1, file, (told.1, model.len() - told.1)), "{model:?}");
     }
@@ -231,7 +234,7 @@ fn read_by_all(model: &[u8], told: (u32, usize)) {
 }
 
 fn transition(source: usize, weights: &[(usize, i64)]) -> Transition {
-    Transition { source, action: 0, d: weights.iter().map(|e| e.1).sum(), weights: weights.to_vec(), cost: 0 }
+    Transition::to(source, 0, weights)
 }
 
 #[test]

@@ -89,6 +89,8 @@ impl Answering for Safe {
             "reduce" => zolkirta::reduce,
             "sheet" => sheet_bytes,
             "join" => zolkirta::join,
+            "compose" => zolkirta::compose,
+            "hide" => zolkirta::hide as Call,
             _ => panic!("no such call: {call}"),
         };
         same_lent(safe, Both.lent(call, one, other, length), File::Model, [one, other], length)
@@ -186,6 +188,26 @@ fn the_safe_calls_that_rewrite_say_what_the_raw_ones_say() {
         assert!([0, 1, 2, 7, 16, 20, 21, 35, 36].iter().chain(of_costs).all(|number| told.contains(number)), "{call} {told:?}");
         assert!(!told.contains(&10) && !told.contains(&34));
     }
+}
+
+#[test]
+fn the_safe_calls_that_compose_and_hide_say_what_the_raw_ones_say() {
+    let mut numbers = Numbers::new(17);
+    let models: Vec<_> = stored().into_iter().map(|(model, _)| model).filter(|model| model.len() < 200).collect();
+    let mut told = BTreeSet::new();
+    for _ in 0..20_000 {
+        let (mut left, mut right) = (numbers.of(&models).clone(), numbers.of(&models).clone());
+        let changed = if numbers.below(2) == 0 { &mut left } else { &mut right };
+        change_one_bit(changed, &mut numbers);
+        let length = if numbers.below(8) == 0 { numbers.below(90) } else { MODEL };
+        for (call, other) in [("compose", &right), ("hide", &numbers.bytes(3))] {
+            let answer = Safe.lent(call, &left, other, length).0;
+            told.insert((call, answer.file, answer.number));
+        }
+    }
+    let of_models = [("compose", 1), ("compose", 3), ("hide", 1)].map(|(call, file)| [1, 2, 7, 9, 34].map(|number| (call, file, number)));
+    let of_calls = [("compose", 0), ("compose", 37), ("compose", 38), ("hide", 0), ("hide", 38)].map(|(call, number)| (call, 0, number));
+    assert!(of_models.as_flattened().iter().chain(&of_calls).all(|answer| told.contains(answer)), "{told:?}");
 }
 
 #[test]

@@ -3,14 +3,15 @@ mod compare;
 mod maker;
 mod plain;
 
-use compare::{accepted, accepted_costs, accepted_texts, judge_costs, read_prism, rewrite, rewrite_costs, stored, stored_costs, Counts, Rewritten};
+use compare::{accepted, accepted_costs, accepted_texts, compose, hide, judge_costs, read_prism, rewrite, rewrite_costs, stored, stored_costs};
+use compare::{Counts, Rewritten};
 use maker::families::{
-    bytes, flow_heavy, flow_heavy_with_costs, half, internal_chain, largest, one_source, refutation_heavy, tolls, with_costs,
+    bytes, flow_heavy, flow_heavy_with_costs, half, internal_chain, largest, one_source, parts, refutation_heavy, still, tolls, with_costs,
 };
 use maker::prism::largest_text;
 use std::arch::asm;
-use zolkirta::raw::{zolkirta_alike, zolkirta_fetch, zolkirta_join, zolkirta_judge, zolkirta_judge_costs, zolkirta_read_prism};
-use zolkirta::raw::{zolkirta_reduce, zolkirta_rewrite, zolkirta_rewrite_costs, zolkirta_sheet, PairAnswer};
+use zolkirta::raw::{zolkirta_alike, zolkirta_compose, zolkirta_fetch, zolkirta_hide, zolkirta_join, zolkirta_judge, zolkirta_judge_costs};
+use zolkirta::raw::{zolkirta_read_prism, zolkirta_reduce, zolkirta_rewrite, zolkirta_rewrite_costs, zolkirta_sheet, PairAnswer};
 use zolkirta::{MODEL, SHEET, STATES};
 
 /// Several times what a call uses.
@@ -90,7 +91,17 @@ fn calls_use_the_stack_that_the_header_states() {
         assert_eq!(read_prism(text, MODEL).0.number, 0);
     }
     let half = half().0.bytes();
-    let joins = [(half.clone(), half)];
+    let joins = [(half.clone(), half.clone())];
+    let two = still(&[0; 2]).0.bytes();
+    let [left, right] = parts().map(|model| model.bytes());
+    let compositions = [(left, right), (half.clone(), two.clone()), (two, half)];
+    for (left, right) in &compositions {
+        assert_eq!(compose(left, right, MODEL).1.len(), MODEL);
+    }
+    let sets: Vec<_> = pairs.iter().map(|(model, _)| (model.clone(), (0..=255).collect::<Vec<u8>>())).collect();
+    for (model, actions) in &sets {
+        assert_eq!(hide(model, actions, MODEL).0.number, 0);
+    }
     let mut buffer = vec![0u8; MODEL.max(SHEET)];
     let [lent, room] = [buffer.as_mut_ptr() as usize, buffer.len()];
     let words = |file: &Vec<u8>| (file.as_ptr() as usize, file.len());
@@ -113,7 +124,7 @@ fn calls_use_the_stack_that_the_header_states() {
     };
     let reading = |text: &Vec<u8>| -> Words { [words(text).0, words(text).1, lent, room, 0, 0, 0, 0] };
     let several_states = pairs.iter().filter(|(model, _)| model[2] > 1);
-    let calls: [(&str, *const (), Vec<Words>); 10] = [
+    let calls: [(&str, *const (), Vec<Words>); 12] = [
         ("zolkirta_fetch", zolkirta_fetch as *const (), pairs.iter().map(fetching).collect()),
         ("zolkirta_judge", zolkirta_judge as *const (), pairs.iter().map(lending).collect()),
         ("zolkirta_judge_costs", zolkirta_judge_costs as *const (), cost_pairs.iter().map(lending).collect()),
@@ -124,6 +135,8 @@ fn calls_use_the_stack_that_the_header_states() {
         ("zolkirta_read_prism", zolkirta_read_prism as *const (), texts.iter().map(reading).collect()),
         ("zolkirta_rewrite", zolkirta_rewrite as *const (), stored_pairs.iter().map(rewriting).collect()),
         ("zolkirta_rewrite_costs", zolkirta_rewrite_costs as *const (), stored_cost_pairs.iter().map(rewriting).collect()),
+        ("zolkirta_compose", zolkirta_compose as *const (), compositions.iter().map(lending).collect()),
+        ("zolkirta_hide", zolkirta_hide as *const (), sets.iter().map(lending).collect()),
     ];
     for (name, call, asked) in calls {
         // A byte that is written in the colour of one paint shows in the other.

@@ -48,6 +48,56 @@ fn each_call_accepts() {
         "accepted: 3 states in 2 blocks\nwritten: out: 3 states, 3 transitions, 46 bytes\nwritten: its: 145 bytes\n",
     );
     assert_eq!([folder.read("out"), folder.read("its")], ["costs.model", "costs.certificate"].map(|name| folder.read(name)));
+    said(
+        "compose sender.model channel.model -o out",
+        "accepted: 9 states, 3 of the left model times 3 of the right\n\
+         states: s of the left with e of the right is s * 3 + e\n\
+         labels: l of the left with r of the right is l * 2 + r\n\
+         actions: 1 to 2 are done together\n\
+         written: out: 9 states, 8 transitions, 109 bytes\n",
+    );
+    assert_eq!(folder.read("out"), folder.read("composed.model"));
+    said(
+        "hide out 1 2 -o its",
+        "accepted: 2 transitions made internal\naction 1: 1 transition\naction 2: 1 transition\n\
+         written: its: 9 states, 8 transitions, 109 bytes\n",
+    );
+    assert_eq!(folder.read("its"), folder.read("hidden.model"));
+}
+
+/// What is shared goes by the action counts; a set has its members once, and members that change nothing are told as well.
+#[test]
+fn compositions_and_hidden_actions_are_told() {
+    let folder = Folder::new("composed");
+    let shared = |left: &str, right: &str, words: &str| {
+        let ran = folder.run(&format!("compose {left} {right} -o out"));
+        assert!(ran.status == 0 && ran.out.contains(&format!("\nactions: {words} done together\nwritten: out: ")), "{ran:?}");
+    };
+    shared("small.model", "small.model", "1 is");
+    shared("small.model", "first.model", "none is");
+    shared("relay.model", "sender.model", "1 to 2 are");
+    let hidden = |actions: &str, lines: &str| {
+        let written = "written: out: 9 states, 8 transitions, 109 bytes\n";
+        folder.run(&format!("hide composed.model {actions} -o out")).is(0, &format!("accepted: {lines}{written}"), "");
+    };
+    hidden("", "no transitions made internal\n");
+    assert_eq!(folder.read("out"), folder.read("composed.model"));
+    hidden("0 4 255", "no transitions made internal\naction 0: no transitions\naction 4: no transitions\naction 255: no transitions\n");
+    assert_eq!(folder.read("out"), folder.read("composed.model"));
+    hidden("2 9 01 2 1", "2 transitions made internal\naction 1: 1 transition\naction 2: 1 transition\naction 9: no transitions\n");
+    assert_eq!(folder.read("out"), folder.read("hidden.model"));
+    hidden("3", "3 transitions made internal\naction 3: 3 transitions\n");
+    folder.write("many.model", &[&b"PA\x80\x01\0\0LB"[..], &[0; 128]].concat());
+    folder.write("labels.model", b"PA\x01\x01\0\0LB\x10");
+    let passes = |left: &str, right: &str, sizes: [&str; 2]| {
+        let said = "refused: 37, the composition passes a limit: 128 states, 256 transitions, 2,048 entries, d 65,535 or label 63\n";
+        let lines = format!("{said}{left} has {}\n{right} has {}\n", sizes[0], sizes[1]);
+        folder.run(&format!("compose {left} {right} -o new")).is(1, &lines, "");
+    };
+    let relay = "5 states, 6 transitions and labels up to 0";
+    passes("relay.model", "many.model", [relay, "128 states, no transitions and labels up to 0"]);
+    let composed = "9 states, 8 transitions and labels up to 3";
+    passes("labels.model", "composed.model", ["1 state, no transitions and labels up to 16", composed]);
 }
 
 /// The cost pair with its first transition written 2/2, and k to match: of the last flow, 1 for 2.
@@ -75,6 +125,8 @@ fn a_stored_pair_is_refused_until_it_is_rewritten() {
     refused("sheet stored.model stored.certificate", "model", transition);
     refused("fetch stored.model 0", "model", transition);
     refused("join first.model stored.model -o out", "second model", transition);
+    refused("compose first.model stored.model -o out", "right model", transition);
+    refused("hide stored.model 1 -o out", "model", transition);
     refused("alike stored.model first.model joined.certificate 0 1", "first model", transition);
     let costly = "11\nin stored-costs.model, from there on: 54 52 00 01 00 02 01 00 00 02 54 52 01 01 00 01 and 19 more bytes";
     refused("judge-costs stored-costs.model stored-costs.certificate", "model", costly);
@@ -170,7 +222,7 @@ fn fetched_transitions_are_decoded() {
 }
 
 /// Calls that are refused, and what their lines say.
-const REFUSED: [(&str, &str, &str); 10] = [
+const REFUSED: [(&str, &str, &str); 13] = [
     (
         "judge small.model small.model",
         "refused: 12, a record has a wrong mark, certificate, byte 0\n",
@@ -206,6 +258,21 @@ const REFUSED: [(&str, &str, &str); 10] = [
         "read-prism small.sheet -o out",
         "refused: 31, a line breaks the form or a limit, or the head's counts are not the text's, text, byte 0\n",
         "in small.sheet, line 1: \"   0   2   0   1                                            \" and 12 more bytes\n",
+    ),
+    (
+        "compose small.sheet first.model -o out",
+        "refused: 2, a record has a wrong mark, left model, byte 0\n",
+        "in small.sheet, from there on: 20 20 20 30 20 20 20 32 20 20 20 30 20 20 20 31 and 130 more bytes\n",
+    ),
+    (
+        "compose first.model costs.model -o out",
+        "refused: 9, bytes are left after the last record, right model, byte 41\n",
+        "in costs.model, from there on: 43 4f 01 05 01\n",
+    ),
+    (
+        "hide costs.model 1 -o out",
+        "refused: 9, bytes are left after the last record, model, byte 41\n",
+        "in costs.model, from there on: 43 4f 01 05 01\n",
     ),
     (
         "rewrite costs.model costs.certificate -o out its",
@@ -277,7 +344,7 @@ fn a_state_beyond_all_numbers_is_refused_and_never_another() {
 
 /// The fields of the JSON object, in order.
 const FIELDS: &str = "call number meaning file name place state remainder blocks written output states transitions names sheet run alike \
-                      certificate_written certificate_output";
+                      certificate_written certificate_output right_states made_internal";
 
 /// The line with these fields, and null for all others.
 fn object(told: &[(&str, &str)]) -> String {
@@ -316,6 +383,9 @@ fn json_has_every_field() {
         ("certificate_output", "\"its\""),
     ];
     accepted("rewrite stored.model stored.certificate -o out its", &both);
+    let composed = [("written", "109"), ("output", "\"out\""), ("states", "9"), ("transitions", "8")];
+    accepted("compose sender.model channel.model -o out", &[&composed[..], &[("right_states", "3")]].concat());
+    accepted("hide composed.model 1 2 -o out", &[&composed[..], &[("made_internal", "2")]].concat());
     let step = r#"{"number":1,"source":2,"action":0,"denominator":2,"targets":[{"state":1,"weight":1},{"state":2,"weight":1}]}"#;
     let other = r#"{"number":2,"source":2,"action":0,"denominator":1,"targets":[{"state":3,"weight":1}]}"#;
     accepted("fetch second.model 2", &[("run", &format!("[{step},{other}]"))]);
@@ -421,7 +491,8 @@ fn help_and_version_are_printed() {
     for field in FIELDS.split(' ') {
         assert!(told.contains(&format!(" {field}")), "{field}");
     }
-    for call in ["judge", "judge-costs", "reduce", "sheet", "join", "fetch", "alike", "read-prism", "rewrite", "rewrite-costs"] {
+    let judging = ["judge", "judge-costs", "reduce", "sheet", "join", "fetch", "alike"];
+    for call in judging.into_iter().chain(["read-prism", "rewrite", "rewrite-costs", "compose", "hide"]) {
         let help = folder.run(&format!("{call} --help"));
         assert_eq!((help.status, help.err.as_str()), (0, ""));
         let usage = help.out.lines().next().unwrap();
@@ -477,6 +548,17 @@ fn words_that_make_no_call_get_two_lines() {
         ("-o out rewrite stored.model stored.certificate", "rewrite: -o with its two names must stand behind the call"),
         ("rewrite stored.model -o out its", "rewrite: CERTIFICATE is missing"),
         ("rewrite-costs costs.model costs.certificate -o out its more", "rewrite-costs: more is one word too many"),
+        ("compose sender.model -o out", "compose: RIGHT is missing"),
+        ("compose sender.model channel.model", "compose: -o OUT is missing"),
+        ("compose sender.model channel.model 1 -o out", "compose: 1 is one word too many"),
+        ("hide -o out", "hide: MODEL is missing"),
+        ("hide composed.model 1 2", "hide: -o OUT is missing"),
+        ("hide composed.model one -o out", "hide: one is no action's number"),
+        ("hide composed.model 1,2 -o out", "hide: 1,2 is no action's number"),
+        ("hide composed.model 1 256 -o out", "hide: 256 is no action's number"),
+        ("hide composed.model 4294967297 -o out", "hide: 4294967297 is no action's number"),
+        ("hide composed.model -1 -o out", "hide: there is no option -1"),
+        ("compose - - -o out", "compose: - is standard input, and there is only one"),
         ("judge - -", "judge: - is standard input, and there is only one"),
         ("alike - second.model - 0 3", "alike: - is standard input, and there is only one"),
     ];

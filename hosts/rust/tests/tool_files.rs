@@ -4,7 +4,7 @@ mod maker;
 mod plain;
 mod program;
 
-use maker::families::{bytes, copies, internal_chain, most_copies};
+use maker::families::{bytes, copies, internal_chain, most_copies, parts};
 use maker::prism::largest_text;
 use program::{finished, Folder, ACCEPTED, MISSING, NOBODY};
 use std::ffi::OsStr;
@@ -90,6 +90,10 @@ fn a_file_may_come_from_standard_input() {
     folder.run_fed("judge -- - small.certificate", &model).first_line_is(0, ACCEPTED);
     let yes = "yes: state 0 of first.model behaves as state 3 of standard input";
     folder.run_fed("alike first.model - joined.certificate 0 3", &folder.read("second.model")).first_line_is(0, yes);
+    let composed = folder.run_fed("compose sender.model - -o out", &folder.read("channel.model"));
+    composed.first_line_is(0, "accepted: 9 states, 3 of the left model times 3 of the right");
+    folder.run_fed("hide - 2 1 -o out", &folder.read("out")).first_line_is(0, "accepted: 2 transitions made internal");
+    assert_eq!(folder.read("out"), folder.read("hidden.model"));
     let cut = folder.run_fed("judge small.model -", &certificate[..124]);
     cut.first_line_is(1, "refused: 11, the file ends inside a record, certificate, byte 109");
     assert!(cut.out.contains("\nin standard input, from there on: 46 4c "));
@@ -139,7 +143,13 @@ fn a_refusal_leaves_an_older_file() {
     folder.write("out", b"older");
     let names = folder.names();
     let stays = "zolkirta: out stays as it was\n";
-    for words in ["reduce small.model small.model", "sheet small.model small.model", "join first.model small.sheet"] {
+    for words in [
+        "reduce small.model small.model",
+        "sheet small.model small.model",
+        "join first.model small.sheet",
+        "compose first.model small.sheet",
+        "hide small.sheet 1",
+    ] {
         for more in ["", " --quiet"] {
             let ran = folder.run(&format!("{words} -o out{more}"));
             assert_eq!((ran.status, ran.err.as_str()), (1, stays));
@@ -197,6 +207,8 @@ fn an_input_is_never_the_output() {
     fs::hard_link(folder.path.join("small.certificate"), folder.path.join("hard")).unwrap();
     let before = folder.names();
     let (model, certificate) = (folder.read("small.model"), folder.read("small.certificate"));
+    let hidden = folder.run("hide small.model 1 -o link");
+    assert!(hidden.status == 2 && hidden.err.starts_with("zolkirta: hide: -o names the same file as small.model, which would be lost\n"));
     for (out, input) in
         [("small.model", "small.model"), ("./small.model", "small.model"), ("link", "small.model"), ("hard", "small.certificate")]
     {
@@ -354,6 +366,21 @@ fn the_largest_text_goes_through() {
     ran.first_line_is(0, "accepted: 128 states, 256 transitions, 31 named actions");
     assert!(ran.out.contains("\naction 1: action1\naction 2: action2\n") && ran.out.contains("\naction 31: action31\nwritten: out: "));
     assert_eq!(folder.read("out"), zolkirta::read_prism(&largest_text(true), &mut [0; zolkirta::MODEL]).unwrap());
+}
+
+#[test]
+fn the_largest_composition_goes_through() {
+    let folder = Folder::new("parts");
+    for (name, part) in ["left", "right"].into_iter().zip(parts()) {
+        folder.write(name, &part.bytes());
+    }
+    let ran = folder.run("compose left right -o out");
+    ran.first_line_is(0, "accepted: 128 states, 8 of the left model times 16 of the right");
+    assert!(ran.out.ends_with("\nwritten: out: 128 states, 256 transitions, 8072 bytes\n"));
+    let ran = folder.run("hide out 1 -o hidden");
+    ran.is(0, "accepted: 256 transitions made internal\naction 1: 256 transitions\nwritten: hidden: 128 states, 256 transitions, 8072 bytes\n", "");
+    let mut buffer = [0; zolkirta::MODEL];
+    assert_eq!(folder.read("hidden"), zolkirta::hide(&folder.read("out"), &[1], &mut buffer).unwrap());
 }
 
 #[test]

@@ -279,7 +279,7 @@ in-tail : {X : Type 0} (number : X → ℕ) (x y z : X) (xs ys : List X) → x �
 in-tail number x y z xs ys e a i (inr j) = j
 in-tail number x y z xs ys e a i (inl q) = absurd (omega (arith, above number z xs (number x + 1) a i, ap number q, ap number e))
 
-one-list : {X : Type 0} (number : X → ℕ) (xs ys : List X) (lo : ℕ) → Ascends number lo xs → Ascends number lo ys → ((x : X) → Among x xs → Among x ys) → ((x : X) → Among x ys → Among x xs) → xs ≡ ys
+pub one-list : {X : Type 0} (number : X → ℕ) (xs ys : List X) (lo : ℕ) → Ascends number lo xs → Ascends number lo ys → ((x : X) → Among x xs → Among x ys) → ((x : X) → Among x ys → Among x xs) → xs ≡ ys
 one-list number [] [] lo a b f g = refl
 one-list number [] (y ∷ ys) lo a b f g = absurd (not-among y [] (g y Among.here) refl)
 one-list number (x ∷ xs) [] lo a b f g = absurd (not-among x [] (f x Among.here) refl)

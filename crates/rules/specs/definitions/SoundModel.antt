@@ -28,12 +28,16 @@ sumOver f (x ∷ xs) = f x + sumOver f xs
 unfoldable pub Bytes : List ℕ → Type 0
 Bytes s = (i : ℕ) → i < length s → byteAt s i < 256
 
+-- 'd 2': the highest that its bytes hold
+abbrev pub highestDenominator : ℕ
+highestDenominator = 65535
+
 -- the table's row 'transition', with n states and m actions, and 'Entry states strictly ascend, weights are at least 1 and add up to d'
 pub record TransitionRules (n m : ℕ) (t : Transition) : Type 0 where
   pub source : t .source < n
   pub action : t .action < m
   pub positive : 1 ≤ t .denominator
-  pub fits : t .denominator ≤ 65535
+  pub fits : t .denominator ≤ highestDenominator
   pub some : 1 ≤ length (t .entries)
   pub most : length (t .entries) ≤ n
   pub states : Each (λ (e : Entry). e .state < n) (t .entries)

@@ -10,7 +10,7 @@ mod plain;
 mod report;
 
 use compare::Numbers;
-use maker::families::{bytes, filled, flow_heavy, flow_heavy_with_costs, half, largest, one_source, refutation_heavy};
+use maker::families::{bytes, filled, flow_heavy, flow_heavy_with_costs, half, largest, one_source, parts, refutation_heavy, still};
 use maker::files::{Certificate, Model, Transition};
 use maker::prism::largest_text;
 use maker::random::random_model;
@@ -56,7 +56,7 @@ fn measured(length: Duration, mut library: impl FnMut() -> u32, mut plain: impl 
     least
 }
 
-/// Model and certificate, or two models.
+/// Model and certificate, two models, or a model and a set.
 type Files = (Vec<u8>, Vec<u8>);
 
 fn fetching(length: Duration, model: &[u8], state: u32) -> Times {
@@ -90,6 +90,14 @@ fn reducing(length: Duration, pairs: &[Files]) -> Times {
 
 fn joining(length: Duration, pairs: &[Files]) -> Times {
     lending(length, raw::zolkirta_join, Limits::join, pairs)
+}
+
+fn composing(length: Duration, [left, right]: [Vec<u8>; 2]) -> Times {
+    lending(length, raw::zolkirta_compose, Limits::compose, &[(left, right)])
+}
+
+fn hiding(length: Duration, model: Vec<u8>, actions: Vec<u8>) -> Times {
+    lending(length, raw::zolkirta_hide, Limits::hide, &[(model, actions)])
 }
 
 /// A stored pair in any terms that is accepted, with buffers of just its lengths.
@@ -184,7 +192,9 @@ fn cases(random: &[Files]) -> Vec<Case> {
     let [refutations, refutations_128] = [64, 128].map(|n| [bytes(refutation_heavy(n))]);
     let [flows, flows_128] = [64, 128].map(|n| [bytes(flow_heavy(n, 0))]);
     let [paying, paying_128] = [64, 128].map(|n| [bytes(flow_heavy_with_costs(n))]);
-    let half = half().0.bytes();
+    let (half, two) = (half().0.bytes(), still(&[0; 2]).0.bytes());
+    let (shared, alone) = (parts().map(|part| part.bytes()), [half.clone(), two]);
+    assert!([&shared, &alone].into_iter().all(|[left, right]| compare::compose(left, right, zolkirta::MODEL).1.len() == zolkirta::MODEL));
     let longer_terms = in_longer_terms().bytes();
     let times = |(model, certificate): (Model, Certificate), factor: i64| {
         let transitions = model.transitions.iter().map(|r| r.times(factor)).collect();
@@ -213,10 +223,13 @@ fn cases(random: &[Files]) -> Vec<Case> {
         case("judge_costs, flow-heavy: 64 states, 16,128 flows of one k and one w entry", judging_costs(length, &paying), by_a_third, ""),
         case("judge_costs, flow-heavy: 128 states, 32,512 flows of one k and one w entry", judging_costs(length, &paying_128), by_a_third, ""),
         case("sheet, the largest model, every state a block", on_paper(length, &[largest.clone()]), no_slower, ""),
+        case("hide, the largest model, all 31 actions", hiding(length, largest.0.clone(), (1..32).collect()), no_slower, ""),
         case("reduce, the largest model, every state a block", reducing(length, &[largest]), no_slower, ""),
         case("reduce, 256 different transitions of one state", reducing(length, &[one_source]), no_slower, COMPARED),
         case("reduce, flow-heavy, 64 states", reducing(length, &flows), no_slower, ""),
         case("join, two models of 64 states, 128 transitions, 1,024 entries", joining(length, &[(half.clone(), half)]), no_slower, ""),
+        case("compose, 8 states with 16 to the largest model, every move shared", composing(length, shared), no_slower, ""),
+        case("compose, 64 states with 2 to the largest model, every move alone", composing(length, alone), no_slower, ""),
         case("rewrite, the largest model times 8,191, every state a block", rewriting_plain(&stored_largest), no_slower, ""),
         case("rewrite, refutation-heavy, 64 states, all transitions 2/2", rewriting_plain(&stored_refutations), by_a_third, ""),
         case("rewrite, flow-heavy, 64 states, all transitions 2/2, 16,128 flows of three k", rewriting_plain(&stored_flows), by_a_third, ""),

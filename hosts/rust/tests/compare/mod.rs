@@ -36,6 +36,9 @@ pub fn fetch(model: &[u8], state: u32) -> Answer {
 pub type PlainLending = fn(&Limits, &[u8], &[u8], &mut [u8]) -> Answer;
 pub type PlainLendingTwo = fn(&Limits, &[u8], &[u8], &mut [u8], &mut [u8]) -> PairAnswer;
 
+/// A call with two files, or with a model and a set, and a lent buffer of this length, by both: the answer, and what was written.
+pub type Lent = fn(&[u8], &[u8], usize) -> (Answer, Vec<u8>);
+
 /// The calls that lend a buffer, by name: the library's and the plain judge's.
 fn lending(name: &str) -> (raw::Lending, PlainLending) {
     match name {
@@ -44,6 +47,8 @@ fn lending(name: &str) -> (raw::Lending, PlainLending) {
         "reduce" => (raw::zolkirta_reduce, Limits::reduce),
         "sheet" => (raw::zolkirta_sheet, Limits::sheet),
         "join" => (raw::zolkirta_join, Limits::join),
+        "compose" => (raw::zolkirta_compose, Limits::compose),
+        "hide" => (raw::zolkirta_hide, Limits::hide),
         _ => panic!("no such call: {name}"),
     }
 }
@@ -125,7 +130,7 @@ fn only<A>((answer, [written]): (A, [Vec<u8>; 1])) -> (A, Vec<u8>) {
     (answer, written)
 }
 
-/// Makes a call with two files by both and compares.
+/// Makes a call with two files, or with a model and a set, by both and compares.
 fn lent(name: &str, one: &[u8], other: &[u8], length: usize) -> (Answer, Vec<u8>) {
     let (call, plain_call) = lending(name);
     let library = |[out]: [_; 1]| unsafe { call(one.as_ptr(), one.len(), other.as_ptr(), other.len(), out, length) };
@@ -182,6 +187,16 @@ pub fn sheet(model: &[u8], certificate: &[u8], length: usize) -> (Answer, Vec<u8
 /// Joins by both and compares.
 pub fn join(first: &[u8], second: &[u8], length: usize) -> (Answer, Vec<u8>) {
     lent("join", first, second, length)
+}
+
+/// Composes by both and compares.
+pub fn compose(left: &[u8], right: &[u8], length: usize) -> (Answer, Vec<u8>) {
+    lent("compose", left, right, length)
+}
+
+/// Hides actions by both and compares.
+pub fn hide(model: &[u8], actions: &[u8], length: usize) -> (Answer, Vec<u8>) {
+    lent("hide", model, actions, length)
 }
 
 /// Asks both for a first count and two states, and compares.
@@ -490,7 +505,7 @@ impl Line {
     /// The limits that the line was written under.
     pub fn limits(&self) -> &'static Limits {
         match self.name {
-            "k9" | "k10" => &TODAY,
+            "k9" | "k10" | "k11" => &TODAY,
             "k7" => &BEFORE_K10,
             _ => &BEFORE_K7,
         }
@@ -573,7 +588,7 @@ impl Line {
 }
 
 /// The files of vectors, in the order in which they came.
-pub const NAMES: [&str; 9] = ["base", "k1", "k2", "k3", "k4", "k6", "k7", "k9", "k10"];
+pub const NAMES: [&str; 10] = ["base", "k1", "k2", "k3", "k4", "k6", "k7", "k9", "k10", "k11"];
 
 /// The lines of a file of vectors.
 fn lines_of(name: &'static str) -> Vec<Line> {

@@ -35,6 +35,17 @@ pub fn filled(n: usize, each: usize, entries: usize) -> (Model, Certificate) {
     (model, Certificate::new((64..n).map(refuted).collect(), (0..n as u8).collect(), Vec::new()))
 }
 
+/// Two models whose composition is the most that a model may be: 8 and 16 states with 8 labels each. All transitions are shared, 2 of 4 entries
+/// leave a state of the left, and one of 2 entries one of the right.
+pub fn parts() -> [Model; 2] {
+    let part = |n: usize, each: usize, entries: usize| {
+        let weights = |q: usize| (0..entries).map(|e| (q % (n / entries) * entries + e, 1)).collect();
+        let shared = |q: usize| Transition { source: q / each, action: 1, d: entries as i64, weights: weights(q), cost: 0 };
+        Model::new((0..n).map(|v| v as u8 % 8).collect(), 2, (0..each * n).map(shared).collect())
+    };
+    [part(8, 2, 4), part(16, 1, 2)]
+}
+
 /// States without transitions, whose labels are their blocks.
 pub fn still(blocks: &[u8]) -> (Model, Certificate) {
     (Model::new(blocks.to_vec(), 1, Vec::new()), Certificate::new(Vec::new(), by_appearance(blocks), Vec::new()))

@@ -85,6 +85,11 @@ impl Transition {
         Transition { source, action, d: 1, weights: vec![(target, 1)], cost: 0 }
     }
 
+    /// A transition with these weights, which add up to its d.
+    pub fn to(source: usize, action: usize, weights: &[(usize, i64)]) -> Transition {
+        Transition { source, action, d: weights.iter().map(|e| e.1).sum(), weights: weights.to_vec(), cost: 0 }
+    }
+
     /// The same with its states by other numbers.
     pub fn moved(&self, to: impl Fn(usize) -> usize) -> Transition {
         let mut weights: Vec<_> = self.weights.iter().map(|&(v, p)| (to(v), p)).collect();

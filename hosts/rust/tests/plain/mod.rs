@@ -1,7 +1,7 @@
 //! Document 01's judge, reduce and fetch, document 02's join and alike (K1), the state and the remainder of 16, 20 and 21 (K2), its merged
-//! transitions that are the same as fractions (K3), its block sheet (K4), its cost pairs (K6), its limits (K7), its texts of PRISM (K9) and its
-//! lowest terms (K10) in plain Rust, written from the documents alone: what the library is compared with. Every call is one of a set of limits,
-//! today's or older ones.
+//! transitions that are the same as fractions (K3), its block sheet (K4), its cost pairs (K6), its limits (K7), its texts of PRISM (K9), its
+//! lowest terms (K10), its parallel composition and its hiding (K11) in plain Rust, written from the documents alone: what the library is compared
+//! with. Every call is one of a set of limits, today's or older ones.
 //!
 //! Every sum fits an i64. Weights of a transition add up to at most 65,535, so weights times prices stay below 2^47 and a difference
 //! of two such sums below 2^48; L times cost times d is below 2^53. k times d is below 2^48, and a state's equation has at most 768 of
@@ -43,6 +43,8 @@ const STATES: usize = TODAY.states;
 
 const ACTIONS: u8 = 32;
 pub const TRANSITIONS: usize = 256;
+const LABEL: u8 = 63;
+const DENOMINATOR: i64 = 65_535;
 
 /// The step rule that a pair is judged by: document 01's, or K6's with costs.
 #[derive(Clone, Copy, Debug, PartialEq, Eq)]
@@ -208,7 +210,7 @@ pub fn read<'a>(limits: &Limits, rule: Rule, file: &'a [u8]) -> Result<Model<'a>
         return fault(3, 0);
     }
     let labels = &record(file, 6, b"LB", 2 + n, 1)?[2..2 + n];
-    if labels.iter().any(|&label| label > 63) {
+    if labels.iter().any(|&label| label > LABEL) {
         return fault(4, 6);
     }
     let mut transitions: Vec<Transition> = Vec::with_capacity(count);
@@ -460,12 +462,15 @@ fn head_and_labels(labels: &[u8], m: u8, transitions: usize) -> Vec<u8> {
     [&b"PA"[..], &[labels.len() as u8, m], &(transitions as u16).to_be_bytes(), b"LB", labels].concat()
 }
 
+/// A transition that is written: source, action and d.
+type Written = (usize, u8, i64);
+
 /// Appends a transition's record, with d and these weights as they are or in lowest terms.
-fn append(out: &mut Vec<u8>, terms: Terms, source: usize, r: &Transition, weights: impl Iterator<Item = (usize, i64)> + Clone) {
+fn append(out: &mut Vec<u8>, terms: Terms, (source, action, d): Written, weights: impl Iterator<Item = (usize, i64)> + Clone) {
     let by = if terms == Terms::Lowest { divisor(weights.clone()) } else { 1 };
     let number = |x: i64| ((x / by) as u16).to_be_bytes();
-    out.extend([b'T', b'R', source as u8, r.action]);
-    out.extend(number(r.d));
+    out.extend([b'T', b'R', source as u8, action]);
+    out.extend(number(d));
     out.push(weights.clone().count() as u8);
     for (v, p) in weights {
         out.push(v as u8);
@@ -492,7 +497,7 @@ fn merged(terms: Terms, model: &Model, blocks: &[u8]) -> Vec<u8> {
             if kept.iter().any(|(action, d, other)| *action == r.action && in_terms(*d, other)) {
                 continue;
             }
-            append(&mut out, terms, block, r, weights.iter().copied().enumerate().filter(|&(_, p)| p > 0));
+            append(&mut out, terms, (block, r.action, r.d), weights.iter().copied().enumerate().filter(|&(_, p)| p > 0));
             kept.push((r.action, r.d, weights));
             written += 1;
         }
@@ -512,13 +517,62 @@ fn joined(limits: &Limits, first: &Model, second: &Model) -> Option<Vec<u8>> {
     let mut out = head_and_labels(&labels, first.m.max(second.m), count);
     for (model, raised) in [(first, 0), (second, first.n())] {
         for r in &model.transitions {
-            append(&mut out, Terms::Any, r.source + raised, r, r.weights().map(|(v, p)| (v + raised, p)));
+            append(&mut out, Terms::Any, (r.source + raised, r.action, r.d), r.weights().map(|(v, p)| (v + raised, p)));
         }
     }
     Some(out)
 }
 
-/// A field of two or four bytes as another value.
+/// The file of two models that work side by side; none where it passes a limit.
+fn composed(limits: &Limits, left: &Model, right: &Model) -> Option<Vec<u8>> {
+    let (n, m) = (right.n(), left.m.max(right.m));
+    let state = |s: usize, e: usize| s * n + e;
+    let labels_of_right = usize::from(*right.labels.iter().max().unwrap()) + 1;
+    let label = |s: usize, e: usize| usize::from(left.labels[s]) * labels_of_right + usize::from(right.labels[e]);
+    let states: Vec<(usize, usize)> = (0..left.n()).flat_map(|s| (0..n).map(move |e| (s, e))).collect();
+    if states.len() > limits.states || states.iter().any(|&(s, e)| label(s, e) > usize::from(LABEL)) {
+        return None;
+    }
+    let labels: Vec<u8> = states.iter().map(|&(s, e)| label(s, e) as u8).collect();
+    let shared = |r: &Transition| 0 < r.action && r.action < left.m.min(right.m);
+    let mut out = head_and_labels(&labels, m, 0);
+    let (mut count, mut entries) = (0, 0);
+    // Writes a move, by what it has to write, unless it passes a limit.
+    let mut write = |(s, e): (usize, usize), action: u8, d: i64, weights: &[(usize, i64)]| {
+        count += 1;
+        entries += weights.len();
+        let keeps = count <= TRANSITIONS && entries <= limits.entries && d <= DENOMINATOR;
+        keeps.then(|| append(&mut out, Terms::Any, (state(s, e), action, d), weights.iter().copied()))
+    };
+    for (s, e) in states {
+        for l in left.leaving(s) {
+            if !shared(l) {
+                write((s, e), l.action, l.d, &l.weights().map(|(v, p)| (state(v, e), p)).collect::<Vec<_>>())?;
+                continue;
+            }
+            for r in right.leaving(e).iter().filter(|r| r.action == l.action) {
+                let weights: Vec<_> = l.weights().flat_map(|(v, p)| r.weights().map(move |(f, q)| (state(v, f), p * q))).collect();
+                write((s, e), l.action, l.d * r.d, &weights)?;
+            }
+        }
+        for r in right.leaving(e).iter().filter(|r| !shared(r)) {
+            write((s, e), r.action, r.d, &r.weights().map(|(f, q)| (state(s, f), q)).collect::<Vec<_>>())?;
+        }
+    }
+    put(&mut out, 4, 2, count as u64);
+    Some(out)
+}
+
+/// The file of a model with the external actions of a set made internal.
+fn hidden(model: &Model, file: &[u8], actions: &[u8]) -> Vec<u8> {
+    let mut out = file.to_vec();
+    for r in model.transitions.iter().filter(|r| actions.contains(&r.action)) {
+        put(&mut out, r.place + 3, 1, 0);
+    }
+    out
+}
+
+/// A field of so many bytes as another value.
 fn put(file: &mut [u8], at: usize, width: usize, value: u64) {
     file[at..at + width].copy_from_slice(&value.to_be_bytes()[8 - width..]);
 }
@@ -656,13 +710,32 @@ impl Limits {
 
     /// Reads two models and writes them as one.
     pub fn join(&self, first: &[u8], second: &[u8], buffer: &mut [u8]) -> Answer {
-        let one = match read(self, Rule::Plain, first) {
-            Ok(model) => model,
-            Err(fault) => return refused(1, first, fault),
-        };
-        match read(self, Rule::Plain, second) {
-            Ok(other) => joined(self, &one, &other).map_or(numbered(25), |file| write(&file, buffer, 26)),
-            Err(fault) => refused(3, second, fault),
+        match self.two_models(first, second) {
+            Ok([one, other]) => joined(self, &one, &other).map_or(numbered(25), |file| write(&file, buffer, 26)),
+            Err(answer) => answer,
+        }
+    }
+
+    /// Reads two models, the first of them first.
+    fn two_models<'a>(&self, first: &'a [u8], second: &'a [u8]) -> Result<[Model<'a>; 2], Answer> {
+        let one = read(self, Rule::Plain, first).map_err(|fault| refused(1, first, fault))?;
+        let other = read(self, Rule::Plain, second).map_err(|fault| refused(3, second, fault))?;
+        Ok([one, other])
+    }
+
+    /// Reads two models and writes the two working side by side.
+    pub fn compose(&self, left: &[u8], right: &[u8], buffer: &mut [u8]) -> Answer {
+        match self.two_models(left, right) {
+            Ok([one, other]) => composed(self, &one, &other).map_or(numbered(37), |file| write(&file, buffer, 38)),
+            Err(answer) => answer,
+        }
+    }
+
+    /// Reads a model and writes it with the external actions of a set made internal.
+    pub fn hide(&self, model: &[u8], actions: &[u8], buffer: &mut [u8]) -> Answer {
+        match read(self, Rule::Plain, model) {
+            Ok(sound) => write(&hidden(&sound, model, actions), buffer, 38),
+            Err(fault) => refused(1, model, fault),
         }
     }
 

@@ -1,6 +1,6 @@
 //! K9's reading of PRISM's transition files, written from its words.
 
-use super::{append, fault, head_and_labels, refused, write, Answer, Fault, Limits, Terms, Transition, ACTIONS, TRANSITIONS};
+use super::{append, fault, head_and_labels, refused, write, Answer, Fault, Limits, Terms, ACTIONS, TRANSITIONS};
 
 const LINE: u32 = 31;
 const SUM: u32 = 32;
@@ -159,9 +159,8 @@ impl<'a> Read<'a, '_> {
     fn model(&self) -> Vec<u8> {
         let mut out = head_and_labels(&vec![0; self.states], self.names.len() as u8 + 1, self.choices.len());
         for choice in &self.choices {
-            let (source, action, d) = (choice.source, self.action(choice), WHOLE as i64);
-            let transition = Transition { place: choice.place, source, action, d, cost: 0, entries: &[] };
-            append(&mut out, Terms::Lowest, source, &transition, choice.entries.iter().map(|&(target, parts)| (target, parts as i64)));
+            let written = (choice.source, self.action(choice), WHOLE as i64);
+            append(&mut out, Terms::Lowest, written, choice.entries.iter().map(|&(target, parts)| (target, parts as i64)));
         }
         out
     }

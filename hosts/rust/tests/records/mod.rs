@@ -1,11 +1,12 @@
 //! Damage by records and fields: a sound pair is split into its records, some are changed, and the rest stays right.
 #![allow(dead_code)] // each test file uses its own part
 
-use crate::compare::{Counts, Numbers};
+use crate::compare::{accepted, changes, Counts, Lent, Numbers};
 use crate::plain::Rule;
+use std::collections::BTreeSet;
 use std::iter::once;
 use std::ops::Range;
-use zolkirta::STATES;
+use zolkirta::{MODEL, STATES};
 
 /// The records of two files: a model and its certificate, or two models.
 pub type Records = [Vec<Vec<u8>>; 2];
@@ -41,7 +42,7 @@ fn cut_model(model: &[u8]) -> Vec<Vec<u8>> {
 }
 
 /// Two sound models as their records.
-pub fn split_models(first: &[u8], second: &[u8]) -> Records {
+fn split_models(first: &[u8], second: &[u8]) -> Records {
     [cut_model(first), cut_model(second)]
 }
 
@@ -289,6 +290,42 @@ pub fn damaged(pairs: &[(Vec<u8>, Vec<u8>)], times: u64, seed: u64) -> Counts {
         counts.pair_with(model, certificate, blocks, out, state as u32);
     });
     counts
+}
+
+/// Pairs of sound models as their records: the accepted models of the vectors, and a crowded one beside some of them.
+pub fn pairs_of_models() -> Vec<Records> {
+    let mut models: Vec<Vec<u8>> = accepted().into_iter().map(|(model, _)| model).collect();
+    models.dedup();
+    let mut pairs: Vec<Records> = models.iter().zip(models.iter().rev()).map(|(first, second)| split_models(first, second)).collect();
+    let crowded = crowded().0;
+    pairs.extend(models.iter().take(10).flat_map(|small| [split_models(small, &crowded), split_models(&crowded, small)]));
+    pairs
+}
+
+/// Sends so many damaged pairs of models through a call that takes two. What it answers must be all of its numbers, in either file, and no other:
+/// beside those of a model this one for a limit and this one for the buffer.
+pub fn damaged_models(call: Lent, [limit, buffer]: [u32; 2], times: u64, seed: u64) {
+    let mut told = BTreeSet::new();
+    each_damaged(&pairs_of_models(), times, seed, |first, second, _, numbers| {
+        let length = if numbers.below(4) == 0 { numbers.below(first.len() + second.len() + 2) } else { MODEL };
+        let (answer, _) = call(first, second, length);
+        told.insert((answer.number, answer.file));
+    });
+    let in_models = (1..=9).chain([34]).flat_map(|number| [(number, 1), (number, 3)]);
+    assert_eq!(told, in_models.chain([(0, 0), (limit, 0), (buffer, 0)]).collect());
+}
+
+/// Makes a call that takes two models with every truncation and every change of one byte of either.
+pub fn small_damage_of_models(call: Lent, first: &[u8], second: &[u8]) {
+    for size in 0..first.len() {
+        assert_eq!(call(&first[..size], second, MODEL).0.file, 1);
+    }
+    for size in 0..second.len() {
+        let answer = call(first, &second[..size], MODEL).0;
+        assert_eq!((answer.number, answer.file, answer.place + answer.stretch_length), (1, 3, size));
+    }
+    changes(first, |damaged| _ = call(damaged, second, MODEL));
+    changes(second, |damaged| _ = call(first, damaged, MODEL));
 }
 
 /// 128 states, those from 63 on one block without transitions and all others a block each, and 2,048 entries, 40 of them alone in their

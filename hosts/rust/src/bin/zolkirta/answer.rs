@@ -1,7 +1,8 @@
 //! What the library answers to each call.
 
-use crate::automaton::{decoded, states, Transition};
+use crate::automaton::{decoded, states, transitions_of, Transition};
 use crate::prism;
+use std::collections::BTreeMap;
 use zolkirta::{OwnedRefusal, Refusal, MODEL, SHEET, STATES};
 
 /// What an accepted call found.
@@ -28,6 +29,13 @@ pub enum Found {
         blocks: Vec<u8>,
         model: Vec<u8>,
         certificate: Vec<u8>,
+    },
+    /// Two models side by side.
+    Composed(Vec<u8>),
+    /// A model with actions hidden, with how many transitions of each of them were made internal.
+    Hidden {
+        made_internal: BTreeMap<u8, usize>,
+        model: Vec<u8>,
     },
     /// The model of a text, with the names of its actions from 1 on.
     Read {
@@ -123,4 +131,16 @@ pub fn rewrite(files: &[&[u8]], _: &[u32]) -> Answer {
 
 pub fn rewrite_costs(files: &[&[u8]], _: &[u32]) -> Answer {
     rewritten(zolkirta::rewrite_costs, zolkirta::judge_costs, files)
+}
+
+pub fn compose(files: &[&[u8]], _: &[u32]) -> Answer {
+    lent(zolkirta::compose, files, MODEL).map(Found::Composed)
+}
+
+pub fn hide(files: &[&[u8]], asked: &[u32]) -> Answer {
+    let actions: Vec<u8> = asked.iter().map(|&action| action as u8).collect();
+    let model = owned(zolkirta::hide(files[0], &actions, &mut [0; MODEL]))?;
+    let all = transitions_of(files[0]);
+    let made_internal = |action: u8| all.iter().filter(|transition| action > 0 && transition.action == action).count();
+    Ok(Found::Hidden { made_internal: actions.iter().map(|&action| (action, made_internal(action))).collect(), model })
 }

@@ -10,6 +10,16 @@ pub fn transitions(model: &[u8]) -> usize {
     number(&model[4..6]).into()
 }
 
+/// The action count, from the model's head.
+pub fn actions(model: &[u8]) -> usize {
+    model[3].into()
+}
+
+/// The highest label of a state.
+pub fn highest_label(model: &[u8]) -> u8 {
+    model[8..8 + states(model)].iter().copied().max().unwrap_or(0)
+}
+
 pub struct Transition {
     /// Its number in the model.
     pub number: usize,
@@ -23,6 +33,11 @@ pub struct Transition {
 pub struct Target {
     pub state: u8,
     pub weight: u16,
+}
+
+/// All transitions of the model: they follow its labels.
+pub fn transitions_of(model: &[u8]) -> Vec<Transition> {
+    decoded(&model[8 + states(model)..], 0)
 }
 
 /// The transitions in a run of whole records, of which the first has this number.

@@ -1,6 +1,6 @@
 //! The calls: what each is named, what it takes, and what it is for.
 
-use crate::answer::{alike, fetch, join, judge, judge_costs, read_prism, reduce, rewrite, rewrite_costs, sheet, Answer};
+use crate::answer::{alike, compose, fetch, hide, join, judge, judge_costs, read_prism, reduce, rewrite, rewrite_costs, sheet, Answer};
 use zolkirta::File;
 
 /// A file that a call takes: the word for it in usage lines, which file of the library it is, and its name in sentences.
@@ -14,7 +14,29 @@ const MODEL: Role = Role { word: "MODEL", file: File::Model, said: "model" };
 const CERTIFICATE: Role = Role { word: "CERTIFICATE", file: File::Certificate, said: "certificate" };
 const FIRST: Role = Role { word: "FIRST", file: File::Model, said: "first model" };
 const SECOND: Role = Role { word: "SECOND", file: File::SecondModel, said: "second model" };
+const LEFT: Role = Role { word: "LEFT", file: File::Model, said: "left model" };
+const RIGHT: Role = Role { word: "RIGHT", file: File::SecondModel, said: "right model" };
 const TEXT: Role = Role { word: "TEXT", file: File::Text, said: "text" };
+
+/// The numbers that a call takes behind its files.
+pub enum Numbers {
+    /// A state for each word.
+    States(&'static [&'static str]),
+    /// Actions, as many as are named.
+    Actions,
+}
+
+const NONE: Numbers = Numbers::States(&[]);
+
+impl Numbers {
+    /// The words for them in usage lines.
+    fn words(&self) -> &'static [&'static str] {
+        match self {
+            Numbers::States(words) => words,
+            Numbers::Actions => &["[ACTION ...]"],
+        }
+    }
+}
 
 /// Whether a call writes a file.
 pub enum Writes {
@@ -38,9 +60,9 @@ impl Writes {
 
 pub struct Call {
     pub name: &'static str,
-    /// The files, in the order of their words; the states follow.
+    /// The files, in the order of their words; the numbers follow.
     pub files: &'static [Role],
-    pub states: &'static [&'static str],
+    pub numbers: Numbers,
     pub writes: Writes,
     /// What it is for, in a line.
     pub purpose: &'static str,
@@ -50,14 +72,14 @@ pub struct Call {
 }
 
 impl Call {
-    /// Answers for the bytes of its files and for its states, as many of both as it takes.
-    pub fn answer(&self, files: &[&[u8]], states: &[u32]) -> Answer {
-        (self.make)(files, states)
+    /// Answers for the bytes of its files and for its numbers, as many of both as it takes.
+    pub fn answer(&self, files: &[&[u8]], numbers: &[u32]) -> Answer {
+        (self.make)(files, numbers)
     }
 
     pub fn usage(&self) -> String {
         let files = self.files.iter().map(|role| role.word);
-        let words: Vec<&str> = ["zolkirta", self.name].into_iter().chain(files).chain(self.states.iter().copied()).collect();
+        let words: Vec<&str> = ["zolkirta", self.name].into_iter().chain(files).chain(self.numbers.words().iter().copied()).collect();
         let outputs = self.writes.words().join(" ");
         let output = match self.writes {
             Writes::Never => String::new(),
@@ -68,11 +90,11 @@ impl Call {
     }
 }
 
-pub const CALLS: [Call; 10] = [
+pub const CALLS: [Call; 12] = [
     Call {
         name: "judge",
         files: &[MODEL, CERTIFICATE],
-        states: &[],
+        numbers: NONE,
         writes: Writes::Never,
         purpose: "whether a certificate is accepted, and the blocks of bisimilar states",
         more: "After the first line each block has a line with its states.",
@@ -81,7 +103,7 @@ pub const CALLS: [Call; 10] = [
     Call {
         name: "judge-costs",
         files: &[MODEL, CERTIFICATE],
-        states: &[],
+        numbers: NONE,
         writes: Writes::Never,
         purpose: "what judge does, for a model whose transitions have costs",
         more: "After the first line each block has a line with its states. Every other call\n\
@@ -91,7 +113,7 @@ pub const CALLS: [Call; 10] = [
     Call {
         name: "reduce",
         files: &[MODEL, CERTIFICATE],
-        states: &[],
+        numbers: NONE,
         writes: Writes::Always,
         purpose: "writes the merged model: one state for each block",
         more: "The merged state of a block has the block's number, and behaves as its states.\n\
@@ -101,7 +123,7 @@ pub const CALLS: [Call; 10] = [
     Call {
         name: "sheet",
         files: &[MODEL, CERTIFICATE],
-        states: &[],
+        numbers: NONE,
         writes: Writes::WhereNamed,
         purpose: "writes the blocks as a sheet for paper",
         more: "Without -o the sheet follows the first line. Its columns have four characters\n\
@@ -111,7 +133,7 @@ pub const CALLS: [Call; 10] = [
     Call {
         name: "join",
         files: &[FIRST, SECOND],
-        states: &[],
+        numbers: NONE,
         writes: Writes::Always,
         purpose: "writes two models as one",
         more: "The states of SECOND follow those of FIRST, their numbers raised by FIRST's\n\
@@ -122,7 +144,7 @@ pub const CALLS: [Call; 10] = [
     Call {
         name: "fetch",
         files: &[MODEL],
-        states: &["STATE"],
+        numbers: Numbers::States(&["STATE"]),
         writes: Writes::Never,
         purpose: "the transitions that leave a state",
         more: "After the first line each transition has a line: its number in the model, its\n\
@@ -132,7 +154,7 @@ pub const CALLS: [Call; 10] = [
     Call {
         name: "alike",
         files: &[FIRST, SECOND, CERTIFICATE],
-        states: &["S", "T"],
+        numbers: Numbers::States(&["S", "T"]),
         writes: Writes::Never,
         purpose: "whether state S of FIRST behaves as state T of SECOND: yes or no",
         more: "Both states go by the numbers of their own models. CERTIFICATE is one for the\n\
@@ -143,7 +165,7 @@ pub const CALLS: [Call; 10] = [
     Call {
         name: "read-prism",
         files: &[TEXT],
-        states: &[],
+        numbers: NONE,
         writes: Writes::Always,
         purpose: "writes the model of PRISM's transition file of a decision process",
         more: "TEXT is what prism writes with -exporttrans. Each choice becomes a transition;\n\
@@ -155,7 +177,7 @@ pub const CALLS: [Call; 10] = [
     Call {
         name: "rewrite",
         files: &[MODEL, CERTIFICATE],
-        states: &[],
+        numbers: NONE,
         writes: Writes::Pair,
         purpose: "writes a stored pair in lowest terms, as every other call wants it",
         more: "A transition whose weights have a common divisor above 1 is refused with 34\n\
@@ -168,10 +190,36 @@ pub const CALLS: [Call; 10] = [
     Call {
         name: "rewrite-costs",
         files: &[MODEL, CERTIFICATE],
-        states: &[],
+        numbers: NONE,
         writes: Writes::Pair,
         purpose: "what rewrite does, for a model whose transitions have costs",
         more: "Costs and the prices of costs stay as they are. Both files are written, or none.",
         make: rewrite_costs,
+    },
+    Call {
+        name: "compose",
+        files: &[LEFT, RIGHT],
+        numbers: NONE,
+        writes: Writes::Always,
+        purpose: "writes two models that work side by side, their parallel composition",
+        more: "Actions from 1 on that are below the action counts of both models are done\n\
+               together, whether a transition has them or not; every other move is made by\n\
+               one side alone. Lines after the first say which actions these are, and which\n\
+               number and label a state of LEFT with a state of RIGHT has. A count that is\n\
+               higher than a model needs makes it share actions that it never does, and then\n\
+               the other side never does them either.",
+        make: compose,
+    },
+    Call {
+        name: "hide",
+        files: &[MODEL],
+        numbers: Numbers::Actions,
+        writes: Writes::Always,
+        purpose: "writes a model with some of its actions made internal",
+        more: "An ACTION is a number from 0 to 255. Their order does not matter; where none is\n\
+               named the model stays as it is, and so it does for 0, which is internal already,\n\
+               and for actions that no transition has. The lines after the first say for each\n\
+               how many transitions were made internal. All other actions keep their numbers.",
+        make: hide,
     },
 ];

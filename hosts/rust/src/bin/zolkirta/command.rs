@@ -1,6 +1,6 @@
-//! The words of the command line: options in any place, a call, its files and its states.
+//! The words of the command line: options in any place, a call, its files and its numbers.
 
-use crate::calls::{Call, Writes, CALLS};
+use crate::calls::{Call, Numbers, Writes, CALLS};
 use crate::failure::{shown, Usage};
 use crate::input;
 use crate::output::Output;
@@ -17,7 +17,8 @@ pub struct Command {
     pub call: &'static Call,
     /// The names of its files, in its order.
     pub files: Vec<OsString>,
-    pub states: Vec<u32>,
+    /// Its states or actions.
+    pub numbers: Vec<u32>,
     /// The files that it writes, as many as are named.
     pub outputs: Vec<Output>,
     pub json: bool,
@@ -104,7 +105,7 @@ impl Command {
     fn new(call: &'static Call, given: Given) -> Result<Command, String> {
         let mut words = given.words.into_iter().skip(1);
         let files = names(call, &mut words)?;
-        let states = states(call, &mut words)?;
+        let numbers = numbers(call, &mut words)?;
         if let Some(word) = words.next() {
             return Err(format!("{} is one word too many", shown(&word)));
         }
@@ -114,7 +115,7 @@ impl Command {
             (Writes::Always | Writes::Pair, []) => Err(format!("-o {} is missing", call.writes.words().join(" "))),
             (Writes::Pair, [_]) => Err("-o with its two names must stand behind the call".to_owned()),
             (_, [one, other]) if one.same_as(other) => Err(format!("-o names {} twice", one.shown())),
-            _ => Ok(Command { call, files, states, outputs, json: given.json, quiet: given.quiet }),
+            _ => Ok(Command { call, files, numbers, outputs, json: given.json, quiet: given.quiet }),
         }
     }
 }
@@ -132,9 +133,15 @@ fn names(call: &Call, words: &mut impl Iterator<Item = OsString>) -> Result<Vec<
     }
 }
 
-fn states(call: &Call, words: &mut impl Iterator<Item = OsString>) -> Result<Vec<u32>, String> {
-    let read = |word: OsString| state(&word).ok_or_else(|| format!("{} is no state's number", shown(&word)));
-    call.states.iter().map(|name| next(words, name).and_then(read)).collect()
+/// A state for each word of the call, or all actions that are left.
+fn numbers(call: &Call, words: &mut impl Iterator<Item = OsString>) -> Result<Vec<u32>, String> {
+    let read = |word: OsString, thing: &str, most: u32| {
+        decimal(&word).filter(|number| *number <= most).ok_or_else(|| format!("{} is no {thing}'s number", shown(&word)))
+    };
+    match call.numbers {
+        Numbers::States(names) => names.iter().map(|name| next(words, name).and_then(|word| read(word, "state", u32::MAX))).collect(),
+        Numbers::Actions => words.map(|word| read(word, "action", u8::MAX.into())).collect(),
+    }
 }
 
 fn next(words: &mut impl Iterator<Item = OsString>, name: &str) -> Result<OsString, String> {
@@ -142,7 +149,7 @@ fn next(words: &mut impl Iterator<Item = OsString>, name: &str) -> Result<OsStri
 }
 
 /// A decimal number. One above 32 bits is the largest of them: no model has such a state, so the library refuses both.
-fn state(word: &OsStr) -> Option<u32> {
+fn decimal(word: &OsStr) -> Option<u32> {
     let digits = word.to_str().filter(|digits| !digits.is_empty() && digits.bytes().all(|byte| byte.is_ascii_digit()))?;
     Some(digits.parse().unwrap_or(u32::MAX))
 }

@@ -75,4 +75,7 @@ status 2 there is no object:
   alike                 true for yes, false for no
   certificate_written,  how many bytes of the certificate were written; the
   certificate_output    name of its file
+  right_states          of a composition, how many states RIGHT has: state s of
+                        LEFT with e of RIGHT is s * right_states + e
+  made_internal         how many transitions were made internal by hide
 ";

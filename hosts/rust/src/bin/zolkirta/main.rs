@@ -1,4 +1,4 @@
-//! `zolkirta`, the tool: reads, judges, reduces, joins, compares and rewrites models by file name. Its help says how.
+//! `zolkirta`, the tool: reads, judges, reduces, joins, compares, rewrites and composes models by file name. Its help says how.
 
 mod answer;
 mod automaton;
@@ -63,7 +63,7 @@ fn run(command: &Command) -> u8 {
 fn answer(command: &Command) -> Result<Verdict<'_>, Failure> {
     let files = input::read(command)?;
     let slices: Vec<&[u8]> = files.iter().map(Vec::as_slice).collect();
-    let answer = command.call.answer(&slices, &command.states);
+    let answer = command.call.answer(&slices, &command.numbers);
     let verdict = Verdict { command, files, answer };
     output::write(command.outputs.iter().zip(verdict.products()))?;
     Ok(verdict)

@@ -37,6 +37,8 @@ fn object(verdict: &Verdict) -> Value {
         ("alike", found.and_then(alike).into()),
         ("certificate_written", certificate.map(|(_, bytes)| bytes.len()).into()),
         ("certificate_output", certificate.map(|(output, _)| output.name()).into()),
+        ("right_states", found.and_then(|found| right_states(found, &verdict.files)).into()),
+        ("made_internal", found.and_then(made_internal).into()),
     ])
 }
 
@@ -66,6 +68,20 @@ fn sheet(found: &Found) -> Option<&str> {
 fn run(found: &Found) -> Option<Value> {
     match found {
         Found::Fetched(run) => Some(Value::list(run)),
+        _ => None,
+    }
+}
+
+fn right_states(found: &Found, files: &[Vec<u8>]) -> Option<usize> {
+    match found {
+        Found::Composed(_) => Some(states(&files[1])),
+        _ => None,
+    }
+}
+
+fn made_internal(found: &Found) -> Option<usize> {
+    match found {
+        Found::Hidden { made_internal, .. } => Some(made_internal.values().sum()),
         _ => None,
     }
 }

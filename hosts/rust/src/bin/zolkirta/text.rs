@@ -1,7 +1,7 @@
 //! The verdict in words: a line that says it, and what else there is.
 
 use crate::answer::Found;
-use crate::automaton::{states, transitions, Target, Transition};
+use crate::automaton::{actions, highest_label, states, transitions, Target, Transition};
 use crate::input::shown_input;
 use crate::prism::Line;
 use crate::verdict::{Place, Verdict};
@@ -11,6 +11,9 @@ use zolkirta::{Difference, OwnedRefusal};
 /// The refusals of states that a model does not have: of one to fetch, and of one to compare.
 const NO_STATE: u32 = 24;
 const NOT_IN_PARTS: u32 = 27;
+
+/// The refusal of a composition that passes a limit.
+const COMPOSED_MODEL: u32 = 37;
 
 /// The refusal whose left side must be below the right one; others with a difference ask for equal sides.
 const LAST_PRICES: u32 = 16;
@@ -34,12 +37,19 @@ fn first_line(verdict: &Verdict, found: &Found) -> String {
         Found::Joined { counts: [first, second], joined } => {
             format!("accepted: {}, {first} of the first model and {second} of the second", counted(states(joined), "state"))
         }
+        Found::Composed(model) => {
+            let [left, right] = [0, 1].map(|file: usize| states(&verdict.files[file]));
+            format!("accepted: {}, {left} of the left model times {right} of the right", counted(states(model), "state"))
+        }
+        Found::Hidden { made_internal, .. } => {
+            format!("accepted: {} made internal", counted(made_internal.values().sum(), "transition"))
+        }
         Found::Fetched(run) => {
             let leave = if run.len() == 1 { "leaves" } else { "leave" };
-            format!("accepted: {} {leave} state {}", counted(run.len(), "transition"), verdict.command.states[0])
+            format!("accepted: {} {leave} state {}", counted(run.len(), "transition"), verdict.command.numbers[0])
         }
         Found::Alike(yes) => {
-            let (s, t) = (verdict.command.states[0], verdict.command.states[1]);
+            let (s, t) = (verdict.command.numbers[0], verdict.command.numbers[1]);
             let (word, behaves) = if *yes { ("yes", "behaves") } else { ("no", "does not behave") };
             format!("{word}: state {s} of {} {behaves} as state {t} of {}", verdict.shown(0), verdict.shown(1))
         }
@@ -56,6 +66,11 @@ fn further_lines(verdict: &Verdict, found: &Found) -> String {
         Found::Fetched(run) => run.iter().map(transition_line).collect(),
         Found::Alike(_) => String::new(),
         Found::Reduced { merged: model, .. } | Found::Joined { joined: model, .. } => model_line(verdict, model),
+        Found::Composed(model) => composition_lines(&verdict.files[0], &verdict.files[1]) + &model_line(verdict, model),
+        Found::Hidden { made_internal, model } => {
+            let line = |(action, count): (&u8, &usize)| format!("action {action}: {}\n", counted(*count, "transition"));
+            made_internal.iter().map(line).collect::<String>() + &model_line(verdict, model)
+        }
         Found::Read { names, model } => {
             let name_lines: String = names.iter().zip(1..).map(|(name, action)| format!("action {action}: {name}\n")).collect();
             name_lines + &model_line(verdict, model)
@@ -68,6 +83,21 @@ fn further_lines(verdict: &Verdict, found: &Found) -> String {
             written_line(verdict, 0, &format!("{}, {}", counted(sheet.lines().count(), "line"), counted(sheet.len(), "byte")))
         }
     }
+}
+
+/// Which number, which label and which moves the states of a composition have.
+fn composition_lines(left: &[u8], right: &[u8]) -> String {
+    let shared = match actions(left).min(actions(right)) - 1 {
+        0 => "none is".to_owned(),
+        1 => "1 is".to_owned(),
+        last => format!("1 to {last} are"),
+    };
+    let (count, labels) = (states(right), u32::from(highest_label(right)) + 1);
+    format!(
+        "states: s of the left with e of the right is s * {count} + e\n\
+         labels: l of the left with r of the right is l * {labels} + r\n\
+         actions: {shared} done together\n"
+    )
 }
 
 fn model_line(verdict: &Verdict, model: &[u8]) -> String {
@@ -115,6 +145,7 @@ fn refused_lines(verdict: &Verdict, refusal: &OwnedRefusal) -> String {
     let off = refusal.difference.map_or(String::new(), |difference| off_by(refusal.number, difference));
     let more = match refusal.number {
         NO_STATE | NOT_IN_PARTS => verdict.models().map(|(name, model)| states_line(&name, model)).collect(),
+        COMPOSED_MODEL => verdict.models().map(|(name, model)| sizes_line(&name, model)).collect(),
         _ => place.map_or(String::new(), stretch_line),
     };
     format!("refused: {}, {}{at}{off}\n{more}", refusal.number, refusal.meaning())
@@ -126,6 +157,12 @@ fn states_line(name: &str, model: &[u8]) -> String {
         1 => format!("{name} has state 0 alone\n"),
         count => format!("{name} has the states 0 to {}\n", count - 1),
     }
+}
+
+/// How large a sound model is, as far as its head and its labels say.
+fn sizes_line(name: &str, model: &[u8]) -> String {
+    let [states, transitions] = [counted(states(model), "state"), counted(transitions(model), "transition")];
+    format!("{name} has {states}, {transitions} and labels up to {}\n", highest_label(model))
 }
 
 /// The state, and by how much its left side is off: an equation's should equal the right one, the last price condition's be below it.

@@ -37,6 +37,7 @@ impl Verdict<'_> {
     pub fn products(&self) -> Vec<&[u8]> {
         match &self.answer {
             Ok(Found::Reduced { merged: model, .. } | Found::Joined { joined: model, .. } | Found::Read { model, .. }) => vec![model],
+            Ok(Found::Composed(model) | Found::Hidden { model, .. }) => vec![model],
             Ok(Found::Sheet { sheet, .. }) => vec![sheet.as_bytes()],
             Ok(Found::Rewritten { model, certificate, .. }) => vec![model, certificate],
             _ => Vec::new(),

@@ -1,0 +1,10 @@
+pub mod Records
+pub mod Needs
+pub mod Own
+pub mod Gathering
+pub mod RunLoops
+pub mod RecordsLaws
+pub mod ModelsLaws
+pub mod MovesLaws
+pub mod OwnLaws
+pub mod StateLaws

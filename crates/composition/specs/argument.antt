@@ -1,0 +1,20 @@
+-- Laws and theorems: the argument, which the prover has read.
+pub mod GatheredLaws
+pub mod GatheredRows
+pub mod Spans
+pub mod SharedLaws
+pub mod PairEntriesLaws
+pub mod MovedLaws
+pub mod MoveSources
+pub mod MovesLaws
+pub mod ComposedLabels
+pub mod CompositionAutomaton
+pub mod PairCounts
+pub mod ComposedCounts
+pub mod HidingLaws
+pub mod PairTransitionLaws
+pub mod SoundComposition
+pub mod WrittenLaws
+pub mod HideAnswerLaws
+pub mod ComposeAnswerLaws
+pub mod CompositionBlocks

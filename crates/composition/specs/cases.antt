@@ -1,0 +1,4 @@
+-- Computed cases.
+pub mod CompositionCases
+pub mod ComposeCases
+pub mod HidingCases

@@ -1,0 +1,5 @@
+pub mod Members
+pub mod MembersLaws
+pub mod Hide
+pub mod HidingFile
+pub mod HideLaws

@@ -6,9 +6,9 @@
  * lent buffer.
  *
  * Stack. zolkirta_judge, zolkirta_judge_costs and zolkirta_alike use at most 12,500 bytes each, zolkirta_sheet 16,500, zolkirta_reduce
- * 23,500, zolkirta_rewrite and zolkirta_rewrite_costs 18,500, zolkirta_read_prism 11,000, zolkirta_compose 7,000, zolkirta_hide 2,800,
- * zolkirta_join and zolkirta_fetch 2,500 (measured, rounded up). In a dynamically linked program the loader adds some 3 KiB when it
- * binds memcpy or memset at the first call. No heap is used.
+ * 23,500, zolkirta_rewrite and zolkirta_rewrite_costs 18,500, zolkirta_read_prism 11,000, zolkirta_compose 7,000, zolkirta_sentence
+ * 5,000, zolkirta_hide 2,800, zolkirta_join and zolkirta_fetch 2,500 (measured, rounded up). In a dynamically linked program the loader
+ * adds some 3 KiB when it binds memcpy or memset at the first call. No heap is used.
  *
  * Threads. The library has no state and keeps no pointer: any number of calls may run at once.
  *
@@ -20,8 +20,8 @@
 #include <stddef.h>
 #include <stdint.h>
 
-#define ZOLKIRTA_VERSION "0.11.0"
-#define ZOLKIRTA_VERSION_NUMBER 1100 /* major * 10000 + minor * 100 + patch */
+#define ZOLKIRTA_VERSION "0.12.0"
+#define ZOLKIRTA_VERSION_NUMBER 1200 /* major * 10000 + minor * 100 + patch */
 
 /* The most states that a model has: a block buffer of this length is always long enough. */
 #define ZOLKIRTA_STATES 128
@@ -31,6 +31,8 @@
 #define ZOLKIRTA_MODEL 8072
 /* The bytes of the longest sheet, 128 lines of 73: a sheet buffer of this length is always long enough. */
 #define ZOLKIRTA_SHEET 9344
+/* A sentence buffer of this length is always long enough. */
+#define ZOLKIRTA_SENTENCE 201
 /* Versions before 0.7.0 have 64 states, 1,024 entries and 2,016 refutations for limits, and versions before 0.10.0 take fractions in any terms.
  * What they accept is accepted with the same blocks, once zolkirta_rewrite has put it into lowest terms where it is not; they refuse a larger
  * sound model with 3 or 8. */
@@ -39,58 +41,73 @@
 extern "C" {
 #endif
 
-/* The numbers that a call answers: 0, or one refusal. */
+/* The numbers that a call answers: 0, or one refusal. Each comment begins with the words that zolkirta_sentence has for the number; what is
+ * said behind a semicolon is more exact. */
 enum zolkirta_number {
-    ZOLKIRTA_ACCEPTED = 0,
+    ZOLKIRTA_ACCEPTED = 0,              /* everything that was asked for was done and nothing was refused */
     /* in a model: file 1, or file 3 for the second of two */
-    ZOLKIRTA_MODEL_ENDS = 1,            /* the file ends inside a record */
-    ZOLKIRTA_MODEL_MARK = 2,            /* a record has a wrong mark */
-    ZOLKIRTA_MODEL_HEAD = 3,            /* the state, action or transition count is outside its range */
-    ZOLKIRTA_LABEL = 4,                 /* a label is above 63 */
-    ZOLKIRTA_TRANSITION = 5,            /* a source descends or is absent, an action is absent, d is 0, or a bad entry count */
-    ZOLKIRTA_ENTRY = 6,                 /* an entry's state is absent or does not ascend, or its weight is 0 */
-    ZOLKIRTA_SUM = 7,                   /* a transition's weights do not add up to d */
-    ZOLKIRTA_ENTRIES = 8,               /* the entries so far pass 2,048 */
-    ZOLKIRTA_MODEL_BYTES_LEFT = 9,      /* bytes are left after the last record */
+    ZOLKIRTA_MODEL_ENDS = 1,            /* the model file ends inside a record or where the next one should begin */
+    ZOLKIRTA_MODEL_MARK = 2,            /* a record of the model does not begin with the mark that belongs there */
+    ZOLKIRTA_MODEL_HEAD = 3,            /* the head of the model gives a number of states, actions or transitions that is not allowed;
+                                           allowed are 1 to 128 states, 1 to 32 actions and up to 256 transitions */
+    ZOLKIRTA_LABEL = 4,                 /* the model has a label that is higher than allowed; 63 is the highest */
+    ZOLKIRTA_TRANSITION = 5,            /* a transition of the model has a source, action, denominator or entry count that is not allowed;
+                                           a source descends or is absent, an action is absent, d is 0, or a count is 0 or above the state count */
+    ZOLKIRTA_ENTRY = 6,                 /* a transition of the model leads to an unknown or misplaced state or has a weight of zero;
+                                           absent, or not above the one before */
+    ZOLKIRTA_SUM = 7,                   /* the weights of a transition do not add up to its denominator */
+    ZOLKIRTA_ENTRIES = 8,               /* the transitions of the model have more entries together than are allowed;
+                                           2,048 are, those of this record included */
+    ZOLKIRTA_MODEL_BYTES_LEFT = 9,      /* the model file goes on after the model has ended */
     /* of the call, no file and no place */
-    ZOLKIRTA_BLOCK_BUFFER = 10,         /* the block buffer is shorter than the state count */
+    ZOLKIRTA_BLOCK_BUFFER = 10,         /* the buffer that was lent for the blocks is too short for all states */
     /* in the certificate, file 2 */
-    ZOLKIRTA_CERTIFICATE_ENDS = 11,     /* the file ends inside a record */
-    ZOLKIRTA_CERTIFICATE_MARK = 12,     /* a record has a wrong mark */
-    ZOLKIRTA_CERTIFICATE_HEAD = 13,     /* the refutation count is above 8,128 */
-    ZOLKIRTA_REFUTED_PAIR = 14,         /* a refutation's transition or state is absent, t is s, or the pair is not related */
-    ZOLKIRTA_PRICES = 15,               /* a price condition other than the last breaks */
-    ZOLKIRTA_LAST_PRICES = 16,          /* the last price condition breaks */
-    ZOLKIRTA_BLOCK_NUMBERS = 17,        /* the blocks are not numbered by first appearance */
-    ZOLKIRTA_BLOCKS = 18,               /* the blocks differ from the pairs left */
-    ZOLKIRTA_FLOW = 19,                 /* a flow's D is 0, or an entry is out of order, zero, absent or not in the question */
-    ZOLKIRTA_FLOW_EQUATION = 20,        /* an equation at some v breaks */
-    ZOLKIRTA_TARGET_EQUATION = 21,      /* an equation at some u breaks */
-    ZOLKIRTA_CERTIFICATE_BYTES_LEFT = 22, /* bytes are left after the last flow */
+    ZOLKIRTA_CERTIFICATE_ENDS = 11,     /* the certificate file ends inside a record or where the next one should begin */
+    ZOLKIRTA_CERTIFICATE_MARK = 12,     /* a record of the certificate does not begin with the mark that belongs there */
+    ZOLKIRTA_CERTIFICATE_HEAD = 13,     /* the head of the certificate announces more refutations than are allowed; 8,128 are */
+    ZOLKIRTA_REFUTED_PAIR = 14,         /* a refutation names an unknown transition or state or a pair of states that it cannot part;
+                                           they are one state, or not related */
+    ZOLKIRTA_PRICES = 15,               /* a price condition of a refutation, other than its last one, does not hold */
+    ZOLKIRTA_LAST_PRICES = 16,          /* the last price condition of a refutation does not hold */
+    ZOLKIRTA_BLOCK_NUMBERS = 17,        /* the blocks of the certificate are not numbered in the order in which they first appear */
+    ZOLKIRTA_BLOCKS = 18,               /* the blocks of the certificate do not agree with the pairs of states that are still related */
+    ZOLKIRTA_FLOW = 19,                 /* a flow moves nothing or has an entry that is out of order, zero, unknown or out of place;
+                                           D is 0, or an entry is not in the question */
+    ZOLKIRTA_FLOW_EQUATION = 20,        /* what comes to a state in a flow is not what leaves it; an equation at some v breaks */
+    ZOLKIRTA_TARGET_EQUATION = 21,      /* what a flow leaves at a target is not the share that the challenging transition has there;
+                                           an equation at some u breaks */
+    ZOLKIRTA_CERTIFICATE_BYTES_LEFT = 22, /* the certificate file goes on after its last flow */
     /* of the call, no file and no place */
-    ZOLKIRTA_OUTPUT_BUFFER = 23,        /* the certificate is accepted, and the buffer is shorter than the merged model's file */
-    ZOLKIRTA_STATE = 24,                /* the state to fetch is not below the state count */
-    ZOLKIRTA_JOINED_MODEL = 25,         /* the joined model has more than 128 states, 256 transitions or 2,048 entries */
-    ZOLKIRTA_JOINED_BUFFER = 26,        /* the buffer is shorter than the joined model's file */
-    ZOLKIRTA_PARTS = 27,                /* accepted, and the first's count is above the state count or a state is not in its part */
-    ZOLKIRTA_SHEET_BUFFER = 28,         /* the certificate is accepted, and the buffer is shorter than the sheet */
+    ZOLKIRTA_OUTPUT_BUFFER = 23,        /* the certificate is accepted but the lent buffer is too short for the merged model */
+    ZOLKIRTA_STATE = 24,                /* the model does not have the state whose transitions were asked for */
+    ZOLKIRTA_JOINED_MODEL = 25,         /* the two models joined to one have more states, transitions or entries than are allowed;
+                                           128, 256 and 2,048 are */
+    ZOLKIRTA_JOINED_BUFFER = 26,        /* the lent buffer is too short for the two models joined to one */
+    ZOLKIRTA_PARTS = 27,                /* the certificate is accepted but a state to be compared is not in its part of the model;
+                                           as the second never is where the first's count is above the state count */
+    ZOLKIRTA_SHEET_BUFFER = 28,         /* the certificate is accepted but the lent buffer is too short for the sheet of blocks */
     /* in a cost model, file 1, at the byte of the cost */
-    ZOLKIRTA_COST = 29,                 /* a cost is above 63 */
+    ZOLKIRTA_COST = 29,                 /* the model has a cost that is higher than allowed; 63 is the highest */
     /* in the certificate of a cost model, file 2 */
-    ZOLKIRTA_COST_EQUATION = 30,        /* a flow's cost equation breaks */
+    ZOLKIRTA_COST_EQUATION = 30,        /* what a flow costs is not what the challenging transition costs; the cost equation breaks */
     /* in a text of PRISM, file 1, at the first byte of a line; 31 also at the text's end */
-    ZOLKIRTA_LINE = 31,                 /* a line breaks the form or a limit, or the head's counts are not the text's */
-    ZOLKIRTA_CHOICE_SUM = 32,           /* the probabilities of a choice do not add up to 1 */
+    ZOLKIRTA_LINE = 31,                 /* a line of the text is missing, surplus, too much for a model or not of the right form;
+                                           or the head's counts are not the text's */
+    ZOLKIRTA_CHOICE_SUM = 32,           /* the probabilities of a choice in the text do not add up to one */
     /* of the call, no file and no place */
-    ZOLKIRTA_MODEL_BUFFER = 33,         /* the text is sound, and the buffer is shorter than its model's file */
+    ZOLKIRTA_MODEL_BUFFER = 33,         /* the lent buffer is too short for the model that the text holds */
     /* in a model, after 7, by every call but the two that rewrite: file 1, or file 3 for the second of two */
-    ZOLKIRTA_TERMS = 34,                /* a transition's weights have a common divisor above 1 */
+    ZOLKIRTA_TERMS = 34,                /* the weights of a transition have a common divisor and so are not in lowest terms; the divisor is above 1 */
     /* of the two calls that rewrite: in the certificate, file 2, then of the call, no file and no place */
-    ZOLKIRTA_REWRITTEN_K = 35,          /* the certificate is accepted, and a k of the rewritten flow is above 4,294,967,295 */
-    ZOLKIRTA_REWRITTEN_BUFFER = 36,     /* the certificate is accepted, and a buffer is shorter than its rewritten file */
+    ZOLKIRTA_REWRITTEN_K = 35,          /* the certificate is accepted but a number of a flow becomes too large in lowest terms;
+                                           a k above 4,294,967,295 */
+    ZOLKIRTA_REWRITTEN_BUFFER = 36,     /* the certificate is accepted but a lent buffer is too short for a file in lowest terms */
     /* of the call, no file and no place */
-    ZOLKIRTA_COMPOSED_MODEL = 37,       /* the composition passes a limit: 128 states, 256 transitions, 2,048 entries, d 65,535 or label 63 */
-    ZOLKIRTA_COMPOSED_BUFFER = 38       /* the buffer is shorter than the file of the composition, or of the model with actions hidden */
+    ZOLKIRTA_COMPOSED_MODEL = 37,       /* the composition of the two models goes beyond what a model may hold;
+                                           128 states, 256 transitions, 2,048 entries, d 65,535 and label 63 */
+    ZOLKIRTA_COMPOSED_BUFFER = 38,      /* the lent buffer is too short for the composed model or for the one with actions hidden */
+    /* of the call that composes sentences, no file and no place */
+    ZOLKIRTA_SENTENCE_BUFFER = 39       /* the lent buffer is too short for the sentence */
 };
 
 /* What a call answers.
@@ -250,6 +267,16 @@ zolkirta_answer zolkirta_compose(const uint8_t *left, size_t left_length, const 
  * States that behave alike do so with actions hidden. */
 zolkirta_answer zolkirta_hide(const uint8_t *model, size_t model_length, const uint8_t *actions, size_t actions_length, uint8_t *out,
                               size_t out_length);
+
+/* Composes the English sentence of an answer, for support staff and those who call them: its number, what that means, and its file, place, state
+ * and remainder, all in decimal. `Answer 20: what comes to a state in a flow is not what leaves it (file 2, place 79, state 1, remainder 1).`
+ * Each number has its words, those of later versions up to 41 too, and all others have the same; no two are alike. The five values are taken
+ * as they are, every one of their widths. Number 0: the first `written` bytes of `out` are the sentence, in ASCII, without a newline and
+ * without a byte 0; its later bytes stay. Else 39, where `out` is shorter than the sentence (no file, no place), which writes nothing.
+ *
+ * Answers that differ in any of the five never have the same sentence. */
+zolkirta_answer zolkirta_sentence(uint32_t number, uint32_t file, size_t place, uint32_t state, int64_t remainder, uint8_t *out,
+                                  size_t out_length);
 
 #ifdef __cplusplus
 }

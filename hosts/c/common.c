@@ -1,4 +1,3 @@
-#include <inttypes.h>
 #include <stdio.h>
 #include <stdlib.h>
 
@@ -58,14 +57,12 @@ uint32_t read_number(const char *digits, uint32_t most, const char *thing)
 
 void print_answer(zolkirta_answer answer)
 {
-    static const char *const files[] = {"no file", "the model", "the certificate", "the second model", "an unknown file"};
-    if (answer.number == ZOLKIRTA_ACCEPTED)
-        printf("accepted, %zu bytes", answer.written);
-    else
-        printf("refused %u", (unsigned)answer.number);
-    if (answer.file)
-        printf(" in %s, at byte %zu", files[answer.file < 4 ? answer.file : 4], answer.place);
-    if (answer.number == ZOLKIRTA_LAST_PRICES || answer.number == ZOLKIRTA_FLOW_EQUATION || answer.number == ZOLKIRTA_TARGET_EQUATION)
-        printf(": state %" PRIu32 ", remainder %" PRId64, answer.state, answer.remainder);
-    puts("");
+    uint8_t sentence[ZOLKIRTA_SENTENCE];
+    zolkirta_answer said;
+    if (answer.number == ZOLKIRTA_ACCEPTED) {
+        printf("accepted, %zu bytes\n", answer.written);
+        return;
+    }
+    said = zolkirta_sentence(answer.number, answer.file, answer.place, answer.state, answer.remainder, sentence, sizeof sentence);
+    printf("%.*s\n", (int)said.written, (const char *)sentence);
 }

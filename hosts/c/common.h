@@ -8,5 +8,5 @@ void write_file(const char *path, const uint8_t *bytes, size_t length);
 /* A decimal number up to the highest; `thing` is what it is for. */
 uint32_t read_number(const char *digits, uint32_t most, const char *thing);
 
-/* A line with the number, file and place, for 16, 20 and 21 also state and remainder. */
+/* A line: how many bytes were written, or the sentence of a refusal. */
 void print_answer(zolkirta_answer answer);

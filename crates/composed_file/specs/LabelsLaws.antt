@@ -16,8 +16,9 @@ use Rattle.writer.specs.Appends.{Appends}
 use Rattle.composition.specs.definitions.Composition.{gathered, composed}
 use Rattle.composition.specs.argument.GatheredLaws.{gathered-cong}
 use Rattle.composition.specs.argument.ComposedLabels.{composed-states, composed-label}
+use Rattle.writer.specs.AppendsLaws.{appended-as}
 use Rattle.composed_size.specs.Sides.{composedIn}
-use Rattle.composed_states.specs.Gathering.{appended-as, Gathering, gathering-start, gathering-room, gathering-all}
+use Rattle.composed_states.specs.Gathering.{Gathering, gathering-start, gathering-room, gathering-all}
 use Rattle.composed_file.specs.Labels.{labelByte, labelRow, CanWriteLabelRow, CanWriteLabels}
 
 -- the next of a row

@@ -12,8 +12,9 @@ use Rattle.runs.specs.Runs.{IsPast, Splits}
 use Rattle.runs.specs.RunsLaws.{splits-start, splits-next}
 use Rattle.writer.specs.Appends.{Appends}
 use Rattle.composition.specs.definitions.Composition.{gathered}
+use Rattle.writer.specs.AppendsLaws.{appended-as}
 use Rattle.composed_states.specs.Needs.{IsRun}
-use Rattle.composed_states.specs.Gathering.{appended-as, Gathering, gathering-start, gathering-room, gathering-turn, gathering-all}
+use Rattle.composed_states.specs.Gathering.{Gathering, gathering-start, gathering-room, gathering-turn, gathering-all}
 
 -- the bytes f of the states below v are appended, and the transitions from `first` on leave v or later ones
 pub record StateLoop (A : Automaton) (count : ℕ) (f : ℕ → List ℕ) (at : ℕ) (before : List ℕ) (first v : ℕ) (out : List ℕ) (next : ℕ) : Type 0 where

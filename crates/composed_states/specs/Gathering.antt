@@ -6,7 +6,7 @@ use lib.ListN.{length, length-append}
 use native.Mathlib.Decide.{ℕ-discrete}
 use native.Mathlib.Omega.{arith}
 use Rattle.writer.specs.Appends.{Appends}
-use Rattle.writer.specs.AppendsLaws.{append-none, append-more}
+use Rattle.writer.specs.AppendsLaws.{appended-as, append-none, append-more}
 use Rattle.composition.specs.definitions.Composition.{gathered}
 use Rattle.composition.specs.argument.GatheredLaws.{gathered-next, gathered-none, gathered-past}
 
@@ -15,10 +15,6 @@ pub record Gathering (f : ℕ → List ℕ) (n at : ℕ) (before : List ℕ) (k 
   pub below : k ≤ n
   pub appended : Appends (gathered k f) at before out next
   pub room : at + length (gathered n f) ≤ length before
-
--- bytes appended, by another name
-pub appended-as : {xs ys : List ℕ} {at next : ℕ} {a b : List ℕ} → ys ≡ xs → Appends xs at a b next → Appends ys at a b next
-appended-as {at = at} {next} {a} {b} e = subst (λ (bytes : List ℕ). Appends bytes at a b next) (sym e)
 
 -- a part is no longer than the whole
 gathered-part : (f : ℕ → List ℕ) (k n : ℕ) → k ≤ n → length (gathered k f) ≤ length (gathered n f)

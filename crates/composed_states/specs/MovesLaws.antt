@@ -10,14 +10,13 @@ use Rattle.model.specs.declared.Model.{Model as Found}
 use Rattle.transition.specs.Known.{automatonIn, KnownTransition, FieldsOf}
 use Rattle.transition.specs.KnownLaws.{known-states, known-transitions, known-transition}
 use Rattle.writer.specs.Appends.{Appends}
-use Rattle.writer.specs.AppendsLaws.{append-none}
+use Rattle.writer.specs.AppendsLaws.{appended-as, append-none}
 use Rattle.composition.specs.definitions.Composition.{sharedBelow, isShared, moved}
 use Rattle.composed_size.specs.CountedLaws.{shared-sides}
 use Rattle.composed_moves.specs.MoveRecords.{leftRecord, togetherRecord, CanWriteLeft, CanWriteTogether}
 use Rattle.composed_states.specs.declared.Run.{Run}
 use Rattle.composed_states.specs.Records.{partnerRecord, partnerRecords, leftMoveRecords, leftRecords}
 use Rattle.composed_states.specs.Needs.{IsRun, CanWriteMoves, CanWritePartner, CanWritePartners}
-use Rattle.composed_states.specs.Gathering.{appended-as}
 use Rattle.composed_states.specs.RunLoops.{RunLoop, run-room}
 use Rattle.composed_states.specs.RecordsLaws.{partner-none, partner-one, partners-of-run, left-alone, left-together, left-of-run}
 use Rattle.composed_states.specs.ModelsLaws.{left-known, right-known, right-states, states-fit, together-fits}

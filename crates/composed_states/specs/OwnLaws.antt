@@ -14,7 +14,7 @@ use Rattle.model.specs.declared.Model.{Model as Found}
 use Rattle.transition.specs.Known.{automatonIn, KnownTransition, FieldsOf}
 use Rattle.transition.specs.KnownLaws.{known-transitions, known-transition}
 use Rattle.writer.specs.Appends.{Appends}
-use Rattle.writer.specs.AppendsLaws.{append-none}
+use Rattle.writer.specs.AppendsLaws.{appended-as, append-none}
 use Rattle.composition.specs.definitions.Composition.{gathered, isShared, rightMove, moved}
 use Rattle.composition.specs.argument.GatheredLaws.{gathered-cong}
 use Rattle.composed_size.specs.Sides.{CanCompose}
@@ -25,7 +25,6 @@ use Rattle.composed_states.specs.declared.Run.{Run}
 use Rattle.composed_states.specs.Records.{recordsOf}
 use Rattle.composed_states.specs.Needs.{IsRun}
 use Rattle.composed_states.specs.Own.{ownRecord, ownRecordFrom, ownRecords, CanWriteOwn, CanWriteOwns}
-use Rattle.composed_states.specs.Gathering.{appended-as}
 use Rattle.composed_states.specs.RunLoops.{OfRun, RunLoop, run-room}
 use Rattle.composed_states.specs.RecordsLaws.{no-records, one-record, records-gathered}
 use Rattle.composed_states.specs.ModelsLaws.{right-known, right-states}

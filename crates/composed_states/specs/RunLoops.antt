@@ -7,9 +7,10 @@ use native.Mathlib.Omega.{arith}
 use Rattle.bisimulation.specs.definitions.Automaton.{Automaton}
 use Rattle.writer.specs.Appends.{Appends}
 use Rattle.composition.specs.definitions.Composition.{gathered}
+use Rattle.writer.specs.AppendsLaws.{appended-as}
 use Rattle.composed_states.specs.declared.Run.{Run}
 use Rattle.composed_states.specs.Needs.{IsRun}
-use Rattle.composed_states.specs.Gathering.{appended-as, Gathering, gathering-from, gathering-room, gathering-turn, gathering-end}
+use Rattle.composed_states.specs.Gathering.{Gathering, gathering-from, gathering-room, gathering-turn, gathering-end}
 
 -- records gathered from all transitions: g's of those that leave a state, and none of others
 pub record OfRun (A : Automaton) (run : Run) (records : List ℕ) (f g : ℕ → List ℕ) : Type 0 where

@@ -7,12 +7,11 @@ use native.Mathlib.Omega.{arith}
 use Rattle.model.specs.declared.Model.{Model as Found}
 use Rattle.transition.specs.Known.{automatonIn}
 use Rattle.writer.specs.Appends.{Appends}
-use Rattle.writer.specs.AppendsLaws.{append-more}
+use Rattle.writer.specs.AppendsLaws.{appended-as, append-more}
 use Rattle.composed_states.specs.declared.Run.{Run}
 use Rattle.composed_states.specs.Records.{leftRecords, stateRecords}
 use Rattle.composed_states.specs.Needs.{IsRun, CanWriteMoves}
 use Rattle.composed_states.specs.Own.{ownRecords, CanWriteOwns}
-use Rattle.composed_states.specs.Gathering.{appended-as}
 use Rattle.composed_states.specs.RecordsLaws.{state-parts}
 use Rattle.composed_states.specs.ModelsLaws.{row-fits}
 use Rattle.composed_states.specs.OwnLaws.{own-records}

@@ -1,7 +1,9 @@
 // Document 01's judging program, as functions that programs call.
 ghost use Rattle.io.specs.Counts.{Counts};
+use libc::STDERR_FILENO;
 use libc::STDOUT_FILENO;
 use limits::STATES;
+use sentence::LONGEST;
 
 // Of the model file the first 16,384 bytes are read, more than any model has; of the certificate file up to 49,152.
 pub const MODEL: usize = 16384;
@@ -52,7 +54,16 @@ pub fn print_result(number: u32, file: u32, place: usize) {
     print(b"\n");
 }
 
-// Judges a pair and prints the answer: number, file and place, and on acceptance each state with its block.
+// The sentence of a refusal, for people: a line on descriptor 2.
+fn say(number: u32, file: u32, place: usize, state: u32, remainder: i64) {
+    let mut text = [0u8; LONGEST];
+    let answer = sentence::sentence_answer(number, file, place, state, remainder, &mut text);
+    let end = at_most(answer.written, &text);
+    io::write_all(STDERR_FILENO, &text[..end]);
+    io::write_all(STDERR_FILENO, b"\n");
+}
+
+// Judges a pair and prints the answer: number, file and place, and on acceptance each state with its block. A refusal is also said in words.
 fn judge_and_print<'a>(model: &'a [u8], certificate: &'a [u8]) {
     let mut blocks = [0u8; STATES];
     let mut number = 0;
@@ -76,7 +87,9 @@ fn judge_and_print<'a>(model: &'a [u8], certificate: &'a [u8]) {
     if number == 0 {
         let end = at_most(written, &blocks);
         print_blocks(&blocks[..end]);
+        return;
     }
+    say(number, file, place, state, remainder);
 }
 
 // Reads the two files, each as far as its slice has room, and judges them.

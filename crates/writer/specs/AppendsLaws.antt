@@ -26,6 +26,10 @@ append-byte s at x h =
       written = set-splits s at x (omega arith) ∙ ap (λ (k : ℕ). take at s ++ (x ∷ drop k s)) e;
     }
 
+-- bytes appended, by another name
+pub appended-as : {xs ys : List ℕ} {at next : ℕ} {a b : List ℕ} → ys ≡ xs → Appends xs at a b next → Appends ys at a b next
+appended-as {at = at} {next} {a} {b} e = subst (λ (bytes : List ℕ). Appends bytes at a b next) (sym e)
+
 -- bytes after bytes
 pub append-more : {xs ys : List ℕ} {at middle next : ℕ} {a b c : List ℕ} → Appends xs at a b middle → Appends ys middle b c next → Appends (xs ++ ys) at a c next
 append-more {xs} {ys} {at} {middle} {next} {a} {b} {c} p q =

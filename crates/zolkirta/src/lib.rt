@@ -9,6 +9,7 @@ ghost use Rattle.sheet.specs.Sheet.{SheetAnswered};
 ghost use Rattle.join.specs.Join.{JoinAnswered};
 ghost use Rattle.compose.specs.Compose.{ComposeAnswered};
 ghost use Rattle.hide.specs.Hide.{HideAnswered};
+ghost use Rattle.sentence.specs.Sentence.{told, SentenceAnswered};
 ghost use Rattle.alike.specs.Alike.{named, AlikeAnswered};
 ghost use Rattle.read_prism.specs.Prism.{PrismAnswered};
 use alike::AlikeAnswer;
@@ -130,4 +131,19 @@ pub extern "C" fn zolkirta_hide(model: &[u8], actions: &[u8], out: &mut [u8]) ->
     ensures { λ r. ⌜ HideAnswered (now (model .entry)) (now (actions .entry)) (now (out .entry)) (now (out .exit)) r ⌝ }
 {
     hide::hide_answer(model, actions, out)
+}
+
+// Writes an English sentence that tells the number of an answer, with its phrase, and its file, place, state and remainder.
+#[no_mangle]
+pub extern "C" fn zolkirta_sentence(
+    number: u32,
+    file: u32,
+    place: usize,
+    state: u32,
+    remainder: i64,
+    out: &mut [u8],
+) -> Answer
+    ensures { λ r. ⌜ SentenceAnswered (told number file place state remainder) (now (out .entry)) (now (out .exit)) r ⌝ }
+{
+    sentence::sentence_answer(number, file, place, state, remainder, out)
 }

@@ -6,8 +6,8 @@
 //! [`alike`] says whether a state of the one behaves as a state of the other. [`judge_costs`] judges where each transition has a cost.
 //! [`read_prism`] makes a model of PRISM's transition file. [`rewrite`] and [`rewrite_costs`] take a stored pair whose fractions are not in
 //! lowest terms, which every other call refuses, and write it in lowest terms. [`compose`] writes two models that work side by side, and
-//! [`hide`] a model with some of its actions made internal. What is not accepted gets one numbered [`Refusal`]. The tool `zolkirta` makes
-//! these calls by file name: `zolkirta --help` tells how.
+//! [`hide`] a model with some of its actions made internal. What is not accepted gets one numbered [`Refusal`], which says itself in the words
+//! of [`sentence`]. The tool `zolkirta` makes these calls by file name: `zolkirta --help` tells how.
 //!
 //! The small pair S of document 01: state 0 moves to state 2 by action 1, state 1 moves to state 0 internally.
 //!
@@ -47,6 +47,9 @@ pub const MODEL: usize = 8072;
 /// The bytes of the longest sheet. A sheet buffer of this length is always long enough.
 pub const SHEET: usize = 9344;
 
+/// A sentence buffer of this length is always long enough.
+pub const SENTENCE: usize = 201;
+
 /// A file that was handed to a call.
 #[derive(Clone, Copy, Debug, PartialEq, Eq, Hash)]
 #[non_exhaustive]
@@ -70,18 +73,6 @@ impl File {
             File::Certificate => 2,
             File::SecondModel => 3,
             File::Unknown(number) => number,
-        }
-    }
-}
-
-impl fmt::Display for File {
-    fn fmt(&self, out: &mut fmt::Formatter) -> fmt::Result {
-        match self {
-            File::Model => out.write_str("model"),
-            File::Certificate => out.write_str("certificate"),
-            File::SecondModel => out.write_str("second model"),
-            File::Text => out.write_str("text"),
-            File::Unknown(number) => write!(out, "unknown file {number}"),
         }
     }
 }
@@ -113,13 +104,13 @@ impl fmt::Display for Difference {
     }
 }
 
-/// Why a call did not accept. A refusal writes no byte of any lent buffer.
+/// Why a call did not accept, which it says as the library's [`sentence`]. A refusal writes no byte of any lent buffer.
 ///
 /// It borrows the file at fault. [`into_owned`](Refusal::into_owned) makes an error of it that outlives the files.
 #[derive(Clone, Copy, PartialEq, Eq)]
 #[non_exhaustive]
 pub struct Refusal<'a> {
-    /// 1 to 38: [`meaning`](Refusal::meaning) says it in words.
+    /// 1 to 39.
     pub number: u32,
     /// The file at fault, if one is.
     pub file: Option<File>,
@@ -132,63 +123,7 @@ pub struct Refusal<'a> {
     pub difference: Option<Difference>,
 }
 
-const MEANINGS: [&str; 39] = [
-    "accepted",
-    "the file ends inside a record",
-    "a record has a wrong mark",
-    "the state, action or transition count is outside its range",
-    "a label is above 63",
-    "a source descends or is absent, an action is absent, d is 0, or a bad entry count",
-    "an entry's state is absent or does not ascend, or its weight is 0",
-    "a transition's weights do not add up to d",
-    "the entries so far pass 2,048",
-    "bytes are left after the last record",
-    "the block buffer is shorter than the state count",
-    "the file ends inside a record",
-    "a record has a wrong mark",
-    "the refutation count is above 8,128",
-    "a refutation's transition or state is absent, t is s, or the pair is not related",
-    "a price condition other than the last breaks",
-    "the last price condition breaks",
-    "the blocks are not numbered by first appearance",
-    "the blocks differ from the pairs left",
-    "a flow's D is 0, or an entry is out of order, zero, absent or not in the question",
-    "an equation at some v breaks",
-    "an equation at some u breaks",
-    "bytes are left after the last flow",
-    "the certificate is accepted, and the buffer is shorter than the merged model's file",
-    "the state to fetch is not below the state count",
-    "the joined model has more than 128 states, 256 transitions or 2,048 entries",
-    "the buffer is shorter than the joined model's file",
-    "accepted, and the first's count is above the state count or a state is not in its part",
-    "the certificate is accepted, and the buffer is shorter than the sheet",
-    "a cost is above 63",
-    "a flow's cost equation breaks",
-    "a line breaks the form or a limit, or the head's counts are not the text's",
-    "the probabilities of a choice do not add up to 1",
-    "the text is sound, and the buffer is shorter than its model's file",
-    "a transition's weights have a common divisor above 1",
-    "the certificate is accepted, and a k of the rewritten flow is above 4,294,967,295",
-    "the certificate is accepted, and a buffer is shorter than its rewritten file",
-    "the composition passes a limit: 128 states, 256 transitions, 2,048 entries, d 65,535 or label 63",
-    "the buffer is shorter than the file of the composition, or of the model with actions hidden",
-];
-
-fn meaning_of(number: u32) -> &'static str {
-    MEANINGS.get(number as usize).copied().unwrap_or("unknown number")
-}
-
 impl Refusal<'_> {
-    /// What the number means, in the words of the C header; `unknown number` for one that this crate does not know.
-    ///
-    /// ```
-    /// let refusal = zolkirta::fetch(b"PA\0", 0).unwrap_err();
-    /// assert_eq!(refusal.meaning(), "the file ends inside a record");
-    /// ```
-    pub fn meaning(&self) -> &'static str {
-        meaning_of(self.number)
-    }
-
     /// The same without the stretch, so that it may outlive the files: an error to hand upwards with `?`.
     ///
     /// ```
@@ -203,7 +138,8 @@ impl Refusal<'_> {
     /// # let (model, certificate) = ("../../examples/small.model", "../../examples/small.certificate");
     /// assert_eq!(blocks(model, certificate).unwrap(), [0, 0, 1]);
     /// let error = blocks(model, model).unwrap_err();
-    /// assert_eq!(error.to_string(), "refusal 12: a record has a wrong mark (certificate, byte 0)");
+    /// let said = "a record of the certificate does not begin with the mark that belongs there";
+    /// assert_eq!(error.to_string(), format!("Answer 12: {said} (file 2, place 0, state 0, remainder 0)."));
     /// assert_eq!(error.downcast::<zolkirta::OwnedRefusal>().unwrap().number, 12);
     /// ```
     pub fn into_owned(self) -> OwnedRefusal {
@@ -213,7 +149,8 @@ impl Refusal<'_> {
 
 /// ```
 /// let refusal = zolkirta::fetch(b"PA\x03\x02\0\x02XX", 0).unwrap_err();
-/// assert_eq!(refusal.to_string(), "refusal 2: a record has a wrong mark (model, byte 6)");
+/// let said = "a record of the model does not begin with the mark that belongs there";
+/// assert_eq!(refusal.to_string(), format!("Answer 2: {said} (file 1, place 6, state 0, remainder 0)."));
 /// ```
 impl fmt::Display for Refusal<'_> {
     fn fmt(&self, out: &mut fmt::Formatter) -> fmt::Result {
@@ -250,23 +187,12 @@ pub struct OwnedRefusal {
     pub difference: Option<Difference>,
 }
 
-impl OwnedRefusal {
-    /// What the number means: as [`Refusal::meaning`].
-    pub fn meaning(&self) -> &'static str {
-        meaning_of(self.number)
-    }
-}
-
 impl fmt::Display for OwnedRefusal {
     fn fmt(&self, out: &mut fmt::Formatter) -> fmt::Result {
-        write!(out, "refusal {}: {}", self.number, self.meaning())?;
-        if let Some(file) = self.file {
-            write!(out, " ({file}, byte {})", self.place)?;
-        }
-        match self.difference {
-            Some(difference) => write!(out, ": {difference}"),
-            None => Ok(()),
-        }
+        let (state, remainder) = self.difference.map_or((0, 0), |told| (told.state, told.remainder));
+        let file = self.file.map_or(0, File::number);
+        let mut buffer = [0; SENTENCE];
+        out.write_str(sentence(self.number, file, self.place, state, remainder, &mut buffer).expect("a buffer that is long enough"))
     }
 }
 
@@ -381,7 +307,7 @@ pub fn judge<'a, 'b>(model: &'a [u8], certificate: &'a [u8], buffer: &'b mut [u8
 ///
 /// dearer[34] = 64;
 /// let refusal = zolkirta::judge_costs(&dearer, certificate, &mut buffer).unwrap_err();
-/// assert_eq!(refusal.to_string(), "refusal 29: a cost is above 63 (model, byte 34)");
+/// assert_eq!((refusal.number, refusal.place), (29, 34)); // at the byte of the cost
 /// assert_eq!(zolkirta::fetch(model, 0).unwrap_err().place, 31); // 9: a model without costs would end here
 /// ```
 pub fn judge_costs<'a, 'b>(model: &'a [u8], certificate: &'a [u8], buffer: &'b mut [u8]) -> Result<&'b [u8], Refusal<'a>> {
@@ -426,8 +352,7 @@ pub fn reduce<'a, 'b>(model: &'a [u8], certificate: &'a [u8], buffer: &'b mut [u
 /// assert_eq!(zolkirta::sheet(model, certificate, &mut [0; 145]).unwrap_err().number, 28);
 /// ```
 pub fn sheet<'a, 'b>(model: &'a [u8], certificate: &'a [u8], buffer: &'b mut [u8]) -> Result<&'b str, Refusal<'a>> {
-    let written = lend(raw::zolkirta_sheet, [(File::Model, model), (File::Certificate, certificate)], buffer)?;
-    Ok(std::str::from_utf8(written).expect("digits, spaces and newlines"))
+    lend(raw::zolkirta_sheet, [(File::Model, model), (File::Certificate, certificate)], buffer).map(text)
 }
 
 /// Writes two models as one: the second's states and transitions follow the first's, its state numbers raised by the first's state
@@ -560,7 +485,7 @@ pub fn alike<'a>(
 /// assert_eq!(model[34..], *b"TR\x01\x02\0\x01\x01\0\0\x01");
 ///
 /// let refusal = zolkirta::read_prism(b"2 1 1\n0 0 1 0.9\n", &mut buffer).unwrap_err();
-/// assert_eq!(refusal.to_string(), "refusal 32: the probabilities of a choice do not add up to 1 (text, byte 6)");
+/// assert_eq!((refusal.number, refusal.file), (32, Some(zolkirta::File::Text)));
 /// assert_eq!(refusal.stretch, b"0 0 1 0.9\n");
 /// assert_eq!(zolkirta::read_prism(b"1 0 0\n", &mut [0; 8]).unwrap_err().number, 33);
 /// ```
@@ -582,7 +507,7 @@ pub fn read_prism<'a, 'b>(text: &'a [u8], buffer: &'b mut [u8]) -> Result<&'b [u
 /// // State 0 moves to state 1 with 2/2, and state 1 meets that by staying.
 /// let (model, certificate) = (b"PA\x02\x01\0\x01LB\0\0TR\0\0\0\x02\x01\x01\0\x02", b"CT\0\0BK\0\0FL\0\0\0\x01\0\0\0\x01\x01\x01\0\0\0\x01");
 /// let refusal = zolkirta::judge(model, certificate, &mut [0; 2]).unwrap_err();
-/// assert_eq!(refusal.to_string(), "refusal 34: a transition's weights have a common divisor above 1 (model, byte 10)");
+/// assert_eq!((refusal.number, refusal.place), (34, 10));
 ///
 /// let (mut pa, mut ct) = (model.to_vec(), certificate.to_vec());
 /// let (lowest, same) = zolkirta::rewrite(model, certificate, &mut pa, &mut ct).unwrap();
@@ -636,6 +561,30 @@ fn lend_two<'a, 'b>(
     Ok((&model_buffer[..answer.written], &certificate_buffer[..said.certificate_written]))
 }
 
+/// Composes the English sentence of an answer, for support staff: its number, what that means, and file, place, state and remainder, all in
+/// decimal. Every number has its phrase, and those that no answer has one together. The first bytes of `buffer` are then the sentence, and its
+/// text is handed back, in ASCII and without a newline; the buffer's later bytes stay. Answers that differ in any of the five never have the same
+/// sentence.
+///
+/// The values are not tested. Refusal: 39 where the buffer is shorter than the sentence ([`SENTENCE`] bytes are always enough).
+///
+/// ```
+/// let mut buffer = [0; zolkirta::SENTENCE];
+/// let said = zolkirta::sentence(20, 2, 79, 1, -2, &mut buffer).unwrap();
+/// assert_eq!(said, "Answer 20: what comes to a state in a flow is not what leaves it (file 2, place 79, state 1, remainder -2).");
+/// assert_eq!(zolkirta::sentence(20, 2, 79, 1, -2, &mut [0; 105]).unwrap_err().number, 39);
+/// ```
+pub fn sentence(number: u32, file: u32, place: usize, state: u32, remainder: i64, buffer: &mut [u8]) -> Result<&str, Refusal<'static>> {
+    // SAFETY: pointer and length are those of the slice.
+    let answer = unsafe { raw::zolkirta_sentence(number, file, place, state, remainder, buffer.as_mut_ptr(), buffer.len()) };
+    Ok(text(&buffer[..accepted(answer, &[])?.written]))
+}
+
+/// What the library writes for people is ASCII.
+fn text(written: &[u8]) -> &str {
+    std::str::from_utf8(written).expect("ASCII")
+}
+
 #[cfg(test)]
 mod tests {
     use super::*;
@@ -664,7 +613,6 @@ mod tests {
             assert_eq!(file.map_or(0, File::number), number);
         }
         assert_eq!([refusal(1, 1, 2).stretch, refusal(11, 2, 4).stretch, refusal(1, 3, 3).stretch], [&b"del"[..], b"ificate", b"ond"]);
-        assert_eq!(refusal(1, 3, 3).to_string(), "refusal 1: the file ends inside a record (second model, byte 3)");
     }
 
     #[test]
@@ -672,70 +620,73 @@ mod tests {
         let answer = raw::Answer { number: 31, file: 1, place: 6, ..raw::Answer::default() };
         let refusal = accepted(answer, &[(File::Text, b"1 1 1\n0\n")]).unwrap_err();
         assert_eq!((refusal.file, refusal.stretch, File::Text.number()), (Some(File::Text), &b"0\n"[..], 1));
-        assert!(refusal.to_string().ends_with(" (text, byte 6)"));
     }
 
     #[test]
     fn an_unknown_file_has_no_stretch() {
         let refusal = refusal(2, 4, 700);
         assert_eq!((refusal.place, refusal.stretch), (700, &[][..]));
-        assert_eq!(refusal.to_string(), "refusal 2: a record has a wrong mark (unknown file 4, byte 700)");
+        assert!(refusal.to_string().ends_with(" (file 4, place 700, state 0, remainder 0)."));
     }
 
     #[test]
-    fn an_unknown_number_is_said() {
-        for number in [39, 40, u32::MAX] {
-            assert_eq!(refusal(number, 0, 0).to_string(), format!("refusal {number}: unknown number"));
+    fn a_refusal_is_the_sentence_of_its_answer() {
+        let said = |number, file, place, state, remainder| {
+            sentence(number, file, place, state, remainder, &mut [0; SENTENCE]).map(str::to_owned)
+        };
+        for number in (1..=45).chain([u32::MAX]) {
+            for file in [0, 1, 2, 3, 4, u32::MAX] {
+                assert_eq!(Ok(refusal(number, file, 5).to_string()), said(number, file, 5, 0, 0));
+            }
         }
-        assert_eq!(refusal(39, 2, 5).to_string(), "refusal 39: unknown number (certificate, byte 5)");
+        for (number, state, remainder) in [(16, 2, 0), (16, 127, 7), (20, 0, -1), (21, 3, 5), (20, u32::MAX, i64::MIN), (21, 0, i64::MAX)] {
+            let refusal = off(number, state, remainder);
+            assert_eq!(Ok(refusal.to_string()), said(number, 2, 4, state, remainder));
+            assert_eq!(refusal.into_owned().to_string(), refusal.to_string());
+        }
     }
 
     #[test]
-    fn a_refusal_says_by_how_much_it_is_off() {
+    fn a_difference_says_which_side_is_too_much() {
         let told = [
             (off(20, 3, 5), "at state 3 the left side is 5 more than the right"),
-            (off(20, 0, -1), "at state 0 the left side is 1 less than the right"),
-            (off(21, 3, 1), "at state 3 the left side is 1 more than the right"),
-            (off(21, 0, -5), "at state 0 the left side is 5 less than the right"),
+            (off(21, 0, -1), "at state 0 the left side is 1 less than the right"),
             (off(16, 2, 7), "at state 2 the left side is 7 more than the right"),
             (off(16, 2, 0), "at state 2 the sides are equal, and the left must be below"),
+            (off(20, 1, i64::MAX), "at state 1 the left side is 9223372036854775807 more than the right"),
+            (off(20, u32::MAX, i64::MIN), "at state 4294967295 the left side is 9223372036854775808 less than the right"),
         ];
         for (refusal, words) in told {
-            let expected = format!("refusal {}: {} (certificate, byte 4): {words}", refusal.number, refusal.meaning());
-            assert_eq!(refusal.to_string(), expected);
+            assert_eq!(refusal.difference.unwrap().to_string(), words);
         }
         let debug = "Refusal { number: 20, file: Some(Certificate), place: 4, stretch: 7 bytes, \
                      difference: Some(Difference { state: 63, remainder: -72056769387430080 }) }";
         assert_eq!(format!("{:?}", off(20, 63, -72_056_769_387_430_080)), debug);
-        for (remainder, words) in [(i64::MAX, "9223372036854775807 more"), (i64::MIN, "9223372036854775808 less")] {
-            let expected = format!("at state {} the left side is {words} than the right", u32::MAX);
-            assert_eq!(Difference { state: u32::MAX, remainder }.to_string(), expected);
-        }
     }
 
     #[test]
     fn only_16_20_and_21_have_a_difference() {
-        for number in (1..=39).chain([u32::MAX]) {
+        for number in (1..=45).chain([u32::MAX]) {
             let told = [16, 20, 21].contains(&number).then_some(Difference { state: 5, remainder: 9 });
             assert_eq!(off(number, 5, 9).difference, told, "{number}");
         }
     }
 
-    /// Every number has the words that its line of the C header has.
+    /// The comment of every number in the C header begins with its phrase; what follows behind a semicolon is more exact.
     #[test]
-    fn meanings_are_those_of_the_header() {
+    fn phrases_are_those_of_the_header() {
         let (_, list) = HEADER.split_once("enum zolkirta_number {").unwrap();
-        let (list, _) = list.split_once('}').unwrap();
-        let mut said = 0;
-        for line in list.lines().filter(|line| line.contains(" = ")) {
-            let (_, value) = line.split_once(" = ").unwrap();
-            let number: usize = value.split(|c: char| !c.is_ascii_digit()).next().unwrap().parse().unwrap();
-            if let Some((_, words)) = value.split_once("/* ") {
-                assert_eq!(words.trim_end_matches(" */"), MEANINGS[number]);
-                said += 1;
-            }
+        let (list, _) = list.split_once("};").unwrap();
+        let numbers: Vec<&str> = list.split(" = ").skip(1).collect();
+        assert_eq!(numbers.len(), 40);
+        for (number, said) in (0..).zip(numbers) {
+            let (value, comment) = said.split_once(" /* ").unwrap();
+            assert_eq!(value.trim_end().trim_end_matches(','), number.to_string());
+            let comment = comment.split_once(" */").unwrap().0;
+            let phrase = comment.split_once(';').map_or(comment, |(phrase, _)| phrase);
+            let expected = format!("Answer {number}: {phrase} (file 0, place 0, state 0, remainder 0).");
+            assert_eq!(sentence(number, 0, 0, 0, 0, &mut [0; SENTENCE]).unwrap(), expected);
         }
-        assert_eq!(said, MEANINGS.len() - 1);
     }
 
     #[test]
@@ -747,7 +698,7 @@ mod tests {
 
     #[test]
     fn limits_are_the_headers() {
-        for (name, limit) in [("STATES", STATES), ("MODEL", MODEL), ("SHEET", SHEET)] {
+        for (name, limit) in [("STATES", STATES), ("MODEL", MODEL), ("SHEET", SHEET), ("SENTENCE", SENTENCE)] {
             assert!(HEADER.contains(&format!("#define ZOLKIRTA_{name} {limit}\n")), "{name}");
         }
     }

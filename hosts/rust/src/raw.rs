@@ -166,4 +166,14 @@ extern "C" {
         out: *mut u8,
         out_length: usize,
     ) -> Answer;
+    /// [`sentence`](crate::sentence): bytes of ASCII.
+    pub fn zolkirta_sentence(
+        number: u32,
+        file: u32,
+        place: usize,
+        state: u32,
+        remainder: i64,
+        out: *mut u8,
+        out_length: usize,
+    ) -> Answer;
 }

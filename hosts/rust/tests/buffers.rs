@@ -4,13 +4,14 @@ mod maker;
 mod plain;
 
 use compare::{accepted, accepted_costs, accepted_texts, alike, compose, fetch, hide, join, judge, judge_costs, lines, read_prism, reduce};
-use compare::{rewrite_by, sheet, Answering, Both, Counts, Lent};
+use compare::{rewrite_by, sentence, sheet, Answering, Both, Counts, Lent};
 use maker::families::{bytes, flow_heavy, half, largest, parts, refutation_heavy, still};
 use plain::Answer;
 use std::ptr::{null, null_mut};
 use zolkirta::raw::{zolkirta_alike, zolkirta_compose, zolkirta_fetch, zolkirta_hide, zolkirta_join, zolkirta_judge, zolkirta_judge_costs};
-use zolkirta::raw::{zolkirta_read_prism, zolkirta_reduce, zolkirta_rewrite, zolkirta_rewrite_costs, zolkirta_sheet, Lending, LendingTwo};
-use zolkirta::{MODEL, SHEET, STATES};
+use zolkirta::raw::{zolkirta_read_prism, zolkirta_reduce, zolkirta_rewrite, zolkirta_rewrite_costs, zolkirta_sentence, zolkirta_sheet};
+use zolkirta::raw::{Lending, LendingTwo};
+use zolkirta::{MODEL, SENTENCE, SHEET, STATES};
 
 /// Makes a call with buffers from none to one byte longer than what it writes, and with these: a shorter one is refused with a number.
 fn every_length(call: impl Fn(usize) -> (Answer, Vec<u8>), shorter: u32, more: &[usize]) {
@@ -51,6 +52,12 @@ fn buffers_of_every_length() {
     }
     for text in &accepted_texts() {
         every_length(|length| read_prism(text, length), 33, &[MODEL, MODEL + 1]);
+    }
+    for number in (0..=42).chain([u32::MAX]) {
+        let [short, long] = [(1, 0), (u32::MAX, i64::MIN)].map(|(file, remainder)| Answer { number, file, remainder, ..Answer::default() });
+        for of in [short, long] {
+            every_length(|length| sentence(of, length), 39, &[SENTENCE, SENTENCE + 1]);
+        }
     }
 }
 
@@ -129,6 +136,7 @@ fn null_pointers_at_length_0() {
         assert_eq!(zolkirta_read_prism(null(), 0, null_mut(), 0), read_prism(&[], 0).0);
         assert_eq!(zolkirta_read_prism(null(), 0, b, STATES), read_prism(&[], STATES).0);
         assert_eq!(zolkirta_read_prism(text.as_ptr(), text.len(), null_mut(), 0), read_prism(text, 0).0);
+        assert_eq!(zolkirta_sentence(0, 0, 0, 0, 0, null_mut(), 0), sentence(Answer::default(), 0).0);
         assert_eq!(zolkirta_alike(null(), 0, 1, null(), 0, 0, 1), alike(&[], &[], [1, 0, 1]));
         assert_eq!(zolkirta_alike(m, m_length, 1, null(), 0, 0, 1), alike(model, &[], [1, 0, 1]));
         assert_eq!(zolkirta_alike(null(), 0, 1, c, c_length, 0, 1), alike(&[], certificate, [1, 0, 1]));

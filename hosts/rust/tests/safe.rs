@@ -2,10 +2,12 @@
 mod compare;
 mod plain;
 
-use compare::{accepted, accepted_costs, accepted_texts, lines, of_todays_limits, stored, stored_costs, Answering, Both, Counts, Numbers, Rewritten};
+use compare::{accepted, accepted_costs, accepted_texts, lines, of_todays_limits, sentence, stored, stored_costs};
+use compare::{Answering, Both, Counts, Numbers, Rewritten};
+use plain::sentence::sentence_of;
 use plain::{AlikeAnswer, Answer};
 use std::collections::BTreeSet;
-use zolkirta::{Difference, File, Refusal, MODEL, STATES};
+use zolkirta::{Difference, File, Refusal, MODEL, SENTENCE, STATES};
 
 /// The slice lies in this file from this place on: the same bytes at the same address.
 fn same_bytes(slice: &[u8], file: &[u8], from: usize, length: usize) {
@@ -15,23 +17,20 @@ fn same_bytes(slice: &[u8], file: &[u8], from: usize, length: usize) {
 
 /// The refusal of a call with a first file, which is this one, and another is what the answer says.
 fn same_refusal(refusal: Refusal, answer: Answer, first: File, one: &[u8], other: &[u8]) {
-    let (file, name, bytes) = match answer.file {
-        0 => (None, "", &[][..]),
-        1 if first == File::Text => (Some(first), "text", one),
-        1 => (Some(File::Model), "model", one),
-        2 => (Some(File::Certificate), "certificate", other),
-        _ => (Some(File::SecondModel), "second model", other),
+    let (file, bytes) = match answer.file {
+        0 => (None, &[][..]),
+        1 => (Some(first), one),
+        2 => (Some(File::Certificate), other),
+        _ => (Some(File::SecondModel), other),
     };
     assert_eq!((refusal.number, refusal.file, refusal.place), (answer.number, file, answer.place));
     same_bytes(refusal.stretch, bytes, answer.stretch_start, answer.stretch_length);
     let told = Difference { state: answer.state, remainder: answer.remainder };
     assert_eq!(refusal.difference, [16, 20, 21].contains(&answer.number).then_some(told));
-    let place = file.map_or(String::new(), |_| format!(" ({name}, byte {})", answer.place));
-    let difference = refusal.difference.map_or(String::new(), |difference| format!(": {difference}"));
-    assert_eq!(refusal.to_string(), format!("refusal {}: {}{place}{difference}", answer.number, refusal.meaning()));
+    assert_eq!(refusal.to_string(), sentence_of(answer));
     let owned = refusal.into_owned();
     assert_eq!((owned.number, owned.file, owned.place, owned.difference), (answer.number, file, answer.place, refusal.difference));
-    assert_eq!((owned.to_string(), owned.meaning()), (refusal.to_string(), refusal.meaning()));
+    assert_eq!(owned.to_string(), refusal.to_string());
 }
 
 type Call = for<'a, 'b> fn(&'a [u8], &'a [u8], &'b mut [u8]) -> Result<&'b [u8], Refusal<'a>>;
@@ -225,6 +224,23 @@ fn the_safe_call_for_texts_says_what_the_raw_one_says() {
 }
 
 #[test]
+fn the_safe_sentence_is_what_the_raw_call_writes() {
+    let mut numbers = Numbers::new(19);
+    for _ in 0..20_000 {
+        let of = numbers.answer();
+        let length = if numbers.below(2) == 0 { numbers.below(SENTENCE) } else { SENTENCE };
+        let (answer, written) = sentence(of, length);
+        let mut buffer = vec![0x3c; length];
+        let start = buffer.as_ptr();
+        match zolkirta::sentence(of.number, of.file, of.place, of.state, of.remainder, &mut buffer) {
+            Ok(said) => assert!(answer.number == 0 && said.as_bytes() == written && said.as_ptr() == start),
+            Err(refusal) => same_refusal(refusal, answer, File::Model, &[], &[]),
+        }
+        assert!(buffer[written.len()..].iter().all(|&byte| byte == 0x3c));
+    }
+}
+
+#[test]
 fn safe_calls_give_the_answers_of_the_vectors() {
     let all = lines();
     all.iter().for_each(|v| v.holds_for(&Safe));
@@ -238,7 +254,8 @@ fn a_refusal_is_an_error_of_few_words() {
     let refusal = zolkirta::fetch(&model, 0).unwrap_err();
     assert_eq!(format!("{refusal:?}"), "Refusal { number: 9, file: Some(Model), place: 9, stretch: 10000 bytes, difference: None }");
     let error: &dyn std::error::Error = &refusal;
-    assert_eq!(error.to_string(), "refusal 9: bytes are left after the last record (model, byte 9)");
+    let said = "the model file goes on after the model has ended";
+    assert_eq!(error.to_string(), format!("Answer 9: {said} (file 1, place 9, state 0, remainder 0)."));
 }
 
 #[test]
@@ -248,6 +265,7 @@ fn an_owned_refusal_outlives_the_files_and_the_thread() {
         zolkirta::judge(&model, &certificate, &mut [0; STATES]).map(<[u8]>::to_vec).map_err(Refusal::into_owned)
     });
     let error: Box<dyn std::error::Error + Send + Sync + 'static> = judged.join().unwrap().unwrap_err().into();
-    assert_eq!(error.to_string(), "refusal 18: the blocks differ from the pairs left (certificate, byte 4)");
+    let said = "the blocks of the certificate do not agree with the pairs of states that are still related";
+    assert_eq!(error.to_string(), format!("Answer 18: {said} (file 2, place 4, state 0, remainder 0)."));
     assert_eq!(format!("{error:?}"), "OwnedRefusal { number: 18, file: Some(Certificate), place: 4, difference: None }");
 }

@@ -4,15 +4,16 @@ mod maker;
 mod plain;
 
 use compare::{accepted, accepted_costs, accepted_texts, compose, hide, judge_costs, read_prism, rewrite, rewrite_costs, stored, stored_costs};
-use compare::{Counts, Rewritten};
+use compare::{sentence, Counts, Rewritten};
 use maker::families::{
     bytes, flow_heavy, flow_heavy_with_costs, half, internal_chain, largest, one_source, parts, refutation_heavy, still, tolls, with_costs,
 };
 use maker::prism::largest_text;
 use std::arch::asm;
 use zolkirta::raw::{zolkirta_alike, zolkirta_compose, zolkirta_fetch, zolkirta_hide, zolkirta_join, zolkirta_judge, zolkirta_judge_costs};
-use zolkirta::raw::{zolkirta_read_prism, zolkirta_reduce, zolkirta_rewrite, zolkirta_rewrite_costs, zolkirta_sheet, PairAnswer};
-use zolkirta::{MODEL, SHEET, STATES};
+use zolkirta::raw::{zolkirta_read_prism, zolkirta_reduce, zolkirta_rewrite, zolkirta_rewrite_costs, zolkirta_sentence, zolkirta_sheet};
+use zolkirta::raw::{Answer, PairAnswer};
+use zolkirta::{MODEL, SENTENCE, SHEET, STATES};
 
 /// Several times what a call uses.
 #[repr(align(16))]
@@ -122,9 +123,15 @@ fn calls_use_the_stack_that_the_header_states() {
         let last = usize::from(model[2]) - 1;
         [words(model).0, words(model).1, last, words(certificate).0, words(certificate).1, 0, last, 0]
     };
+    let answers = (0..=42).flat_map(|number| [(0, 0), (u32::MAX, i64::MIN)].map(|(file, remainder)| (number, file, remainder)));
+    let saying = |(number, file, remainder): (u32, u32, i64)| -> Words {
+        let of = Answer { number, file, place: file as usize, state: file, remainder, ..Answer::default() };
+        assert_eq!(sentence(of, SENTENCE).0.number, 0);
+        [number as usize, file as usize, of.place, file as usize, remainder as usize, lent, room, 0]
+    };
     let reading = |text: &Vec<u8>| -> Words { [words(text).0, words(text).1, lent, room, 0, 0, 0, 0] };
     let several_states = pairs.iter().filter(|(model, _)| model[2] > 1);
-    let calls: [(&str, *const (), Vec<Words>); 12] = [
+    let calls: [(&str, *const (), Vec<Words>); 13] = [
         ("zolkirta_fetch", zolkirta_fetch as *const (), pairs.iter().map(fetching).collect()),
         ("zolkirta_judge", zolkirta_judge as *const (), pairs.iter().map(lending).collect()),
         ("zolkirta_judge_costs", zolkirta_judge_costs as *const (), cost_pairs.iter().map(lending).collect()),
@@ -137,6 +144,7 @@ fn calls_use_the_stack_that_the_header_states() {
         ("zolkirta_rewrite_costs", zolkirta_rewrite_costs as *const (), stored_cost_pairs.iter().map(rewriting).collect()),
         ("zolkirta_compose", zolkirta_compose as *const (), compositions.iter().map(lending).collect()),
         ("zolkirta_hide", zolkirta_hide as *const (), sets.iter().map(lending).collect()),
+        ("zolkirta_sentence", zolkirta_sentence as *const (), answers.map(saying).collect()),
     ];
     for (name, call, asked) in calls {
         // A byte that is written in the colour of one paint shows in the other.

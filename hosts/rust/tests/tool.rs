@@ -1,7 +1,7 @@
 //! The tool as people and scripts call it: what it says of each call, in words and in JSON, and with which status.
 mod program;
 
-use program::{Folder, ACCEPTED, MISSING};
+use program::{refused, refused_at, Folder, ACCEPTED, MISSING};
 use std::fs;
 
 #[test]
@@ -90,8 +90,7 @@ fn compositions_and_hidden_actions_are_told() {
     folder.write("many.model", &[&b"PA\x80\x01\0\0LB"[..], &[0; 128]].concat());
     folder.write("labels.model", b"PA\x01\x01\0\0LB\x10");
     let passes = |left: &str, right: &str, sizes: [&str; 2]| {
-        let said = "refused: 37, the composition passes a limit: 128 states, 256 transitions, 2,048 entries, d 65,535 or label 63\n";
-        let lines = format!("{said}{left} has {}\n{right} has {}\n", sizes[0], sizes[1]);
+        let lines = format!("{}\n{left} has {}\n{right} has {}\n", refused_at(37, 0, 0), sizes[0], sizes[1]);
         folder.run(&format!("compose {left} {right} -o new")).is(1, &lines, "");
     };
     let relay = "5 states, 6 transitions and labels up to 0";
@@ -115,21 +114,20 @@ fn write_costs_stored(folder: &Folder) {
 fn a_stored_pair_is_refused_until_it_is_rewritten() {
     let folder = Folder::new("stored");
     write_costs_stored(&folder);
-    let refused = |words: &str, said: &str, more: &str| {
-        let lines = format!("refused: 34, a transition's weights have a common divisor above 1, {said}, byte {more}\n");
-        folder.run(words).is(1, &lines, "");
+    let in_other_terms = |words: &str, file, place, more: &str| {
+        folder.run(words).is(1, &format!("{}\n{more}\n", refused_at(34, file, place)), "");
     };
-    let transition = "59\nin stored.model, from there on: 54 52 02 01 00 04 02 01 00 02 04 00 02 54 52 02 and 30 more bytes";
-    refused("judge stored.model stored.certificate", "model", transition);
-    refused("reduce stored.model stored.certificate -o out", "model", transition);
-    refused("sheet stored.model stored.certificate", "model", transition);
-    refused("fetch stored.model 0", "model", transition);
-    refused("join first.model stored.model -o out", "second model", transition);
-    refused("compose first.model stored.model -o out", "right model", transition);
-    refused("hide stored.model 1 -o out", "model", transition);
-    refused("alike stored.model first.model joined.certificate 0 1", "first model", transition);
-    let costly = "11\nin stored-costs.model, from there on: 54 52 00 01 00 02 01 00 00 02 54 52 01 01 00 01 and 19 more bytes";
-    refused("judge-costs stored-costs.model stored-costs.certificate", "model", costly);
+    let transition = "in stored.model, from there on: 54 52 02 01 00 04 02 01 00 02 04 00 02 54 52 02 and 30 more bytes";
+    in_other_terms("judge stored.model stored.certificate", 1, 59, transition);
+    in_other_terms("reduce stored.model stored.certificate -o out", 1, 59, transition);
+    in_other_terms("sheet stored.model stored.certificate", 1, 59, transition);
+    in_other_terms("fetch stored.model 0", 1, 59, transition);
+    in_other_terms("join first.model stored.model -o out", 3, 59, transition);
+    in_other_terms("compose first.model stored.model -o out", 3, 59, transition);
+    in_other_terms("hide stored.model 1 -o out", 1, 59, transition);
+    in_other_terms("alike stored.model first.model joined.certificate 0 1", 1, 59, transition);
+    let costly = "in stored-costs.model, from there on: 54 52 00 01 00 02 01 00 00 02 54 52 01 01 00 01 and 19 more bytes";
+    in_other_terms("judge-costs stored-costs.model stored-costs.certificate", 1, 11, costly);
     // A loop that no equation notices: 3 times 1,431,655,765 fits, and one more does not.
     folder.write("loop.model", b"PA\x02\x01\0\x01LB\0\0TR\0\0\0\x03\x01\0\0\x03");
     for (k, number) in [(1_431_655_765u32, 0), (1_431_655_766, 35)] {
@@ -140,9 +138,9 @@ fn a_stored_pair_is_refused_until_it_is_rewritten() {
             ran.is(0, "accepted: 2 states in 1 block\nwritten: out: 2 states, 1 transition, 20 bytes\nwritten: its: 31 bytes\n", "");
             assert_eq!(folder.read("its")[19..23], [0xff; 4]);
         } else {
-            let line = "refused: 35, the certificate is accepted, and a k of the rewritten flow is above 4,294,967,295, certificate, byte 8\n\
-                        in loop.certificate, from there on: 46 4c 00 00 00 01 00 01 00 00 00 55 55 55 56 00 and 7 more bytes\n";
-            ran.is(1, line, "zolkirta: out stays as it was\nzolkirta: its stays as it was\n");
+            let bytes = "46 4c 00 00 00 01 00 01 00 00 00 55 55 55 56 00 and 7 more bytes";
+            let lines = format!("{}\nin loop.certificate, from there on: {bytes}\n", refused_at(number, 2, 8));
+            ran.is(1, &lines, "zolkirta: out stays as it was\nzolkirta: its stays as it was\n");
         }
     }
 }
@@ -171,29 +169,27 @@ fn names_go_by_first_sight() {
 #[test]
 fn a_line_at_fault_is_shown() {
     let folder = Folder::new("lines");
-    let line = "31, a line breaks the form or a limit, or the head's counts are not the text's";
-    let sum = "32, the probabilities of a choice do not add up to 1";
     let long = format!("line 2: \"{}\" and 40 more bytes, without a newline", "7".repeat(60));
     let told = [
-        ("", line, 0, "which ends there"),
-        ("1 0 0", line, 0, "line 1: \"1 0 0\", without a newline"),
-        ("1 0 1\n", line, 6, "which ends there"),
-        ("2 1 2\n0 0 0 0.5\n0 0 1 0.5 \n", line, 16, "line 3: \"0 0 1 0.5 \""),
-        ("2 1 2\n0 0 0 0.5\n0 0 1 0.5\r\n", line, 16, "line 3: \"0 0 1 0.5\\r\""),
-        ("2 1 2\n0 0 0 0.5\n0 1 1 0.5\n", sum, 6, "line 2: \"0 0 0 0.5\""),
-        ("1 0 0\n\n", line, 6, "line 2: \"\""),
-        ("1 1 1\n0 0 0 1 \"\u{e9}\n", line, 6, r#"line 2: "0 0 0 1 \"\xc3\xa9""#),
-        (&format!("1 0 0\n{}", "7".repeat(100)), line, 6, &long),
+        ("", 31, 0, "which ends there"),
+        ("1 0 0", 31, 0, "line 1: \"1 0 0\", without a newline"),
+        ("1 0 1\n", 31, 6, "which ends there"),
+        ("2 1 2\n0 0 0 0.5\n0 0 1 0.5 \n", 31, 16, "line 3: \"0 0 1 0.5 \""),
+        ("2 1 2\n0 0 0 0.5\n0 0 1 0.5\r\n", 31, 16, "line 3: \"0 0 1 0.5\\r\""),
+        ("2 1 2\n0 0 0 0.5\n0 1 1 0.5\n", 32, 6, "line 2: \"0 0 0 0.5\""),
+        ("1 0 0\n\n", 31, 6, "line 2: \"\""),
+        ("1 1 1\n0 0 0 1 \"\u{e9}\n", 31, 6, r#"line 2: "0 0 0 1 \"\xc3\xa9""#),
+        (&format!("1 0 0\n{}", "7".repeat(100)), 31, 6, &long),
     ];
-    for (text, refused, byte, shown) in told {
+    for (text, number, place, shown) in told {
         folder.write("a.tra", text.as_bytes());
-        let lines = format!("refused: {refused}, text, byte {byte}\nin a.tra, {shown}\n");
+        let lines = format!("{}\nin a.tra, {shown}\n", refused_at(number, 1, place));
         folder.run("read-prism a.tra -o out").is(1, &lines, "");
         assert!(!folder.path.join("out").exists());
     }
     folder.write("out", b"older");
     let ran = folder.run_fed("read-prism - -o out", b"1 1 1\n0 0 0 0.5\n");
-    let lines = format!("refused: {sum}, text, byte 6\nin standard input, line 2: \"0 0 0 0.5\"\n");
+    let lines = format!("{}\nin standard input, line 2: \"0 0 0 0.5\"\n", refused_at(32, 1, 6));
     ran.is(1, &lines, "zolkirta: out stays as it was\n");
     assert_eq!(folder.read("out"), b"older");
 }
@@ -221,89 +217,57 @@ fn fetched_transitions_are_decoded() {
     said("4", "accepted: no transitions leave state 4\n");
 }
 
-/// Calls that are refused, and what their lines say.
-const REFUSED: [(&str, &str, &str); 13] = [
+/// Calls that are refused: number, file and place, and what the second line says.
+const REFUSED: [(&str, (u32, u32, usize), &str); 13] = [
     (
         "judge small.model small.model",
-        "refused: 12, a record has a wrong mark, certificate, byte 0\n",
+        (12, 2, 0),
         "in small.model, from there on: 50 41 03 02 00 02 4c 42 00 00 00 54 52 00 01 00 and 15 more bytes\n",
     ),
-    (
-        "judge-costs first.model small.certificate",
-        "refused: 1, the file ends inside a record, model, byte 10\n",
-        "in first.model, which ends there\n",
-    ),
-    (
-        "reduce costs.model costs.certificate -o out",
-        "refused: 9, bytes are left after the last record, model, byte 41\n",
-        "in costs.model, from there on: 43 4f 01 05 01\n",
-    ),
-    (
-        "sheet small.model first.model",
-        "refused: 12, a record has a wrong mark, certificate, byte 0\n",
-        "in first.model, from there on: 50 41 02 01 00 00 4c 42 00 00\n",
-    ),
+    ("judge-costs first.model small.certificate", (1, 1, 10), "in first.model, which ends there\n"),
+    ("reduce costs.model costs.certificate -o out", (9, 1, 41), "in costs.model, from there on: 43 4f 01 05 01\n"),
+    ("sheet small.model first.model", (12, 2, 0), "in first.model, from there on: 50 41 02 01 00 00 4c 42 00 00\n"),
     (
         "join first.model small.sheet -o out",
-        "refused: 2, a record has a wrong mark, second model, byte 0\n",
+        (2, 3, 0),
         "in small.sheet, from there on: 20 20 20 30 20 20 20 32 20 20 20 30 20 20 20 31 and 130 more bytes\n",
     ),
-    ("fetch second.model 4", "refused: 24, the state to fetch is not below the state count\n", "second.model has the states 0 to 3\n"),
+    ("fetch second.model 4", (24, 0, 0), "second.model has the states 0 to 3\n"),
     (
         "alike small.sheet second.model joined.certificate 0 3",
-        "refused: 2, a record has a wrong mark, first model, byte 0\n",
+        (2, 1, 0),
         "in small.sheet, from there on: 20 20 20 30 20 20 20 32 20 20 20 30 20 20 20 31 and 130 more bytes\n",
     ),
     (
         "read-prism small.sheet -o out",
-        "refused: 31, a line breaks the form or a limit, or the head's counts are not the text's, text, byte 0\n",
+        (31, 1, 0),
         "in small.sheet, line 1: \"   0   2   0   1                                            \" and 12 more bytes\n",
     ),
     (
         "compose small.sheet first.model -o out",
-        "refused: 2, a record has a wrong mark, left model, byte 0\n",
+        (2, 1, 0),
         "in small.sheet, from there on: 20 20 20 30 20 20 20 32 20 20 20 30 20 20 20 31 and 130 more bytes\n",
     ),
-    (
-        "compose first.model costs.model -o out",
-        "refused: 9, bytes are left after the last record, right model, byte 41\n",
-        "in costs.model, from there on: 43 4f 01 05 01\n",
-    ),
-    (
-        "hide costs.model 1 -o out",
-        "refused: 9, bytes are left after the last record, model, byte 41\n",
-        "in costs.model, from there on: 43 4f 01 05 01\n",
-    ),
-    (
-        "rewrite costs.model costs.certificate -o out its",
-        "refused: 9, bytes are left after the last record, model, byte 41\n",
-        "in costs.model, from there on: 43 4f 01 05 01\n",
-    ),
-    (
-        "rewrite-costs first.model costs.certificate -o out its",
-        "refused: 1, the file ends inside a record, model, byte 10\n",
-        "in first.model, which ends there\n",
-    ),
+    ("compose first.model costs.model -o out", (9, 3, 41), "in costs.model, from there on: 43 4f 01 05 01\n"),
+    ("hide costs.model 1 -o out", (9, 1, 41), "in costs.model, from there on: 43 4f 01 05 01\n"),
+    ("rewrite costs.model costs.certificate -o out its", (9, 1, 41), "in costs.model, from there on: 43 4f 01 05 01\n"),
+    ("rewrite-costs first.model costs.certificate -o out its", (1, 1, 10), "in first.model, which ends there\n"),
 ];
 
 #[test]
 fn each_call_refuses() {
     let folder = Folder::new("refuses");
-    for (words, line, more) in REFUSED {
-        folder.run(words).is(1, &format!("{line}{more}"), "");
+    for (words, (number, file, place), more) in REFUSED {
+        folder.run(words).is(1, &format!("{}\n{more}", refused_at(number, file, place)), "");
         assert!(!folder.path.join("out").exists() && !folder.path.join("its").exists());
     }
-    let outside = "refused: 27, accepted, and the first's count is above the state count or a state is not in its part\n\
-                   first.model has the states 0 to 1\nsecond.model has the states 0 to 3\n";
-    folder.run("alike first.model second.model joined.certificate 2 3").is(1, outside, "");
+    let outside = format!("{}\nfirst.model has the states 0 to 1\nsecond.model has the states 0 to 3\n", refused_at(27, 0, 0));
+    folder.run("alike first.model second.model joined.certificate 2 3").is(1, &outside, "");
     folder.write("one.model", b"PA\x01\x01\0\0LB\0");
-    let alone = "refused: 24, the state to fetch is not below the state count\none.model has state 0 alone\n";
-    folder.run("fetch one.model 1").is(1, alone, "");
-    let certificate = "refused: 12, a record has a wrong mark, certificate, byte 0";
-    folder.run("alike first.model second.model first.model 0 3").first_line_is(1, certificate);
+    folder.run("fetch one.model 1").is(1, &format!("{}\none.model has state 0 alone\n", refused_at(24, 0, 0)), "");
+    folder.run("alike first.model second.model first.model 0 3").first_line_is(1, &refused_at(12, 2, 0));
     folder.write("many.model", &[&b"PA\x80\x01\0\0LB"[..], &[0; 128]].concat());
-    let too_large = "refused: 25, the joined model has more than 128 states, 256 transitions or 2,048 entries\n";
-    folder.run("join many.model first.model -o out").is(1, too_large, "");
+    folder.run("join many.model first.model -o out").is(1, &format!("{}\n", refused_at(25, 0, 0)), "");
 }
 
 #[test]
@@ -311,21 +275,39 @@ fn a_refusal_says_by_how_much_it_is_off() {
     let folder = Folder::new("off");
     // C3, C6 and C7 of document 01, and others that are off the other way
     let told = [
-        (20, 1, "16, the last price condition breaks, certificate, byte 4, state 2, equal but must be below"),
-        (20, 9, "16, the last price condition breaks, certificate, byte 4, state 2, 8 above but must be below"),
-        (84, 2, "20, an equation at some v breaks, certificate, byte 79, state 1, 1 too many"),
-        (100, 3, "20, an equation at some v breaks, certificate, byte 79, state 0, 2 too few"),
-        (120, 1, "21, an equation at some u breaks, certificate, byte 109, state 0, 1 too few"),
+        (20, 1, (16, 4, 2, 0), "at state 2 the sides are equal, and the left must be below"),
+        (20, 9, (16, 4, 2, 8), "at state 2 the left side is 8 more than the right"),
+        (84, 2, (20, 79, 1, 1), "at state 1 the left side is 1 more than the right"),
+        (100, 3, (20, 79, 0, -2), "at state 0 the left side is 2 less than the right"),
+        (120, 1, (21, 109, 0, -1), "at state 0 the left side is 1 less than the right"),
     ];
-    for (at, byte, line) in told {
+    for (at, byte, (number, place, state, remainder), words) in told {
         folder.write_changed("small.certificate", at, byte, "changed");
-        folder.run("judge small.model changed").first_line_is(1, &format!("refused: {line}"));
+        let ran = folder.run("judge small.model changed");
+        ran.first_line_is(1, &refused(number, 2, place, state, remainder));
+        assert!(ran.out.lines().nth(1).unwrap().starts_with("in changed, from there on: ") && ran.out.lines().nth(2) == Some(words), "{ran:?}");
     }
     // State 0 moves to state 1; the flow matches it with state 0.
     folder.write("step.model", b"PA\x02\x01\0\x01LB\0\0TR\0\0\0\x01\x01\x01\0\x01");
     folder.write("step.certificate", b"CT\0\0BK\0\0FL\0\0\0\x01\0\0\0\x01\x01\0\0\0\0\x01");
-    let too_many = "refused: 21, an equation at some u breaks, certificate, byte 8, state 0, 1 too many";
-    folder.run("judge step.model step.certificate").first_line_is(1, too_many);
+    folder.run("judge step.model step.certificate").first_line_is(1, &refused(21, 2, 8, 0, 1));
+}
+
+#[test]
+fn a_sentence_is_printed() {
+    let folder = Folder::new("sentence");
+    let said = |words: &str, line: &str| folder.run(&format!("sentence {words}")).is(0, &format!("{line}\n"), "");
+    said("20 2 79 1 1", "Answer 20: what comes to a state in a flow is not what leaves it (file 2, place 79, state 1, remainder 1).");
+    said("0 0 0 0 0", "Answer 0: everything that was asked for was done and nothing was refused (file 0, place 0, state 0, remainder 0).");
+    said("021 002 00109 0 -01", &refused(21, 2, 109, 0, -1));
+    said("-- 16 2 4 2 -0", &refused(16, 2, 4, 2, 0));
+    let (most, place) = (u32::MAX, usize::MAX);
+    for remainder in [i64::MIN, -1, 0, i64::MAX] {
+        said(&format!("{most} {most} {place} {most} {remainder}"), &refused(most, most, place, most, remainder));
+    }
+    let told = [("call", "\"sentence\""), ("number", "0"), ("sentence", &format!("\"{}\"", refused(11, 2, 7, 0, -5)))];
+    folder.run("sentence 11 --json 2 7 0 -5").is(0, &object(&told), "");
+    folder.run("sentence 11 2 7 0 -5 --quiet").is(0, "", "");
 }
 
 #[test]
@@ -333,23 +315,23 @@ fn a_state_beyond_all_numbers_is_refused_and_never_another() {
     let folder = Folder::new("states");
     for state in ["5", "4294967294", "4294967295", "4294967296", "18446744073709551616", "999999999999999999999999999999999999999999"] {
         let fetched = folder.run(&format!("fetch repeats.model {state}"));
-        fetched.first_line_is(1, "refused: 24, the state to fetch is not below the state count");
+        fetched.first_line_is(1, &refused_at(24, 0, 0));
         for states in [format!("0 {state}"), format!("{state} 3")] {
-            let ran = folder.run(&format!("alike first.model second.model joined.certificate {states}"));
-            assert_eq!(ran.status, 1);
-            assert!(ran.out.starts_with("refused: 27, "), "{ran:?}");
+            folder.run(&format!("alike first.model second.model joined.certificate {states}")).first_line_is(1, &refused_at(27, 0, 0));
         }
     }
 }
 
 /// The fields of the JSON object, in order.
-const FIELDS: &str = "call number meaning file name place state remainder blocks written output states transitions names sheet run alike \
+const FIELDS: &str = "call number sentence file name place state remainder blocks written output states transitions names sheet run alike \
                       certificate_written certificate_output right_states made_internal";
 
-/// The line with these fields, and null for all others.
+/// The line with these fields, with the sentence of 0 where none is told, and null for all others.
 fn object(told: &[(&str, &str)]) -> String {
     assert!(told.iter().all(|(name, _)| FIELDS.split(' ').any(|field| field == *name)));
-    let value = |field: &str| told.iter().find(|(name, _)| *name == field).map_or("null", |(_, value)| value);
+    let done = format!("\"{}\"", refused_at(0, 0, 0));
+    let untold = |field: &str| if field == "sentence" { done.as_str() } else { "null" };
+    let value = |field: &str| told.iter().find(|(name, _)| *name == field).map_or(untold(field), |(_, value)| value);
     let fields: Vec<String> = FIELDS.split(' ').map(|field| format!("\"{field}\":{}", value(field))).collect();
     format!("{{{}}}\n", fields.join(","))
 }
@@ -359,7 +341,7 @@ fn json_has_every_field() {
     let folder = Folder::new("json");
     let accepted = |words: &str, told: &[(&str, &str)]| {
         let call = format!("\"{}\"", words.split(' ').next().unwrap());
-        let told = [&[("call", call.as_str()), ("number", "0"), ("meaning", "\"accepted\"")], told].concat();
+        let told = [&[("call", call.as_str()), ("number", "0")], told].concat();
         folder.run(&format!("{words} --json")).is(0, &object(&told), "");
     };
     accepted("judge small.model small.certificate", &[("blocks", "[0,0,1]")]);
@@ -391,7 +373,7 @@ fn json_has_every_field() {
     accepted("fetch second.model 2", &[("run", &format!("[{step},{other}]"))]);
     accepted("fetch second.model 0", &[("run", "[]")]);
     accepted("alike first.model second.model joined.certificate 0 3", &[("alike", "true")]);
-    let no = object(&[("call", "\"alike\""), ("number", "0"), ("meaning", "\"accepted\""), ("alike", "false")]);
+    let no = object(&[("call", "\"alike\""), ("number", "0"), ("alike", "false")]);
     folder.run("alike first.model second.model joined.certificate 0 1 --json").is(1, &no, "");
 }
 
@@ -399,10 +381,12 @@ fn json_has_every_field() {
 fn json_tells_refusals() {
     let folder = Folder::new("json-refusals");
     folder.write_changed("small.certificate", 100, 3, "a \"name\"");
+    let quoted = |sentence: String| format!("\"{sentence}\"");
+    let [flow, mark, sum, no_state] = [refused(20, 2, 79, 0, -2), refused_at(2, 3, 0), refused_at(32, 1, 6), refused_at(24, 0, 0)].map(quoted);
     let told = [
         ("call", "\"judge\""),
         ("number", "20"),
-        ("meaning", "\"an equation at some v breaks\""),
+        ("sentence", flow.as_str()),
         ("file", "2"),
         ("name", r#""a \"name\"""#),
         ("place", "79"),
@@ -413,7 +397,7 @@ fn json_tells_refusals() {
     let second = [
         ("call", "\"join\""),
         ("number", "2"),
-        ("meaning", "\"a record has a wrong mark\""),
+        ("sentence", &mark),
         ("file", "3"),
         ("name", "\"small.sheet\""),
         ("place", "0"),
@@ -423,13 +407,13 @@ fn json_tells_refusals() {
     let text = [
         ("call", "\"read-prism\""),
         ("number", "32"),
-        ("meaning", "\"the probabilities of a choice do not add up to 1\""),
+        ("sentence", &sum),
         ("file", "1"),
         ("name", "\"text\""),
         ("place", "6"),
     ];
     folder.run("read-prism text -o out --json").is(1, &object(&text), "");
-    let no_state = [("call", "\"fetch\""), ("number", "24"), ("meaning", "\"the state to fetch is not below the state count\"")];
+    let no_state = [("call", "\"fetch\""), ("number", "24"), ("sentence", &no_state)];
     folder.run("fetch second.model 4 --json").is(1, &object(&no_state), "");
     folder.run("judge missing small.certificate --json").is(2, "", &format!("zolkirta: missing: {MISSING}\n"));
 }
@@ -475,7 +459,7 @@ fn options_stand_in_any_place() {
     }
     fs::rename(folder.path.join("small.model"), folder.path.join("--json")).unwrap();
     folder.run("judge -- --json small.certificate").first_line_is(0, ACCEPTED);
-    let told = object(&[("call", "\"judge\""), ("number", "0"), ("meaning", "\"accepted\""), ("blocks", "[0,0,1]")]);
+    let told = object(&[("call", "\"judge\""), ("number", "0"), ("blocks", "[0,0,1]")]);
     folder.run("judge --json ./--json small.certificate").is(0, &told, "");
 }
 
@@ -492,7 +476,7 @@ fn help_and_version_are_printed() {
         assert!(told.contains(&format!(" {field}")), "{field}");
     }
     let judging = ["judge", "judge-costs", "reduce", "sheet", "join", "fetch", "alike"];
-    for call in judging.into_iter().chain(["read-prism", "rewrite", "rewrite-costs", "compose", "hide"]) {
+    for call in judging.into_iter().chain(["read-prism", "rewrite", "rewrite-costs", "compose", "hide", "sentence"]) {
         let help = folder.run(&format!("{call} --help"));
         assert_eq!((help.status, help.err.as_str()), (0, ""));
         let usage = help.out.lines().next().unwrap();
@@ -558,6 +542,22 @@ fn words_that_make_no_call_get_two_lines() {
         ("hide composed.model 1 256 -o out", "hide: 256 is no action's number"),
         ("hide composed.model 4294967297 -o out", "hide: 4294967297 is no action's number"),
         ("hide composed.model -1 -o out", "hide: there is no option -1"),
+        ("sentence", "sentence: NUMBER is missing"),
+        ("sentence 20 2 79 1", "sentence: REMAINDER is missing"),
+        ("sentence 20 2 79 1 1 1", "sentence: 1 is one word too many"),
+        ("sentence 20 2 79 1 1 -o out", "sentence: it writes no file, and takes no -o"),
+        ("sentence twenty 2 79 1 1", "sentence: twenty is no answer's number"),
+        ("sentence 4294967296 2 79 1 1", "sentence: 4294967296 is no answer's number"),
+        ("sentence 20 4294967296 79 1 1", "sentence: 4294967296 is no file's number"),
+        ("sentence 20 2 18446744073709551616 1 1", "sentence: 18446744073709551616 is no place"),
+        ("sentence 20 2 -79 1 1", "sentence: -79 is no place"),
+        ("sentence 20 2 79 4294967296 1", "sentence: 4294967296 is no state's number"),
+        ("sentence 20 2 79 -1 1", "sentence: -1 is no state's number"),
+        ("sentence 20 2 79 1 9223372036854775808", "sentence: 9223372036854775808 is no remainder"),
+        ("sentence 20 2 79 1 -9223372036854775809", "sentence: -9223372036854775809 is no remainder"),
+        ("sentence 20 2 79 1 --1", "sentence: there is no option --1"),
+        ("sentence 20 2 79 1 -- -", "sentence: - is no remainder"),
+        ("-1 sentence 20 2 79 1", "sentence: there is no option -1"),
         ("compose - - -o out", "compose: - is standard input, and there is only one"),
         ("judge - -", "judge: - is standard input, and there is only one"),
         ("alike - second.model - 0 3", "alike: - is standard input, and there is only one"),
@@ -584,13 +584,12 @@ fn standard_output_may_be_the_file() {
     let told = [
         ("call", "\"sheet\""),
         ("number", "0"),
-        ("meaning", "\"accepted\""),
         ("blocks", "[0,0,1]"),
         ("written", "146"),
         ("output", "\"-\""),
     ];
     folder.run("sheet small.model small.certificate -o - --json").is(0, &sheet, &object(&told));
-    let refused = folder.run("reduce small.model small.model -o -");
-    assert!(refused.status == 1 && refused.out.is_empty() && refused.err.starts_with("refused: 12, "));
+    let ran = folder.run("reduce small.model small.model -o -");
+    assert!(ran.status == 1 && ran.out.is_empty() && ran.err.lines().next() == Some(&refused_at(12, 2, 0)), "{ran:?}");
     assert!(!folder.path.join("-").exists());
 }

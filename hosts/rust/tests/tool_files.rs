@@ -6,7 +6,7 @@ mod program;
 
 use maker::families::{bytes, copies, internal_chain, most_copies, parts};
 use maker::prism::largest_text;
-use program::{finished, Folder, ACCEPTED, MISSING, NOBODY};
+use program::{refused_at, finished, Folder, ACCEPTED, MISSING, NOBODY};
 use std::ffi::OsStr;
 use std::fs::{self, File, OpenOptions};
 use std::os::unix::ffi::OsStrExt;
@@ -95,10 +95,9 @@ fn a_file_may_come_from_standard_input() {
     folder.run_fed("hide - 2 1 -o out", &folder.read("out")).first_line_is(0, "accepted: 2 transitions made internal");
     assert_eq!(folder.read("out"), folder.read("hidden.model"));
     let cut = folder.run_fed("judge small.model -", &certificate[..124]);
-    cut.first_line_is(1, "refused: 11, the file ends inside a record, certificate, byte 109");
+    cut.first_line_is(1, &refused_at(11, 2, 109));
     assert!(cut.out.contains("\nin standard input, from there on: 46 4c "));
-    let empty = "refused: 1, the file ends inside a record, model, byte 0\nin standard input, which ends there\n";
-    folder.run("judge - small.certificate").is(1, empty, "");
+    folder.run("judge - small.certificate").is(1, &format!("{}\nin standard input, which ends there\n", refused_at(1, 1, 0)), "");
     fs::rename(folder.path.join("small.model"), folder.path.join("-")).unwrap();
     folder.run("judge ./- small.certificate").first_line_is(0, ACCEPTED);
 }
@@ -345,16 +344,15 @@ fn lengthen(file: &Path) {
 fn files_may_be_of_any_size() {
     let folder = Folder::new("size");
     lengthen(&folder.path.join("small.certificate"));
-    let left = "refused: 22, bytes are left after the last flow, certificate, byte 125";
-    folder.run("judge small.model small.certificate").first_line_is(1, left);
+    folder.run("judge small.model small.certificate").first_line_is(1, &refused_at(22, 2, 125));
     lengthen(&folder.path.join("small.model"));
     let ran = folder.run("judge small.model small.certificate");
-    ran.first_line_is(1, "refused: 9, bytes are left after the last record, model, byte 31");
+    ran.first_line_is(1, &refused_at(9, 1, 31));
     assert!(ran.out.ends_with(" 00 and 99999953 more bytes\n"));
     let lines = folder.read("relay.tra").len();
     lengthen(&folder.path.join("relay.tra"));
     let ran = folder.run("read-prism relay.tra -o out");
-    assert!(ran.status == 1 && ran.out.starts_with("refused: 31, "));
+    ran.first_line_is(1, &refused_at(31, 1, lines));
     assert!(ran.out.ends_with(&format!("\\x00\" and {} more bytes, without a newline\n", 99_999_940 - lines)), "{ran:?}");
 }
 
@@ -407,10 +405,8 @@ fn the_largest_pairs_go_through() {
         *broken.last_mut().unwrap() ^= 1;
         folder.write("ct", &broken);
         let refusal = zolkirta::judge(&model, &broken, &mut [0; zolkirta::STATES]).unwrap_err();
-        let line = format!("refused: {}, {}, certificate, byte {}", refusal.number, refusal.meaning(), refusal.place);
         for words in ["judge pa ct", "reduce pa ct -o merged", "sheet pa ct"] {
-            let ran = folder.run(words);
-            assert!(ran.status == 1 && ran.out.starts_with(&line), "{ran:?}");
+            folder.run(words).first_line_is(1, &refusal.to_string());
         }
         assert_eq!(folder.read("merged"), merged, "{name}");
     }

@@ -1,8 +1,10 @@
--- Laws of numbers in decimal: the digits of a number are one number, of that value, and no other digits without leading zeros are.
-use Prim.Native.Nat.{ℕ, zero, suc, _+_, _*_, _-_, _/_, _%_, _≤_, _<_}
+-- Laws of numbers in decimal: the digits of a number are one number, of that value, and no other digits without leading zeros are; where they
+-- end, and how many there are.
+use Prim.Native.Nat.{ℕ, zero, suc, _+_, _*_, _-_, _/_, _%_, _^_, _≤_, _<_}
 use mathlib.Core.Path.{_≡_, refl, sym, _∙_, ap, ap₂}
 use mathlib.Core.Bool.{true, false}
-use mathlib.Core.List.{List, [], _∷_, _++_, append-nil}
+use mathlib.Core.List.{List, [], _∷_, _++_, append-nil, head-eq-of-cons-eq, tail-eq-of-cons-eq}
+use lib.ListN.{length}
 use native.Mathlib.Omega.{arith}
 use native.Mathlib.Decide.{decLt}
 use Rattle.bisimulation.specs.definitions.Choice.{ifLess}
@@ -41,14 +43,14 @@ enough (suc most) (suc more) n rest h k = go (decLt n 10) (enough most more (n /
     go (no large) later = notLess _ (omega arith) (sym (notLess _ (omega arith) (sym (later (omega arith) (omega arith)))))
 
 -- the digits of n in front of others
-abbrev before : ℕ → List ℕ → List ℕ
+abbrev pub before : ℕ → List ℕ → List ℕ
 before n rest = digitsBefore (suc n) n rest
 
-one-digit : (n : ℕ) (rest : List ℕ) → n < 10 → before n rest ≡ (0x30 + n) ∷ rest
+pub one-digit : (n : ℕ) (rest : List ℕ) → n < 10 → before n rest ≡ (0x30 + n) ∷ rest
 unfolding digitsBefore
 one-digit n rest small = sym (less _ small refl)
 
-more-digits : (n : ℕ) (rest : List ℕ) → 10 ≤ n → before n rest ≡ before (n / 10) ((0x30 + n % 10) ∷ rest)
+pub more-digits : (n : ℕ) (rest : List ℕ) → 10 ≤ n → before n rest ≡ before (n / 10) ((0x30 + n % 10) ∷ rest)
 unfolding digitsBefore
 more-digits n rest large = sym (notLess _ large refl) ∙ enough n (suc (n / 10)) (n / 10) _ (omega arith) (omega arith)
 
@@ -131,6 +133,46 @@ decimal-value (b ∷ c ∷ bs) e =
     ∙ one-digit _ _ (omega arith)
     ∙ ap₂ (λ (x : ℕ) (l : List ℕ). x ∷ l) shown (append-nil (c ∷ bs))
 
+-- so its decimal is found from its digits, where it is too large to compute them
+pub decimal-is : (bs : List ℕ) (n : ℕ) → isNumber bs ≡ true → valueOf bs ≡ n → decimal n ≡ bs
+decimal-is bs n p e = ap decimal (sym e) ∙ decimal-value bs p
+
 -- numbers of one value are the same bytes
 pub number-one : (xs bs : List ℕ) → isNumber xs ≡ true → isNumber bs ≡ true → valueOf xs ≡ valueOf bs → xs ≡ bs
 number-one xs bs p q e = sym (decimal-value xs p) ∙ ap decimal e ∙ decimal-value bs q
+
+-- a number in decimal has a digit
+pub decimal-some : (n : ℕ) → decimal n ≡ [] → ⊥
+unfolding isNumber
+decimal-some n e = false-not (sym (ap isNumber e) ∙ number-decimal n)
+
+-- digits end where a byte that is none follows
+pub digits-then : (xs ys : List ℕ) (c d : ℕ) (rest more : List ℕ) → allDigits xs ≡ true → allDigits ys ≡ true → isDigit c ≡ false → isDigit d ≡ false → xs ++ (c ∷ rest) ≡ ys ++ (d ∷ more) → (xs ≡ ys) × (c ∷ rest ≡ d ∷ more)
+unfolding allDigits
+digits-then [] [] c d rest more p q f g e = (refl, e)
+digits-then [] (y ∷ ys) c d rest more p q f g e =
+    absurd (false-not (sym f ∙ ap isDigit (head-eq-of-cons-eq e) ∙ both-true (isDigit y) (allDigits ys) q .0))
+digits-then (x ∷ xs) [] c d rest more p q f g e =
+    absurd (false-not (sym g ∙ ap isDigit (sym (head-eq-of-cons-eq e)) ∙ both-true (isDigit x) (allDigits xs) p .0))
+digits-then (x ∷ xs) (y ∷ ys) c d rest more p q f g e =
+    let r = digits-then xs ys c d rest more (both-true (isDigit x) (allDigits xs) p .1) (both-true (isDigit y) (allDigits ys) q .1) f g (tail-eq-of-cons-eq e) in
+    (ap₂ (λ (z : ℕ) (l : List ℕ). z ∷ l) (head-eq-of-cons-eq e) (r .0), r .1)
+
+-- so a number in decimal is read back
+pub decimal-then : (a b c d : ℕ) (rest more : List ℕ) → isDigit c ≡ false → isDigit d ≡ false → decimal a ++ (c ∷ rest) ≡ decimal b ++ (d ∷ more) → (a ≡ b) × (c ∷ rest ≡ d ∷ more)
+decimal-then a b c d rest more f g e =
+    let r = digits-then (decimal a) (decimal b) c d rest more (decimal-digits a) (decimal-digits b) f g e in
+    (sym (value-decimal a) ∙ ap valueOf (r .0) ∙ value-decimal b, r .1)
+
+-- below 10 to the power of 1 + k they are 1 + k digits at most
+length-before : (k n : ℕ) (rest : List ℕ) → n < 10 ^ suc k → length (before n rest) ≤ suc k + length rest
+length-before zero n rest h = omega (arith, ap length (one-digit n rest (omega arith)))
+length-before (suc k) n rest h = go (decLt n 10) (length-before k (n / 10) ((0x30 + n % 10) ∷ rest))
+  where
+    go : Dec (n < 10) → (n / 10 < 10 ^ suc k → length (before (n / 10) ((0x30 + n % 10) ∷ rest)) ≤ suc k + suc (length rest)) → length (before n rest) ≤ suc (suc k) + length rest
+    go (yes small) later = omega (arith, ap length (one-digit n rest small))
+    go (no large) later = omega (arith, ap length (more-digits n rest (omega arith)), later (omega arith))
+
+pub decimal-length : (k n : ℕ) → n < 10 ^ suc k → length (decimal n) ≤ suc k
+unfolding decimal
+decimal-length k n h = omega (arith, length-before k n [] h)

@@ -199,6 +199,13 @@ pub fn hide(model: &[u8], actions: &[u8], length: usize) -> (Answer, Vec<u8>) {
     lent("hide", model, actions, length)
 }
 
+/// Composes the sentence of an answer by both and compares.
+pub fn sentence(of: Answer, length: usize) -> (Answer, Vec<u8>) {
+    let Answer { number, file, place, state, remainder, .. } = of;
+    let library = |[out]: [_; 1]| unsafe { raw::zolkirta_sentence(number, file, place, state, remainder, out, length) };
+    only(lent_to_both(&format!("sentence of {of:?}"), &[], [length], library, |[out]| plain::sentence::sentence(of, out)))
+}
+
 /// Asks both for a first count and two states, and compares.
 pub fn alike(model: &[u8], certificate: &[u8], [count, s, t]: [u32; 3]) -> AlikeAnswer {
     let (m, c) = (model.as_ptr(), certificate.as_ptr());
@@ -696,6 +703,20 @@ impl Numbers {
 
     pub fn bytes(&mut self, size: usize) -> Vec<u8> {
         (0..size).map(|_| self.any() as u8).collect()
+    }
+
+    /// A number of any width up to 64 bits, each as likely.
+    pub fn of_any_width(&mut self) -> u64 {
+        let width = self.below(65) as u32;
+        self.any().checked_shr(64 - width).unwrap_or(0)
+    }
+
+    /// An answer with any values, half of them with a number that has a phrase of its own.
+    pub fn answer(&mut self) -> Answer {
+        let number = if self.below(2) == 0 { self.below(42) as u32 } else { self.of_any_width() as u32 };
+        let (file, state) = (self.of_any_width() as u32, self.of_any_width() as u32);
+        let remainder = (self.of_any_width() as i64).wrapping_mul([1, -1][self.below(2)]);
+        Answer { number, file, place: self.of_any_width() as usize, state, remainder, ..Answer::default() }
     }
 }
 

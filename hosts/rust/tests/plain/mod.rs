@@ -9,6 +9,7 @@
 //! cost is below 2^54, and at most 511 of them are paid: 256 transitions, of which all but the moves stand in two layers. That is below 2^63.
 
 mod prism;
+pub mod sentence;
 
 pub use zolkirta::raw::{AlikeAnswer, Answer, PairAnswer};
 

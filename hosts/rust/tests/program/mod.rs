@@ -17,6 +17,16 @@ pub const NOBODY: u32 = 65534;
 pub const ACCEPTED: &str = "accepted: 3 states in 2 blocks";
 pub const MISSING: &str = "No such file or directory (os error 2)";
 
+/// The first line of a refusal, of an answer that tells this: the library's sentence.
+pub fn refused(number: u32, file: u32, place: usize, state: u32, remainder: i64) -> String {
+    zolkirta::sentence(number, file, place, state, remainder, &mut [0; zolkirta::SENTENCE]).unwrap().to_owned()
+}
+
+/// The same of one without a state.
+pub fn refused_at(number: u32, file: u32, place: usize) -> String {
+    refused(number, file, place, 0, 0)
+}
+
 /// What a run came to.
 #[derive(Debug, PartialEq)]
 pub struct Ran {

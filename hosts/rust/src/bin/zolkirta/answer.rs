@@ -3,7 +3,7 @@
 use crate::automaton::{decoded, states, transitions_of, Transition};
 use crate::prism;
 use std::collections::BTreeMap;
-use zolkirta::{OwnedRefusal, Refusal, MODEL, SHEET, STATES};
+use zolkirta::{OwnedRefusal, Refusal, MODEL, SENTENCE, SHEET, STATES};
 
 /// What an accepted call found.
 pub enum Found {
@@ -42,6 +42,8 @@ pub enum Found {
         names: Vec<String>,
         model: Vec<u8>,
     },
+    /// The sentence of an answer.
+    Sentence(String),
 }
 
 pub type Answer = Result<Found, OwnedRefusal>;
@@ -74,34 +76,39 @@ fn blocks(files: &[&[u8]]) -> Result<Vec<u8>, OwnedRefusal> {
     lent(zolkirta::judge, files, STATES)
 }
 
-pub fn judge(files: &[&[u8]], _: &[u32]) -> Answer {
+pub fn judge(files: &[&[u8]], _: &[i128]) -> Answer {
     blocks(files).map(Found::Judged)
 }
 
-pub fn judge_costs(files: &[&[u8]], _: &[u32]) -> Answer {
+pub fn judge_costs(files: &[&[u8]], _: &[i128]) -> Answer {
     lent(zolkirta::judge_costs, files, STATES).map(Found::Judged)
 }
 
 /// Judges twice: the library hands back either the blocks or the merged model.
-pub fn reduce(files: &[&[u8]], _: &[u32]) -> Answer {
+pub fn reduce(files: &[&[u8]], _: &[i128]) -> Answer {
     let merged = lent(zolkirta::reduce, files, MODEL)?;
     Ok(Found::Reduced { blocks: blocks(files)?, merged })
 }
 
 /// Judges twice, as `reduce` does.
-pub fn sheet(files: &[&[u8]], _: &[u32]) -> Answer {
+pub fn sheet(files: &[&[u8]], _: &[i128]) -> Answer {
     let mut buffer = [0; SHEET];
     let sheet = zolkirta::sheet(files[0], files[1], &mut buffer).map_err(Refusal::into_owned)?.to_owned();
     Ok(Found::Sheet { blocks: blocks(files)?, sheet })
 }
 
-pub fn join(files: &[&[u8]], _: &[u32]) -> Answer {
+pub fn join(files: &[&[u8]], _: &[i128]) -> Answer {
     let joined = lent(zolkirta::join, files, MODEL)?;
     Ok(Found::Joined { counts: [states(files[0]), states(files[1])], joined })
 }
 
-pub fn fetch(files: &[&[u8]], asked: &[u32]) -> Answer {
-    let (model, state) = (files[0], asked[0]);
+/// A number above 32 bits is the largest of them, which is no state of any model either.
+fn state(asked: i128) -> u32 {
+    asked.try_into().unwrap_or(u32::MAX)
+}
+
+pub fn fetch(files: &[&[u8]], asked: &[i128]) -> Answer {
+    let (model, state) = (files[0], state(asked[0]));
     let run = |state| zolkirta::fetch(model, state).map_err(Refusal::into_owned);
     let asked_for = run(state)?;
     let mut before = 0;
@@ -111,8 +118,8 @@ pub fn fetch(files: &[&[u8]], asked: &[u32]) -> Answer {
     Ok(Found::Fetched(decoded(asked_for, before)))
 }
 
-pub fn alike(files: &[&[u8]], asked: &[u32]) -> Answer {
-    let (certificate, s, t) = (files[2], asked[0], asked[1]);
+pub fn alike(files: &[&[u8]], asked: &[i128]) -> Answer {
+    let (certificate, s, t) = (files[2], state(asked[0]), state(asked[1]));
     let joined = lent(zolkirta::join, files, MODEL)?;
     let first_count = states(files[0]) as u32;
     // A number that would pass 32 bits stays the largest of them, which is no state of any model.
@@ -120,27 +127,34 @@ pub fn alike(files: &[&[u8]], asked: &[u32]) -> Answer {
     alike.map(Found::Alike).map_err(Refusal::into_owned)
 }
 
-pub fn read_prism(files: &[&[u8]], _: &[u32]) -> Answer {
+pub fn read_prism(files: &[&[u8]], _: &[i128]) -> Answer {
     let model = owned(zolkirta::read_prism(files[0], &mut [0; MODEL]))?;
     Ok(Found::Read { names: prism::names(files[0]), model })
 }
 
-pub fn rewrite(files: &[&[u8]], _: &[u32]) -> Answer {
+pub fn rewrite(files: &[&[u8]], _: &[i128]) -> Answer {
     rewritten(zolkirta::rewrite, zolkirta::judge, files)
 }
 
-pub fn rewrite_costs(files: &[&[u8]], _: &[u32]) -> Answer {
+pub fn rewrite_costs(files: &[&[u8]], _: &[i128]) -> Answer {
     rewritten(zolkirta::rewrite_costs, zolkirta::judge_costs, files)
 }
 
-pub fn compose(files: &[&[u8]], _: &[u32]) -> Answer {
+pub fn compose(files: &[&[u8]], _: &[i128]) -> Answer {
     lent(zolkirta::compose, files, MODEL).map(Found::Composed)
 }
 
-pub fn hide(files: &[&[u8]], asked: &[u32]) -> Answer {
+pub fn hide(files: &[&[u8]], asked: &[i128]) -> Answer {
     let actions: Vec<u8> = asked.iter().map(|&action| action as u8).collect();
     let model = owned(zolkirta::hide(files[0], &actions, &mut [0; MODEL]))?;
     let all = transitions_of(files[0]);
     let made_internal = |action: u8| all.iter().filter(|transition| action > 0 && transition.action == action).count();
     Ok(Found::Hidden { made_internal: actions.iter().map(|&action| (action, made_internal(action))).collect(), model })
+}
+
+/// Of numbers that are each of their width.
+pub fn sentence(_: &[&[u8]], told: &[i128]) -> Answer {
+    let (number, file, state) = (told[0] as u32, told[1] as u32, told[3] as u32);
+    let said = zolkirta::sentence(number, file, told[2] as usize, state, told[4] as i64, &mut [0; SENTENCE]).map(str::to_owned);
+    said.map(Found::Sentence).map_err(Refusal::into_owned)
 }

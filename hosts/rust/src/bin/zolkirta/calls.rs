@@ -1,39 +1,62 @@
 //! The calls: what each is named, what it takes, and what it is for.
 
-use crate::answer::{alike, compose, fetch, hide, join, judge, judge_costs, read_prism, reduce, rewrite, rewrite_costs, sheet, Answer};
+use crate::answer::{alike, compose, fetch, hide, join, judge, judge_costs, read_prism, reduce, rewrite, rewrite_costs, sentence, sheet, Answer};
+use std::ops::RangeInclusive;
 use zolkirta::File;
 
-/// A file that a call takes: the word for it in usage lines, which file of the library it is, and its name in sentences.
+/// A file that a call takes: the word for it in usage lines, and which file of the library it is.
 pub struct Role {
     pub word: &'static str,
     pub file: File,
-    pub said: &'static str,
 }
 
-const MODEL: Role = Role { word: "MODEL", file: File::Model, said: "model" };
-const CERTIFICATE: Role = Role { word: "CERTIFICATE", file: File::Certificate, said: "certificate" };
-const FIRST: Role = Role { word: "FIRST", file: File::Model, said: "first model" };
-const SECOND: Role = Role { word: "SECOND", file: File::SecondModel, said: "second model" };
-const LEFT: Role = Role { word: "LEFT", file: File::Model, said: "left model" };
-const RIGHT: Role = Role { word: "RIGHT", file: File::SecondModel, said: "right model" };
-const TEXT: Role = Role { word: "TEXT", file: File::Text, said: "text" };
+const MODEL: Role = Role { word: "MODEL", file: File::Model };
+const CERTIFICATE: Role = Role { word: "CERTIFICATE", file: File::Certificate };
+const FIRST: Role = Role { word: "FIRST", file: File::Model };
+const SECOND: Role = Role { word: "SECOND", file: File::SecondModel };
+const LEFT: Role = Role { word: "LEFT", file: File::Model };
+const RIGHT: Role = Role { word: "RIGHT", file: File::SecondModel };
+const TEXT: Role = Role { word: "TEXT", file: File::Text };
+
+/// A number that a call takes: the word for it in usage lines, what it is, and which it may be.
+pub struct Number {
+    pub word: &'static str,
+    pub said: &'static str,
+    pub range: RangeInclusive<i128>,
+}
+
+/// A state of a model. However large it is, the library is asked: no model has one above 32 bits.
+const fn state(word: &'static str) -> Number {
+    Number { word, said: "state's number", range: 0..=i128::MAX }
+}
+
+const ACTION: Number = Number { word: "[ACTION ...]", said: "action's number", range: 0..=u8::MAX as i128 };
+
+/// What an answer tells, each in its width.
+const TOLD: [Number; 5] = [
+    Number { word: "NUMBER", said: "answer's number", range: 0..=u32::MAX as i128 },
+    Number { word: "FILE", said: "file's number", range: 0..=u32::MAX as i128 },
+    Number { word: "PLACE", said: "place", range: 0..=usize::MAX as i128 },
+    Number { word: "STATE", said: "state's number", range: 0..=u32::MAX as i128 },
+    Number { word: "REMAINDER", said: "remainder", range: i64::MIN as i128..=i64::MAX as i128 },
+];
 
 /// The numbers that a call takes behind its files.
 pub enum Numbers {
-    /// A state for each word.
-    States(&'static [&'static str]),
-    /// Actions, as many as are named.
-    Actions,
+    /// These, one each.
+    Each(&'static [Number]),
+    /// As many as are named.
+    Any(&'static Number),
 }
 
-const NONE: Numbers = Numbers::States(&[]);
+const NONE: Numbers = Numbers::Each(&[]);
 
 impl Numbers {
-    /// The words for them in usage lines.
-    fn words(&self) -> &'static [&'static str] {
+    /// Their kinds.
+    pub fn kinds(&self) -> &'static [Number] {
         match self {
-            Numbers::States(words) => words,
-            Numbers::Actions => &["[ACTION ...]"],
+            Numbers::Each(numbers) => numbers,
+            Numbers::Any(number) => std::slice::from_ref(number),
         }
     }
 }
@@ -68,18 +91,19 @@ pub struct Call {
     pub purpose: &'static str,
     /// What else its help says.
     pub more: &'static str,
-    make: fn(&[&[u8]], &[u32]) -> Answer,
+    make: fn(&[&[u8]], &[i128]) -> Answer,
 }
 
 impl Call {
     /// Answers for the bytes of its files and for its numbers, as many of both as it takes.
-    pub fn answer(&self, files: &[&[u8]], numbers: &[u32]) -> Answer {
+    pub fn answer(&self, files: &[&[u8]], numbers: &[i128]) -> Answer {
         (self.make)(files, numbers)
     }
 
     pub fn usage(&self) -> String {
         let files = self.files.iter().map(|role| role.word);
-        let words: Vec<&str> = ["zolkirta", self.name].into_iter().chain(files).chain(self.numbers.words().iter().copied()).collect();
+        let numbers = self.numbers.kinds().iter().map(|number| number.word);
+        let words: Vec<&str> = ["zolkirta", self.name].into_iter().chain(files).chain(numbers).collect();
         let outputs = self.writes.words().join(" ");
         let output = match self.writes {
             Writes::Never => String::new(),
@@ -90,7 +114,7 @@ impl Call {
     }
 }
 
-pub const CALLS: [Call; 12] = [
+pub const CALLS: [Call; 13] = [
     Call {
         name: "judge",
         files: &[MODEL, CERTIFICATE],
@@ -144,7 +168,7 @@ pub const CALLS: [Call; 12] = [
     Call {
         name: "fetch",
         files: &[MODEL],
-        numbers: Numbers::States(&["STATE"]),
+        numbers: Numbers::Each(&[state("STATE")]),
         writes: Writes::Never,
         purpose: "the transitions that leave a state",
         more: "After the first line each transition has a line: its number in the model, its\n\
@@ -154,7 +178,7 @@ pub const CALLS: [Call; 12] = [
     Call {
         name: "alike",
         files: &[FIRST, SECOND, CERTIFICATE],
-        numbers: Numbers::States(&["S", "T"]),
+        numbers: Numbers::Each(&[state("S"), state("T")]),
         writes: Writes::Never,
         purpose: "whether state S of FIRST behaves as state T of SECOND: yes or no",
         more: "Both states go by the numbers of their own models. CERTIFICATE is one for the\n\
@@ -213,7 +237,7 @@ pub const CALLS: [Call; 12] = [
     Call {
         name: "hide",
         files: &[MODEL],
-        numbers: Numbers::Actions,
+        numbers: Numbers::Any(&ACTION),
         writes: Writes::Always,
         purpose: "writes a model with some of its actions made internal",
         more: "An ACTION is a number from 0 to 255. Their order does not matter; where none is\n\
@@ -221,5 +245,16 @@ pub const CALLS: [Call; 12] = [
                and for actions that no transition has. The lines after the first say for each\n\
                how many transitions were made internal. All other actions keep their numbers.",
         make: hide,
+    },
+    Call {
+        name: "sentence",
+        files: &[],
+        numbers: Numbers::Each(&TOLD),
+        writes: Writes::Never,
+        purpose: "the English sentence of an answer, as a refusal has it",
+        more: "For support staff who are read an answer: its number, file, place, state and\n\
+               remainder, of which the last may be below 0. No two answers have the same\n\
+               sentence.",
+        make: sentence,
     },
 ];

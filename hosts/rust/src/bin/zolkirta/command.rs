@@ -1,6 +1,6 @@
 //! The words of the command line: options in any place, a call, its files and its numbers.
 
-use crate::calls::{Call, Numbers, Writes, CALLS};
+use crate::calls::{Call, Number, Numbers, Writes, CALLS};
 use crate::failure::{shown, Usage};
 use crate::input;
 use crate::output::Output;
@@ -17,8 +17,8 @@ pub struct Command {
     pub call: &'static Call,
     /// The names of its files, in its order.
     pub files: Vec<OsString>,
-    /// Its states or actions.
-    pub numbers: Vec<u32>,
+    /// Its states or actions, or what an answer tells.
+    pub numbers: Vec<i128>,
     /// The files that it writes, as many as are named.
     pub outputs: Vec<Output>,
     pub json: bool,
@@ -71,7 +71,7 @@ impl Given {
                 [b'-', b'o', name @ ..] => given.set_outputs(Some(OsStr::from_bytes(name).to_owned()), &mut rest),
                 bytes => match bytes.strip_prefix(b"--output=") {
                     Some(name) => given.set_outputs(Some(OsStr::from_bytes(name).to_owned()), &mut rest),
-                    None if is_option(&word) => given.fail(format!("there is no option {}", shown(&word))),
+                    None if is_option(&word) && !given.takes_below_0(&word) => given.fail(format!("there is no option {}", shown(&word))),
                     None => given.words.push(word),
                 },
             }
@@ -79,9 +79,20 @@ impl Given {
         given
     }
 
+    /// The call, where it is named already.
+    fn call(&self) -> Option<&'static Call> {
+        self.words.first().and_then(|name| call_of(name))
+    }
+
+    /// Whether a word that looks like an option is a number below 0, for a call that takes one.
+    fn takes_below_0(&self, word: &OsStr) -> bool {
+        let takes = |call: &Call| call.numbers.kinds().iter().any(|number| *number.range.start() < 0);
+        self.call().is_some_and(takes) && decimal(word).is_some()
+    }
+
     /// Takes the name that stands with -o, and as many more as the call writes files, where it is named already.
     fn set_outputs(&mut self, first: Option<OsString>, rest: &mut impl Iterator<Item = OsString>) {
-        let count = self.words.first().and_then(|name| call_of(name)).map_or(1, |call| call.writes.words().len().max(1));
+        let count = self.call().map_or(1, |call| call.writes.words().len().max(1));
         let more = count - usize::from(first.is_some());
         let names: Vec<OsString> = first.into_iter().chain(rest.by_ref().take(more).take_while(|name| !is_option(name))).collect();
         if names.len() < count || names.iter().any(|name| name.is_empty()) {
@@ -133,14 +144,14 @@ fn names(call: &Call, words: &mut impl Iterator<Item = OsString>) -> Result<Vec<
     }
 }
 
-/// A state for each word of the call, or all actions that are left.
-fn numbers(call: &Call, words: &mut impl Iterator<Item = OsString>) -> Result<Vec<u32>, String> {
-    let read = |word: OsString, thing: &str, most: u32| {
-        decimal(&word).filter(|number| *number <= most).ok_or_else(|| format!("{} is no {thing}'s number", shown(&word)))
+/// The call's numbers, or all that are left where it takes as many as are named.
+fn numbers(call: &Call, words: &mut impl Iterator<Item = OsString>) -> Result<Vec<i128>, String> {
+    let read = |word: OsString, number: &Number| {
+        decimal(&word).filter(|value| number.range.contains(value)).ok_or_else(|| format!("{} is no {}", shown(&word), number.said))
     };
     match call.numbers {
-        Numbers::States(names) => names.iter().map(|name| next(words, name).and_then(|word| read(word, "state", u32::MAX))).collect(),
-        Numbers::Actions => words.map(|word| read(word, "action", u8::MAX.into())).collect(),
+        Numbers::Each(all) => all.iter().map(|number| next(words, number.word).and_then(|word| read(word, number))).collect(),
+        Numbers::Any(number) => words.map(|word| read(word, number)).collect(),
     }
 }
 
@@ -148,8 +159,10 @@ fn next(words: &mut impl Iterator<Item = OsString>, name: &str) -> Result<OsStri
     words.next().ok_or_else(|| format!("{name} is missing"))
 }
 
-/// A decimal number. One above 32 bits is the largest of them: no model has such a state, so the library refuses both.
-fn decimal(word: &OsStr) -> Option<u32> {
-    let digits = word.to_str().filter(|digits| !digits.is_empty() && digits.bytes().all(|byte| byte.is_ascii_digit()))?;
-    Some(digits.parse().unwrap_or(u32::MAX))
+/// A decimal number, of any length: one beyond all ranges is the last of its side.
+fn decimal(word: &OsStr) -> Option<i128> {
+    let text = word.to_str()?;
+    let (digits, beyond) = text.strip_prefix('-').map_or((text, i128::MAX), |digits| (digits, i128::MIN));
+    let is_number = !digits.is_empty() && digits.bytes().all(|byte| byte.is_ascii_digit());
+    is_number.then(|| text.parse().unwrap_or(beyond))
 }

@@ -46,19 +46,22 @@ Status:
   2                     not judged: words that make no call, or a file that
                         cannot be read or written; standard error says which
 
-A refusal has its number and meaning; then the file at fault, and the byte of it
-where the record or line at fault begins; then for 16, 20 and 21 a state, and by
-how much the left side of its condition or equation is off:
+A refusal is a sentence: its number and what that means; the file at fault, 1
+for the (first) model or the text, 2 for the certificate, 3 for the second
+model; as place the byte of it where the record or line at fault begins; for 16,
+20 and 21 a state, and as remainder by how much the left side of its condition
+or equation is off:
   16                    how far d0 times A is above what it must be below
-  20                    how many arrive that are too many, or too few
+  20                    how many arrive that are too many, or below 0 too few
   21                    how many d0 times the w onto it is too many, or too few
 A second line has the file's name, and its bytes from there on, or the line of a
-text, by its number from 1 on.
+text, by its number from 1 on; a third one says which side the remainder is of.
 
 Fields of the JSON object, each there always, null where it does not apply; with
 status 2 there is no object:
   call                  its name
-  number, meaning       0, or the refusal's number; what it means
+  number, sentence      0, or the refusal's number; the answer's sentence, or
+                        the one that the call sentence was asked for
   file, name            the file at fault, 1 (first) model or text,
                         2 certificate, 3 second model; its name
   place                 the byte of it where the record or line at fault begins

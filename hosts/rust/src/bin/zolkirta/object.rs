@@ -20,7 +20,7 @@ fn object(verdict: &Verdict) -> Value {
     Value::Object(vec![
         ("call", verdict.command.call.name.into()),
         ("number", refusal.map_or(0, |refusal| refusal.number).into()),
-        ("meaning", refusal.map_or("accepted", |refusal| refusal.meaning()).into()),
+        ("sentence", sentence(verdict).as_str().into()),
         ("file", file.map(|file| file.number()).into()),
         ("name", name.into()),
         ("place", refusal.filter(|_| file.is_some()).map(|refusal| refusal.place).into()),
@@ -40,6 +40,15 @@ fn object(verdict: &Verdict) -> Value {
         ("right_states", found.and_then(|found| right_states(found, &verdict.files)).into()),
         ("made_internal", found.and_then(made_internal).into()),
     ])
+}
+
+/// That of the answer, or the one that was asked for.
+fn sentence(verdict: &Verdict) -> String {
+    match &verdict.answer {
+        Ok(Found::Sentence(asked_for)) => asked_for.clone(),
+        Ok(_) => zolkirta::sentence(0, 0, 0, 0, 0, &mut [0; zolkirta::SENTENCE]).expect("a buffer that is long enough").to_owned(),
+        Err(refusal) => refusal.to_string(),
+    }
 }
 
 fn blocks(found: &Found) -> Option<Value> {

@@ -6,7 +6,7 @@ use crate::input::shown_input;
 use crate::prism::Line;
 use crate::verdict::{Place, Verdict};
 use std::fmt::Write;
-use zolkirta::{Difference, OwnedRefusal};
+use zolkirta::OwnedRefusal;
 
 /// The refusals of states that a model does not have: of one to fetch, and of one to compare.
 const NO_STATE: u32 = 24;
@@ -14,9 +14,6 @@ const NOT_IN_PARTS: u32 = 27;
 
 /// The refusal of a composition that passes a limit.
 const COMPOSED_MODEL: u32 = 37;
-
-/// The refusal whose left side must be below the right one; others with a difference ask for equal sides.
-const LAST_PRICES: u32 = 16;
 
 /// How many bytes of a record at fault are shown, and of a line.
 const SHOWN_BYTES: usize = 16;
@@ -57,6 +54,7 @@ fn first_line(verdict: &Verdict, found: &Found) -> String {
             let [states, transitions] = [counted(states(model), "state"), counted(transitions(model), "transition")];
             format!("accepted: {states}, {transitions}, {}", counted(names.len(), "named action"))
         }
+        Found::Sentence(sentence) => sentence.clone(),
     }
 }
 
@@ -64,7 +62,7 @@ fn further_lines(verdict: &Verdict, found: &Found) -> String {
     match found {
         Found::Judged(blocks) => block_lines(blocks),
         Found::Fetched(run) => run.iter().map(transition_line).collect(),
-        Found::Alike(_) => String::new(),
+        Found::Alike(_) | Found::Sentence(_) => String::new(),
         Found::Reduced { merged: model, .. } | Found::Joined { joined: model, .. } => model_line(verdict, model),
         Found::Composed(model) => composition_lines(&verdict.files[0], &verdict.files[1]) + &model_line(verdict, model),
         Found::Hidden { made_internal, model } => {
@@ -135,20 +133,15 @@ fn transition_line(transition: &Transition) -> String {
     format!("transition {}: {action}{targets}\n", transition.number)
 }
 
+/// The library's sentence, then what it does not know: the file's name and bytes, or the models' sizes; and what its remainder means.
 fn refused_lines(verdict: &Verdict, refusal: &OwnedRefusal) -> String {
-    let place = verdict.place(refusal);
-    let at = match (&place, refusal.file) {
-        (Some(place), _) => format!(", {}, byte {}", place.said, place.byte),
-        (None, Some(file)) => format!(", {file}, byte {}", refusal.place),
-        (None, None) => String::new(),
-    };
-    let off = refusal.difference.map_or(String::new(), |difference| off_by(refusal.number, difference));
-    let more = match refusal.number {
+    let more: String = match refusal.number {
         NO_STATE | NOT_IN_PARTS => verdict.models().map(|(name, model)| states_line(&name, model)).collect(),
         COMPOSED_MODEL => verdict.models().map(|(name, model)| sizes_line(&name, model)).collect(),
-        _ => place.map_or(String::new(), stretch_line),
+        _ => verdict.place(refusal).map_or(String::new(), stretch_line),
     };
-    format!("refused: {}, {}{at}{off}\n{more}", refusal.number, refusal.meaning())
+    let off = refusal.difference.map_or(String::new(), |difference| format!("{difference}\n"));
+    format!("{refusal}\n{more}{off}")
 }
 
 /// The states that a sound model has.
@@ -163,18 +156,6 @@ fn states_line(name: &str, model: &[u8]) -> String {
 fn sizes_line(name: &str, model: &[u8]) -> String {
     let [states, transitions] = [counted(states(model), "state"), counted(transitions(model), "transition")];
     format!("{name} has {states}, {transitions} and labels up to {}\n", highest_label(model))
-}
-
-/// The state, and by how much its left side is off: an equation's should equal the right one, the last price condition's be below it.
-fn off_by(number: u32, Difference { state, remainder }: Difference) -> String {
-    let size = remainder.unsigned_abs();
-    let words = match (number, remainder) {
-        (LAST_PRICES, 0) => "equal but must be below".to_owned(),
-        (LAST_PRICES, _) => format!("{size} above but must be below"),
-        (_, 0..) => format!("{size} too many"),
-        _ => format!("{size} too few"),
-    };
-    format!(", state {state}, {words}")
 }
 
 /// The file by its own name, and the line or the bytes from the place on.

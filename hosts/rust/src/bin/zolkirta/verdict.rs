@@ -16,11 +16,8 @@ pub struct Verdict<'a> {
 
 /// Where a refusal lies.
 pub struct Place<'a> {
-    /// The file's name in sentences: model, certificate, first model.
-    pub said: &'static str,
-    /// Its name on the command line.
+    /// The file's name on the command line.
     pub name: &'a OsString,
-    pub byte: usize,
     /// Its bytes from there on.
     pub stretch: &'a [u8],
     /// Where it is a text, the line that begins there, if one does.
@@ -46,12 +43,11 @@ impl Verdict<'_> {
 
     /// The place of a refusal that has one.
     pub fn place(&self, refusal: &OwnedRefusal) -> Option<Place<'_>> {
-        let roles = self.command.call.files;
-        let at = roles.iter().position(|role| Some(role.file) == refusal.file)?;
+        let at = self.command.call.files.iter().position(|role| Some(role.file) == refusal.file)?;
         let (file, byte) = (&self.files[at], refusal.place);
         let stretch = file.get(byte..).unwrap_or_default();
         let line = if refusal.file == Some(File::Text) { line_at(file, byte) } else { None };
-        Some(Place { said: roles[at].said, name: &self.command.files[at], byte, stretch, line })
+        Some(Place { name: &self.command.files[at], stretch, line })
     }
 
     /// The call's models, each with its name as it is shown.

@@ -1,0 +1,1 @@
+// Sentences for answers, in definitions and laws: no code.

@@ -4,8 +4,9 @@ use mathlib.Core.Path.{_≡_}
 use mathlib.Core.List.{List, _++_}
 use lib.ListN.{length, drop}
 use Rattle.rules.specs.definitions.Answers as rules
-use Rattle.rules.specs.definitions.Answers.{answerWithoutPlace, Outcome, leftIn, firstWritten, fileOf}
+use Rattle.rules.specs.definitions.Answers.{answerWithoutPlace, Outcome, leftIn, firstWritten, secondWritten, fileOf}
 use Rattle.answer.specs.declared.Answer.{Answer}
+use Rattle.answer.specs.declared.PairAnswer.{PairAnswer}
 
 -- the struct of numbers as the papers' answer; beside it stands how many bytes were written
 abbrev pub answered : Answer → rules.Answer
@@ -54,7 +55,12 @@ pub record OutcomeIs (o : Outcome) (files after : List (List ℕ)) (r : Answer) 
 
 -- what an exported call promises, given these files, with these bytes in the lent buffers after it: it answers this outcome, number, file, place,
 -- stretch, state, remainder and the length written into the first buffer, leaves in the buffers what it says, and keeps these demands of its
--- number. An answer with a second length says it beside this
+-- number
 pub record CallAnswered (o : Outcome) (files after : List (List ℕ)) (kept : ℕ → Type 0) (r : Answer) : Type 0 where
   pub outcome : OutcomeIs o files after r
   pub demands : kept (r .number)
+
+-- what a call that lends two buffers promises: beside this, the length written into the second
+pub record BothAnswered (o : Outcome) (files after : List (List ℕ)) (kept : ℕ → Type 0) (r : PairAnswer) : Type 0 where
+  pub answers : CallAnswered o files after kept (r .answer)
+  pub second : r .«certificate_written» ≡ secondWritten o

@@ -6,6 +6,7 @@ ghost use Rattle.rules.specs.definitions.Answers.{refusalIn, answerWithoutPlace
 ghost use Rattle.fault.specs.Faults.{faultOf};
 ghost use Rattle.answer.specs.Answered.{Says, FileAnswered, StretchInside};
 ghost use Rattle.answer.specs.Handing.{HandsBack};
+ghost use Rattle.answer.specs.TwoBuffers.{Unwritten};
 use fault::Fault;
 
 // What a call answers: the papers' number, file (1 model, 2 certificate, 3 second model) and place; where the stretch, or the run of a
@@ -70,6 +71,16 @@ pub fn file_answer(short: u32, size: usize, room: usize) -> Answer
         return without_place(short, 0);
     }
     without_place(0, size)
+}
+
+// A refusal of a call that lends two buffers: nothing is written into either.
+pub fn unwritten(answer: Answer) -> PairAnswer
+    ensures { λ r. ⌜ Unwritten answer r ⌝ }
+{
+    PairAnswer {
+        answer,
+        certificate_written: 0,
+    }
 }
 
 // Hands an answer back: the tail of the slice that holds the record at fault, empty where none does, and the numbers beside it. The

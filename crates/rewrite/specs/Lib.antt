@@ -1,3 +1,2 @@
 pub mod Rewrite
-pub mod TwoBuffers
 pub mod RewriteLaws

@@ -2,10 +2,9 @@
 use Prim.Native.Nat.{ℕ, _+_}
 use mathlib.Core.Path.{_≡_}
 use mathlib.Core.List.{List, [], _∷_}
-use lib.ListN.{getD}
 use Rattle.rules.specs.definitions.Limits.{limits}
 use Rattle.rules.specs.definitions.SoundModel.{Bytes}
-use Rattle.rules.specs.definitions.Answers.{Follows, lengthsOf}
+use Rattle.rules.specs.definitions.Answers.{Follows}
 use Rattle.rules.specs.definitions.Demands.{PairDemands, outcomeBy}
 use Rattle.rewriting.specs.definitions.RewriteAnswer.{rewritesPlain, rewritesCosts, PlainRewriteDemands, CostRewriteDemands}
 use Rattle.limits.specs.declared.Terms.the-variants.{Any}
@@ -13,7 +12,8 @@ use Rattle.rule_kind.specs.Kinds.{pairsBy}
 use Rattle.rule_kind.specs.declared.Kind.{Kind}
 use Rattle.rule_kind.specs.declared.Kind.the-variants.{Plain, Costs}
 use Rattle.answer.specs.declared.PairAnswer.{PairAnswer}
-use Rattle.judgement.specs.Verdicts.{AcceptedAt, PairAnswered}
+use Rattle.answer.specs.Answered.{BothAnswered}
+use Rattle.judgement.specs.Verdicts.{AcceptedAt}
 
 -- what follows acceptance, by the kind of the pair
 abbrev pub rewritesBy : Kind → (model certificate : List ℕ) → Follows
@@ -25,10 +25,12 @@ abbrev pub rewriteDemands : Kind → PairDemands
 rewriteDemands Plain = PlainRewriteDemands
 rewriteDemands Costs = CostRewriteDemands
 
--- a pair judged by its step rule in whatever terms, and both files written into the lent buffers; and the length written into the second
-pub record RewriteAnswered (kind : Kind) (model certificate modelBefore certificateBefore modelAfter certificateAfter : List ℕ) (r : PairAnswer) : Type 0 where
-  pub answers : PairAnswered (pairsBy kind Any) (rewritesBy kind model certificate) (rewriteDemands kind) model certificate (modelBefore ∷ certificateBefore ∷ []) (modelAfter ∷ certificateAfter ∷ []) (r .answer)
-  pub second : r .«certificate_written» ≡ getD (lengthsOf (outcomeBy (pairsBy kind Any) (rewritesBy kind model certificate) model certificate (modelBefore ∷ certificateBefore ∷ []))) 1 0
+-- a pair judged by its step rule in whatever terms, and both files written into the lent buffers
+abbrev pub RewriteAnswered : Kind → (model certificate modelBefore certificateBefore modelAfter certificateAfter : List ℕ) → PairAnswer → Type 0
+RewriteAnswered kind model certificate modelBefore certificateBefore modelAfter certificateAfter r =
+    let before = modelBefore ∷ certificateBefore ∷ [] in
+    let after = modelAfter ∷ certificateAfter ∷ [] in
+    BothAnswered (outcomeBy (pairsBy kind Any) (rewritesBy kind model certificate) model certificate before) (model ∷ certificate ∷ []) after (rewriteDemands kind model certificate before after) r
 
 -- an accepted pair of files, whose flows begin behind the blocks
 pub record CanRewrite (kind : Kind) (model : List ℕ) (n count : ℕ) (certificate : List ℕ) (flows : ℕ) : Type 0 where

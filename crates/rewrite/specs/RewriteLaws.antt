@@ -4,19 +4,21 @@ use mathlib.Core.Path.{_≡_, refl, sym, _∙_, ap, ap₂, subst}
 use mathlib.Core.List.{List, [], _∷_, _++_}
 use lib.ListN.{length, take, drop}
 use native.Mathlib.Omega.{arith}
+use Rattle.bisimulation.specs.argument.ChoiceLaws.{notLess, eitherLess}
 use Rattle.rules.specs.definitions.Limits.{limits}
 use Rattle.rules.specs.definitions.Model.{modelBytes}
 use Rattle.rules.specs.definitions.SoundModel.{Bytes}
 use Rattle.rules.specs.definitions.Faults as rules-faults
 use Rattle.rules.specs.definitions.Faults.{fault}
-use Rattle.rules.specs.definitions.Reading.{modelAt, model}
-use Rattle.rules.specs.definitions.Judging.{questions}
+use Rattle.rules.specs.definitions.Reading.{Reading, model, noModel, modelAt}
+use Rattle.rules.specs.definitions.Judging.{Judgement, accepted, refusedIn, questions}
 use Rattle.rules.specs.definitions.CertificateAt.{flowsPlace, certificateAt}
 use Rattle.rules.specs.definitions.JudgedBy.{AcceptedBy}
 use Rattle.rules.specs.definitions.Answers as rules
-use Rattle.rules.specs.definitions.Answers.{Outcome, refusalIn, answerWithoutPlace, fileOf, unwritten, filesOutcome, pairOutcome}
+use Rattle.rules.specs.definitions.Answers.{Outcome, secondWritten, refusalIn, answerWithoutPlace, fileOf, unwritten, filesOutcome, Follows, judgedOutcome, readOutcome, pairOutcome}
 use Rattle.rules.specs.definitions.Demands.{outcomeBy}
 use Rattle.rules.specs.argument.SoundModelLaws.{limits-fit}
+use Rattle.rules.specs.argument.AnswerLaws.{none-second, first-short, second-short, both-fit}
 use Rattle.rules.specs.argument.AnyRule.{PairRules, pairsOf}
 use Rattle.rules.specs.argument.AcceptedExactly.{narrow-model, accepted-stands}
 use Rattle.rules.specs.argument.CertificateKept.{CertificateStands}
@@ -40,6 +42,7 @@ use Rattle.answer.specs.declared.Answer.{Answer}
 use Rattle.answer.specs.declared.PairAnswer.{PairAnswer}
 use Rattle.answer.specs.Answered.{Says, OutcomeIs}
 use Rattle.answer.specs.AnsweredLaws.{without-as, gives-unwritten, without-stretch, with-stretch}
+use Rattle.answer.specs.TwoBuffers.{Unwritten, gives-both, second-both}
 use Rattle.judgement.specs.Verdicts.{AcceptedAt, RefusedAs, RoomFor}
 use Rattle.judgement.specs.VerdictLaws.{part-is, part-follows}
 use Rattle.divisors.specs.Table.{HoldsDivisors}
@@ -48,19 +51,29 @@ use Rattle.rewritten_model.specs.LowestLaws.{lowest-model, lowest-cost-file}
 use Rattle.rewritten_flows.specs.Flows.{FlowsLeft, FlowsStand, TableOf, FirstLarge, FlowsFit, flowsFile, FlowsWritten}
 use Rattle.rewritten_flows.specs.FlowsLaws.{accepted-left, accepted-flows, accepted-table, accepted-fit, accepted-file}
 use Rattle.rewrite.specs.Rewrite.{rewritesBy, rewriteDemands, RewriteAnswered, CanRewrite}
-use Rattle.rewrite.specs.TwoBuffers.{secondWritten, none-second, first-short, second-short, both-fit, gives-both, second-both, judgesOnly, unaccepted}
 
 -- no block buffer is lent
 room : (kind : Kind) (M C : List ℕ) (before : List (List ℕ)) → RoomFor (rewritesBy kind M C) before (limits .states)
 room Plain M C before N few = (λ h. absurd (omega arith), λ h. absurd (omega arith))
 room Costs M C before N few = (λ h. absurd (omega arith), λ h. absurd (omega arith))
 
+-- a call that does nothing after acceptance
+abbrev judgesOnly : Follows
+judgesOnly = record { blockRoom = λ N. 0; outcome = λ N blocks before. unwritten (answerWithoutPlace 0) before; late = [] }
+
 only-room : (before : List (List ℕ)) → RoomFor judgesOnly before (limits .states)
 only-room before N few = (λ h. absurd (omega arith), λ h. absurd (omega arith))
 
--- an answer with nothing written into the second buffer
-abbrev Unwritten : Answer → PairAnswer → Type 0
-Unwritten a r = (r .answer ≡ a) × (r .«certificate_written» ≡ 0)
+-- what it refuses is refused whatever would follow, and nothing is written
+unaccepted : (follows : Follows) (M C : List ℕ) (before : List (List ℕ)) (P : Outcome → Type 0) → ((a : rules.Answer) → P (unwritten a before)) → (r : Reading) (j : Judgement) → (readOutcome judgesOnly M C before r j .answer .number ≡ 0 → ⊥) → P (readOutcome follows M C before r j)
+unfolding readOutcome judgedOutcome answerWithoutPlace
+unaccepted follows M C before P h (noModel f place) j some = h _
+unaccepted follows M C before P h (model N end) (refusedIn f file place) some = eitherLess P _ _ (h _) (h _)
+unaccepted follows M C before P h (model N end) (accepted blocks) some =
+    absurd (some (sym (zero ∙ ap (λ (o : Outcome). o .answer .number) (notLess {z = unwritten (answerWithoutPlace 0) before} _ (omega arith) refl))))
+  where
+    zero : 0 ≡ unwritten (answerWithoutPlace 0) before .answer .number
+    zero = unfold unwritten answerWithoutPlace in refl
 
 -- what an accepted pair comes to: its flows, so many from a place on, and the two files
 pub record Ready (kind : Kind) (M C table : List ℕ) (at : ℕ) : Type 0 where

@@ -4,22 +4,11 @@ ghost use Rattle.rules.specs.definitions.Limits.{limits};
 ghost use Rattle.rules.specs.definitions.Reading.{headFault};
 ghost use Rattle.rule_kind.specs.declared.Kind.the-variants.{Plain, Costs};
 ghost use Rattle.rewrite.specs.Rewrite.{CanRewrite, RewriteAnswered};
-use answer::Answer;
 use answer::PairAnswer;
 use judgement::Verdict;
 use limits::STATES;
 use limits::Terms;
 use rule_kind::Kind;
-
-// An answer with nothing written into the second buffer.
-fn unwritten(answer: Answer) -> PairAnswer
-    ensures { λ r. ⌜ (r .answer ≡ answer) × (r .«certificate_written» ≡ 0) ⌝ }
-{
-    PairAnswer {
-        answer,
-        certificate_written: 0,
-    }
-}
 
 // An accepted pair of n states and so many transitions, whose flows begin at a place: 35, 36, or both files.
 fn write_pair(
@@ -39,13 +28,17 @@ fn write_pair(
     let divisors = divisors::divisors_of(model, count, &places);
     let large = rewritten_flows::first_large(certificate, &divisors, flows);
     if large < certificate.len() {
-        return unwritten(answer::refusal_in(fault::refusal(35).at(large), 2, certificate.len()));
+        return answer::unwritten(answer::refusal_in(
+            fault::refusal(35).at(large),
+            2,
+            certificate.len(),
+        ));
     }
     if model_out.len() < model.len() {
-        return unwritten(answer::without_place(36, 0));
+        return answer::unwritten(answer::without_place(36, 0));
     }
     if certificate_out.len() < certificate.len() {
-        return unwritten(answer::without_place(36, 0));
+        return answer::unwritten(answer::without_place(36, 0));
     }
     rewritten_model::write_file(model, n, count, &places, &divisors, model_out);
     rewritten_flows::write_file(certificate, &divisors, flows, certificate_out);
@@ -82,7 +75,7 @@ fn rewrite_headed(
             model_out,
             certificate_out,
         ),
-        Verdict::Refused(answer) => unwritten(answer),
+        Verdict::Refused(answer) => answer::unwritten(answer),
     }
 }
 
@@ -97,7 +90,7 @@ pub fn rewrite_answer(
 {
     let head = judgement::head_answer(model);
     if head.number != 0 {
-        return unwritten(head);
+        return answer::unwritten(head);
     }
     rewrite_headed(Kind::Plain, model, certificate, model_out, certificate_out)
 }
@@ -113,7 +106,7 @@ pub fn rewrite_costs_answer(
 {
     let head = judgement::head_answer(model);
     if head.number != 0 {
-        return unwritten(head);
+        return answer::unwritten(head);
     }
     rewrite_headed(Kind::Costs, model, certificate, model_out, certificate_out)
 }

@@ -1,4 +1,4 @@
--- Laws of what a fetch answers, and of a call that writes a file.
+-- Laws of what a fetch answers, and of a call that writes a file or two.
 use Prim.Native.Nat.{ℕ, zero, suc, _+_, _-_, _≤_, _<_}
 use mathlib.Core.Path.{_≡_, refl, sym, _∙_, ap, subst}
 use mathlib.Core.Logic.{inl, inr}
@@ -14,7 +14,7 @@ use Rattle.rules.specs.definitions.Faults.{Fault, faultBy}
 use Rattle.rules.specs.argument.FaultLaws.{Otherwise, Told, told-fault}
 use Rattle.rules.specs.definitions.Reading.{model, Scan, sound, refused, scanWhole, statesOf, countOf, modelAt, readingOf, readWhole, placeOf, sourceAt, firstNotBelow, runFirst, runPast, runStart, runEnd}
 use Rattle.rules.specs.argument.ReadingLaws.{read-low, read-otherwise, Sound, Tells, whole-tells}
-use Rattle.rules.specs.definitions.Answers.{Answer, refusalIn, answerWithoutPlace, runAnswer, fetchReading, fetchAnswer, Outcome, leftIn, unwritten, filled, roomFor, filesOutcome, FetchNumber}
+use Rattle.rules.specs.definitions.Answers.{Answer, refusalIn, answerWithoutPlace, runAnswer, fetchReading, fetchAnswer, Outcome, leftIn, secondWritten, unwritten, filled, roomFor, filesOutcome, FetchNumber}
 
 -- the labels of a sound model are n
 pub labels-length : (s : List ℕ) → 8 + statesOf s ≤ length s → length (modelAt s .labels) ≡ statesOf s
@@ -206,3 +206,35 @@ module _ (short : ℕ) (file buffer : List ℕ) where
       go : Dec (length buffer < length file) → length buffer < length file
       go (yes h) = h
       go (no h) = absurd (some (sym (ap (λ (o : Outcome). o .answer .number) (file-whole (omega arith)) ∙ z)))
+
+-- the length written into the second buffer, where nothing is
+pub none-second : (a : Answer) (before : List (List ℕ)) → secondWritten (unwritten a before) ≡ 0
+unfolding unwritten
+none-second a [] = refl
+none-second a (one ∷ []) = refl
+none-second a (one ∷ two ∷ before) = refl
+
+-- two files and two buffers
+module _ (short : ℕ) (first second one two : List ℕ) where
+  -- either buffer is too short
+  pub first-short : length one < length first → unwritten (answerWithoutPlace short) (one ∷ two ∷ []) ≡ filesOutcome short (first ∷ second ∷ []) (one ∷ two ∷ [])
+  unfolding filesOutcome roomFor
+  first-short h = isFalse _ (sym (less _ h refl)) refl
+
+  pub second-short : length first ≤ length one → length two < length second → unwritten (answerWithoutPlace short) (one ∷ two ∷ []) ≡ filesOutcome short (first ∷ second ∷ []) (one ∷ two ∷ [])
+  unfolding filesOutcome roomFor
+  second-short g h = isFalse _ (sym (notLess _ g (less _ h refl))) refl
+
+  -- or neither is
+  pub both-fit : length first ≤ length one → length second ≤ length two → filled (first ∷ second ∷ []) (one ∷ two ∷ []) ≡ filesOutcome short (first ∷ second ∷ []) (one ∷ two ∷ [])
+  unfolding filesOutcome roomFor
+  both-fit g h = isTrue _ (sym (notLess _ g (notLess _ h refl))) refl
+
+  pub both-fits : (short ≡ 0 → ⊥) → filesOutcome short (first ∷ second ∷ []) (one ∷ two ∷ []) .answer .number ≡ 0 → (length first ≤ length one) × (length second ≤ length two)
+  unfolding unwritten answerWithoutPlace
+  both-fits some z = go (decLt (length one) (length first)) (decLt (length two) (length second))
+    where
+      go : Dec (length one < length first) → Dec (length two < length second) → (length first ≤ length one) × (length second ≤ length two)
+      go (yes h) d = absurd (some (ap (λ (o : Outcome). o .answer .number) (first-short h) ∙ z))
+      go (no n) (yes h) = absurd (some (ap (λ (o : Outcome). o .answer .number) (second-short (omega arith) h) ∙ z))
+      go (no n) (no m) = (omega arith, omega arith)

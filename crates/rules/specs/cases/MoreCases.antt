@@ -165,7 +165,7 @@ unfolding ifLess ifTrue answerWithoutPlace unwritten filledWith filledEach fille
 file-cases short = (refl, refl, refl)
 
 -- two files: neither is written where one of the two buffers is too short
-abbrev twoLeft : (number : ℕ) (first : List ℕ) (firstWritten : ℕ) (second : List ℕ) (secondWritten : ℕ) → Outcome
+abbrev pub twoLeft : (number : ℕ) (first : List ℕ) (firstWritten : ℕ) (second : List ℕ) (secondWritten : ℕ) → Outcome
 twoLeft number first firstWritten second secondWritten =
     record { answer = answerAt number 0 0 0 0; lent = record { bytes = first; written = firstWritten } ∷ record { bytes = second; written = secondWritten } ∷ [] }
 

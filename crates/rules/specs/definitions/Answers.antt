@@ -105,6 +105,10 @@ lengthsOf o = map (λ (x : Lent). x .written) (o .lent)
 abbrev pub firstWritten : Outcome → ℕ
 firstWritten o = getD (lengthsOf o) 0 0
 
+-- that of the second
+abbrev pub secondWritten : Outcome → ℕ
+secondWritten o = getD (lengthsOf o) 1 0
+
 -- a buffer as it was
 abbrev pub untouched : List ℕ → Lent
 untouched buffer = record { bytes = buffer; written = 0 }

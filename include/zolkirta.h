@@ -7,8 +7,8 @@
  *
  * Stack. zolkirta_judge, zolkirta_judge_costs and zolkirta_alike use at most 12,500 bytes each, zolkirta_sheet 16,500, zolkirta_reduce
  * 23,500, zolkirta_rewrite and zolkirta_rewrite_costs 18,500, zolkirta_read_prism 11,000, zolkirta_compose 7,000, zolkirta_sentence
- * 5,000, zolkirta_hide 2,800, zolkirta_join and zolkirta_fetch 2,500 (measured, rounded up). In a dynamically linked program the loader
- * adds some 3 KiB when it binds memcpy or memset at the first call. No heap is used.
+ * 5,000, zolkirta_hide 2,800, zolkirta_join and zolkirta_fetch 2,500, zolkirta_largest 110 (measured, rounded up). In a dynamically linked
+ * program the loader adds some 3 KiB when it binds memcpy or memset at the first call. No heap is used.
  *
  * Threads. The library has no state and keeps no pointer: any number of calls may run at once.
  *
@@ -20,11 +20,13 @@
 #include <stddef.h>
 #include <stdint.h>
 
-#define ZOLKIRTA_VERSION "0.12.0"
-#define ZOLKIRTA_VERSION_NUMBER 1200 /* major * 10000 + minor * 100 + patch */
+#define ZOLKIRTA_VERSION "0.13.0"
+#define ZOLKIRTA_VERSION_NUMBER 1300 /* major * 10000 + minor * 100 + patch */
 
 /* The most states that a model has: a block buffer of this length is always long enough. */
 #define ZOLKIRTA_STATES 128
+/* The most transitions that a model has. */
+#define ZOLKIRTA_TRANSITIONS 256
 /* The bytes of the longest model, 8 + 128 + 7 * 256 + 3 * 2048: an output buffer of this length is always long enough for
  * zolkirta_reduce, zolkirta_join, zolkirta_read_prism, zolkirta_compose and zolkirta_hide, and a longer model file is always refused; a
  * cost model's has up to 258 bytes more. */
@@ -33,6 +35,16 @@
 #define ZOLKIRTA_SHEET 9344
 /* A sentence buffer of this length is always long enough. */
 #define ZOLKIRTA_SENTENCE 201
+/* How many flow records there are at most: no accepted certificate without costs for a model of so many states and transitions has more (theorem
+ * few-flows, docs/PROOFS.md), and the one that zolkirta_largest writes has as many. Both counts are within the limits, here and in the next two.
+ *
+ * This bounds no length of a certificate. A flow record has 10 bytes, 7 for each k entry and 6 for each w entry. As entries strictly ascend,
+ * there are at most `transitions` k entries for an internal challenger, 2 * transitions - 1 for an external one, and states * states w entries:
+ * up to 101,891 bytes for one record. Refutations stand before the flows. */
+#define ZOLKIRTA_FLOWS(states, transitions) ((size_t)(transitions) * ((size_t)(states) - 1))
+/* The bytes of the two files that zolkirta_largest writes, at most 2,696 and 520,326. */
+#define ZOLKIRTA_LARGEST_MODEL(states, transitions) (8 + (size_t)(states) + 10 * (size_t)(transitions))
+#define ZOLKIRTA_LARGEST_CERTIFICATE(states, transitions) (6 + (size_t)(states) + 16 * ZOLKIRTA_FLOWS(states, transitions))
 /* Versions before 0.7.0 have 64 states, 1,024 entries and 2,016 refutations for limits, and versions before 0.10.0 take fractions in any terms.
  * What they accept is accepted with the same blocks, once zolkirta_rewrite has put it into lowest terms where it is not; they refuse a larger
  * sound model with 3 or 8. */
@@ -107,7 +119,11 @@ enum zolkirta_number {
                                            128 states, 256 transitions, 2,048 entries, d 65,535 and label 63 */
     ZOLKIRTA_COMPOSED_BUFFER = 38,      /* the lent buffer is too short for the composed model or for the one with actions hidden */
     /* of the call that composes sentences, no file and no place */
-    ZOLKIRTA_SENTENCE_BUFFER = 39       /* the lent buffer is too short for the sentence */
+    ZOLKIRTA_SENTENCE_BUFFER = 39,      /* the lent buffer is too short for the sentence */
+    /* of the call that writes the largest certificate, no file and no place */
+    ZOLKIRTA_LARGEST_COUNTS = 40,       /* the number of states or transitions asked for the largest certificate is not allowed;
+                                           allowed are 1 to 128 states and up to 256 transitions */
+    ZOLKIRTA_LARGEST_BUFFER = 41        /* a lent buffer is too short for the model with the largest certificate or for the certificate */
 };
 
 /* What a call answers.
@@ -141,7 +157,7 @@ typedef struct zolkirta_alike_answer {
     uint32_t alike; /* 1 for yes, 0 for no; 0 on refusal */
 } zolkirta_alike_answer;
 
-/* What zolkirta_rewrite and zolkirta_rewrite_costs answer: 64 bytes, certificate_written at 56. */
+/* What zolkirta_rewrite, zolkirta_rewrite_costs and zolkirta_largest answer: 64 bytes, certificate_written at 56. */
 typedef struct zolkirta_pair_answer {
     zolkirta_answer answer;     /* its `written` is of the model's buffer */
     size_t certificate_written; /* bytes written into the certificate's buffer; 0 on refusal */
@@ -270,13 +286,23 @@ zolkirta_answer zolkirta_hide(const uint8_t *model, size_t model_length, const u
 
 /* Composes the English sentence of an answer, for support staff and those who call them: its number, what that means, and its file, place, state
  * and remainder, all in decimal. `Answer 20: what comes to a state in a flow is not what leaves it (file 2, place 79, state 1, remainder 1).`
- * Each number has its words, those of later versions up to 41 too, and all others have the same; no two are alike. The five values are taken
- * as they are, every one of their widths. Number 0: the first `written` bytes of `out` are the sentence, in ASCII, without a newline and
- * without a byte 0; its later bytes stay. Else 39, where `out` is shorter than the sentence (no file, no place), which writes nothing.
+ * Each number has its words, and those that no call answers have the same; no two are alike. The five values are taken as they are, every one
+ * of their widths. Number 0: the first `written` bytes of `out` are the sentence, in ASCII, without a newline and without a byte 0; its later
+ * bytes stay. Else 39, where `out` is shorter than the sentence (no file, no place), which writes nothing.
  *
  * Answers that differ in any of the five never have the same sentence. */
 zolkirta_answer zolkirta_sentence(uint32_t number, uint32_t file, size_t place, uint32_t state, int64_t remainder, uint8_t *out,
                                   size_t out_length);
+
+/* Writes a model of so many states and transitions, and for it an accepted certificate with as many flow records as any has, ZOLKIRTA_FLOWS: for
+ * hosts that try how large it gets. All labels are 0, the action count is 1, and every transition is internal, from state 0 to itself with
+ * 1/1. The certificate has no refutations, one block, and for each state t from 1 on a flow for each transition, 16 bytes each: D 1, no k, and
+ * w(t,0) = 1. Number 0: the first `answer.written` bytes of `model_out` and the first `certificate_written` bytes of `certificate_out` are the
+ * two files, of ZOLKIRTA_LARGEST_MODEL and ZOLKIRTA_LARGEST_CERTIFICATE bytes; later bytes stay. Else a refusal, which writes nothing into
+ * either buffer: 40 where `states` is not 1 to 128 or `transitions` is above 256, then 41 where a buffer is shorter than its file (no file, no
+ * place). */
+zolkirta_pair_answer zolkirta_largest(uint32_t states, uint32_t transitions, uint8_t *model_out, size_t model_out_length,
+                                      uint8_t *certificate_out, size_t certificate_out_length);
 
 #ifdef __cplusplus
 }

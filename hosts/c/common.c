@@ -14,6 +14,12 @@ ASSERT(alike_fields, offsetof(zolkirta_alike_answer, answer) == 0 && offsetof(zo
 ASSERT(alike_size, sizeof(zolkirta_alike_answer) == 64);
 ASSERT(pair_fields, offsetof(zolkirta_pair_answer, answer) == 0 && offsetof(zolkirta_pair_answer, certificate_written) == 56);
 ASSERT(pair_size, sizeof(zolkirta_pair_answer) == 64);
+/* The counts and lengths of what zolkirta_largest writes, whatever stands for the arguments. */
+ASSERT(flow_count, ZOLKIRTA_FLOWS(1 + 2, 3 + 2) == 10 && ZOLKIRTA_FLOWS(ZOLKIRTA_STATES, ZOLKIRTA_TRANSITIONS) == 32512);
+ASSERT(flow_type, sizeof ZOLKIRTA_FLOWS(1, 1) == sizeof(size_t) && ZOLKIRTA_FLOWS(1, 256) == 0);
+ASSERT(largest_model, 2 * ZOLKIRTA_LARGEST_MODEL(1 + 2, 3 + 2) == 122 && ZOLKIRTA_LARGEST_MODEL(ZOLKIRTA_STATES, ZOLKIRTA_TRANSITIONS) == 2696);
+ASSERT(largest_certificate, 2 * ZOLKIRTA_LARGEST_CERTIFICATE(1 + 2, 3 + 2) == 338 &&
+                                ZOLKIRTA_LARGEST_CERTIFICATE(ZOLKIRTA_STATES, ZOLKIRTA_TRANSITIONS) == 520326);
 
 /* Far more bytes than any model has, and more than a certificate is likely to have. */
 #define ROOM ((size_t)16 << 20)

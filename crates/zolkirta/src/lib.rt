@@ -10,6 +10,7 @@ ghost use Rattle.join.specs.Join.{JoinAnswered};
 ghost use Rattle.compose.specs.Compose.{ComposeAnswered};
 ghost use Rattle.hide.specs.Hide.{HideAnswered};
 ghost use Rattle.sentence.specs.Sentence.{told, SentenceAnswered};
+ghost use Rattle.largest.specs.Largest.{LargestAnswered};
 ghost use Rattle.alike.specs.Alike.{named, AlikeAnswered};
 ghost use Rattle.read_prism.specs.Prism.{PrismAnswered};
 use alike::AlikeAnswer;
@@ -146,4 +147,17 @@ pub extern "C" fn zolkirta_sentence(
     ensures { λ r. ⌜ SentenceAnswered (told number file place state remainder) (now (out .entry)) (now (out .exit)) r ⌝ }
 {
     sentence::sentence_answer(number, file, place, state, remainder, out)
+}
+
+// Writes the model and the certificate with the most flow records for so many states and transitions.
+#[no_mangle]
+pub extern "C" fn zolkirta_largest(
+    states: u32,
+    transitions: u32,
+    model_out: &mut [u8],
+    certificate_out: &mut [u8],
+) -> PairAnswer
+    ensures { λ r. ⌜ LargestAnswered states transitions (now («model_out» .entry)) (now («certificate_out» .entry)) (now («model_out» .exit)) (now («certificate_out» .exit)) r ⌝ }
+{
+    largest::largest_answer(states, transitions, model_out, certificate_out)
 }

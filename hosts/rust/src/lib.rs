@@ -6,8 +6,9 @@
 //! [`alike`] says whether a state of the one behaves as a state of the other. [`judge_costs`] judges where each transition has a cost.
 //! [`read_prism`] makes a model of PRISM's transition file. [`rewrite`] and [`rewrite_costs`] take a stored pair whose fractions are not in
 //! lowest terms, which every other call refuses, and write it in lowest terms. [`compose`] writes two models that work side by side, and
-//! [`hide`] a model with some of its actions made internal. What is not accepted gets one numbered [`Refusal`], which says itself in the words
-//! of [`sentence`]. The tool `zolkirta` makes these calls by file name: `zolkirta --help` tells how.
+//! [`hide`] a model with some of its actions made internal. [`largest`] writes a pair with as many flow records as any accepted one has. What is
+//! not accepted gets one numbered [`Refusal`], which says itself in the words of [`sentence`]. The tool `zolkirta` makes these calls by file name:
+//! `zolkirta --help` tells how.
 //!
 //! The small pair S of document 01: state 0 moves to state 2 by action 1, state 1 moves to state 0 internally.
 //!
@@ -40,6 +41,9 @@ mod readme {}
 /// The most states that a model has. A block buffer of this length is always long enough.
 pub const STATES: usize = 128;
 
+/// The most transitions that a model has.
+pub const TRANSITIONS: usize = 256;
+
 /// The bytes of the longest model. An output buffer of this length is always long enough for [`reduce`], [`join`], [`read_prism`],
 /// [`compose`] and [`hide`].
 pub const MODEL: usize = 8072;
@@ -49,6 +53,23 @@ pub const SHEET: usize = 9344;
 
 /// A sentence buffer of this length is always long enough.
 pub const SENTENCE: usize = 201;
+
+/// How many flow records there are at most: no accepted certificate without costs for a model of so many states and transitions has more, and the
+/// one that [`largest`] writes has as many. This bounds no length of a certificate: a flow record has 10 bytes, 7 for each of up to twice
+/// `transitions` less 1 k entries and 6 for each of up to `states` times `states` w entries, and refutations stand before the flows.
+pub const fn flows(states: usize, transitions: usize) -> usize {
+    transitions.saturating_mul(states.saturating_sub(1))
+}
+
+/// The bytes of the model that [`largest`] writes: 2,696 at most.
+pub const fn largest_model(states: usize, transitions: usize) -> usize {
+    transitions.saturating_mul(10).saturating_add(states).saturating_add(8)
+}
+
+/// The bytes of the certificate that [`largest`] writes: 520,326 at most.
+pub const fn largest_certificate(states: usize, transitions: usize) -> usize {
+    flows(states, transitions).saturating_mul(16).saturating_add(states).saturating_add(6)
+}
 
 /// A file that was handed to a call.
 #[derive(Clone, Copy, Debug, PartialEq, Eq, Hash)]
@@ -110,7 +131,7 @@ impl fmt::Display for Difference {
 #[derive(Clone, Copy, PartialEq, Eq)]
 #[non_exhaustive]
 pub struct Refusal<'a> {
-    /// 1 to 39.
+    /// 1 to 41.
     pub number: u32,
     /// The file at fault, if one is.
     pub file: Option<File>,
@@ -557,8 +578,49 @@ fn lend_two<'a, 'b>(
     let (m_out, c_out) = (model_buffer.as_mut_ptr(), certificate_buffer.as_mut_ptr());
     // SAFETY: pointers and lengths are those of the slices, and a `&mut` overlaps no other slice.
     let said = unsafe { call(m, model.len(), c, certificate.len(), m_out, model_buffer.len(), c_out, certificate_buffer.len()) };
-    let answer = accepted(said.answer, &[(File::Model, model), (File::Certificate, certificate)])?;
+    written(said, &[(File::Model, model), (File::Certificate, certificate)], model_buffer, certificate_buffer)
+}
+
+/// The part of each buffer that a call with these files wrote.
+fn written<'a, 'b>(
+    said: raw::PairAnswer,
+    files: &[Handed<'a>],
+    model_buffer: &'b [u8],
+    certificate_buffer: &'b [u8],
+) -> Result<(&'b [u8], &'b [u8]), Refusal<'a>> {
+    let answer = accepted(said.answer, files)?;
     Ok((&model_buffer[..answer.written], &certificate_buffer[..said.certificate_written]))
+}
+
+/// Writes a model of so many states and transitions, and for it an accepted certificate with as many flow records as any has, [`flows`]: for
+/// hosts that try how large it gets. All labels are 0, and every transition is internal, from state 0 to itself; the certificate has no
+/// refutations, one block, and flows of 16 bytes. The first bytes of each buffer are then its file, and they are what is handed back, the model
+/// first; later bytes stay.
+///
+/// Refusals: 40 where `states` is not 1 to [`STATES`] or `transitions` is above [`TRANSITIONS`]; then 41, where a buffer is shorter than its file
+/// ([`largest_model`] and [`largest_certificate`] say how long the two are).
+///
+/// ```
+/// let (mut pa, mut ct) = ([0; zolkirta::largest_model(3, 2)], [0; zolkirta::largest_certificate(3, 2)]);
+/// let (model, certificate) = zolkirta::largest(3, 2, &mut pa, &mut ct).unwrap();
+/// assert_eq!(model[11..], *b"TR\0\0\0\x01\x01\0\0\x01TR\0\0\0\x01\x01\0\0\x01");
+/// assert_eq!(certificate[9..25], *b"FL\0\0\0\x01\0\0\0\x01\x01\0\0\0\0\x01"); // the first of zolkirta::flows(3, 2), which are 4
+/// assert_eq!(zolkirta::judge(model, certificate, &mut [0; 3]).unwrap(), [0, 0, 0]);
+///
+/// assert_eq!(zolkirta::largest(129, 2, &mut pa, &mut ct).unwrap_err().number, 40);
+/// assert_eq!(zolkirta::largest(3, 3, &mut pa, &mut ct).unwrap_err().number, 41);
+/// ```
+pub fn largest<'b>(
+    states: u32,
+    transitions: u32,
+    model_buffer: &'b mut [u8],
+    certificate_buffer: &'b mut [u8],
+) -> Result<(&'b [u8], &'b [u8]), Refusal<'static>> {
+    let (m, m_length, c, c_length) =
+        (model_buffer.as_mut_ptr(), model_buffer.len(), certificate_buffer.as_mut_ptr(), certificate_buffer.len());
+    // SAFETY: pointers and lengths are those of the slices, and a `&mut` overlaps no other slice.
+    let said = unsafe { raw::zolkirta_largest(states, transitions, m, m_length, c, c_length) };
+    written(said, &[], model_buffer, certificate_buffer)
 }
 
 /// Composes the English sentence of an answer, for support staff: its number, what that means, and file, place, state and remainder, all in
@@ -678,7 +740,7 @@ mod tests {
         let (_, list) = HEADER.split_once("enum zolkirta_number {").unwrap();
         let (list, _) = list.split_once("};").unwrap();
         let numbers: Vec<&str> = list.split(" = ").skip(1).collect();
-        assert_eq!(numbers.len(), 40);
+        assert_eq!(numbers.len(), 42);
         for (number, said) in (0..).zip(numbers) {
             let (value, comment) = said.split_once(" /* ").unwrap();
             assert_eq!(value.trim_end().trim_end_matches(','), number.to_string());
@@ -698,7 +760,8 @@ mod tests {
 
     #[test]
     fn limits_are_the_headers() {
-        for (name, limit) in [("STATES", STATES), ("MODEL", MODEL), ("SHEET", SHEET), ("SENTENCE", SENTENCE)] {
+        let limits = [("STATES", STATES), ("TRANSITIONS", TRANSITIONS), ("MODEL", MODEL), ("SHEET", SHEET), ("SENTENCE", SENTENCE)];
+        for (name, limit) in limits {
             assert!(HEADER.contains(&format!("#define ZOLKIRTA_{name} {limit}\n")), "{name}");
         }
     }

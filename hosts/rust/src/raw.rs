@@ -39,7 +39,7 @@ pub struct AlikeAnswer {
     pub alike: u32,
 }
 
-/// What [`zolkirta_rewrite`] and [`zolkirta_rewrite_costs`] answer.
+/// What [`zolkirta_rewrite`], [`zolkirta_rewrite_costs`] and [`zolkirta_largest`] answer.
 #[repr(C)]
 #[derive(Clone, Copy, Debug, Default, PartialEq, Eq)]
 pub struct PairAnswer {
@@ -176,4 +176,13 @@ extern "C" {
         out: *mut u8,
         out_length: usize,
     ) -> Answer;
+    /// [`largest`](crate::largest)
+    pub fn zolkirta_largest(
+        states: u32,
+        transitions: u32,
+        model_out: *mut u8,
+        model_out_length: usize,
+        certificate_out: *mut u8,
+        certificate_out_length: usize,
+    ) -> PairAnswer;
 }

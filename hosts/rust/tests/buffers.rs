@@ -10,8 +10,8 @@ use plain::Answer;
 use std::ptr::{null, null_mut};
 use zolkirta::raw::{zolkirta_alike, zolkirta_compose, zolkirta_fetch, zolkirta_hide, zolkirta_join, zolkirta_judge, zolkirta_judge_costs};
 use zolkirta::raw::{zolkirta_read_prism, zolkirta_reduce, zolkirta_rewrite, zolkirta_rewrite_costs, zolkirta_sentence, zolkirta_sheet};
-use zolkirta::raw::{Lending, LendingTwo};
-use zolkirta::{MODEL, SENTENCE, SHEET, STATES};
+use zolkirta::raw::{zolkirta_largest, Lending, LendingTwo};
+use zolkirta::{largest_certificate, largest_model, MODEL, SENTENCE, SHEET, STATES, TRANSITIONS};
 
 /// Makes a call with buffers from none to one byte longer than what it writes, and with these: a shorter one is refused with a number.
 fn every_length(call: impl Fn(usize) -> (Answer, Vec<u8>), shorter: u32, more: &[usize]) {
@@ -154,6 +154,15 @@ fn null_pointers_at_length_0() {
             assert_eq!(call(p, p_length, o, o_length, b, STATES, null_mut(), 0), same(one, other, [STATES, 0]));
         }
     }
+    for (states, transitions, number) in [(1, 0, 41), (0, 0, 40), (1, 257, 40)] {
+        let same = |lengths| Both.largest(states, transitions, lengths).0;
+        assert_eq!(same([0, 0]).answer.number, number);
+        unsafe {
+            assert_eq!(zolkirta_largest(states, transitions, null_mut(), 0, null_mut(), 0), same([0, 0]));
+            assert_eq!(zolkirta_largest(states, transitions, null_mut(), 0, b, STATES), same([0, STATES]));
+            assert_eq!(zolkirta_largest(states, transitions, b, STATES, null_mut(), 0), same([STATES, 0]));
+        }
+    }
     assert_eq!(blocks, [7; STATES]);
     let judged = [judge(model, certificate, 0).0, reduce(model, certificate, 0).0, sheet(model, certificate, 0).0];
     assert_eq!(judged.map(|answer| (answer.number, answer.file)), [(10, 0), (23, 0), (28, 0)]);
@@ -178,11 +187,16 @@ fn null_pointers_at_length_0() {
     assert_eq!([hide(model, &[], 0), hide(&[], &[1], STATES)].map(|(answer, _)| (answer.number, answer.file)), [(38, 0), (1, 1)]);
 }
 
-/// Numbers below 130, and those that are one of them in their lowest bits.
-fn every_size() -> impl Iterator<Item = u32> {
-    let low = 0..130;
+/// Numbers below this, and those that are one of them in their lowest bits.
+fn every_size_below(limit: u32) -> impl Iterator<Item = u32> {
+    let low = 0..limit;
     let wide = low.clone().flat_map(|state| [8, 16, 24, 31].map(|bit| state + (1 << bit)));
     low.chain([255, 65_535, u32::MAX]).chain(wide)
+}
+
+/// The same around the states of a model.
+fn every_size() -> impl Iterator<Item = u32> {
+    every_size_below(130)
 }
 
 #[test]
@@ -214,6 +228,20 @@ fn parts_and_states_of_every_size() {
             let parted = count <= n && s < count && (count..n).contains(&t);
             assert_eq!(said.answer.number, if parted { 0 } else { 27 });
         }
+    }
+}
+
+/// Both counts of the largest certificate go by their whole width, and 40 comes before 41.
+#[test]
+fn counts_of_every_size() {
+    let each_count = every_size().flat_map(|states| [0, 2, 256, 257, u32::MAX].map(|transitions| (states, transitions)));
+    let counts = each_count.chain(every_size_below(260).flat_map(|transitions| [0, 1, 2, 129, u32::MAX].map(|states| (states, transitions))));
+    for (states, transitions) in counts {
+        let [n, count] = [states, transitions].map(|asked| asked as usize);
+        let within = (1..=STATES).contains(&n) && count <= TRANSITIONS;
+        let exact = if within { [largest_model(n, count), largest_certificate(n, count)] } else { [MODEL; 2] };
+        assert_eq!(Both.largest(states, transitions, exact).0.answer.number, if within { 0 } else { 40 });
+        assert_eq!(Both.largest(states, transitions, [0, 0]).0.answer.number, if within { 41 } else { 40 });
     }
 }
 

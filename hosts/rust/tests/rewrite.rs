@@ -6,8 +6,8 @@ mod plain;
 mod records;
 
 use compare::{
-    alike, changes, compose, every_kind, fetch, hide, in_lowest_terms, join, judge, judge_costs, kind_by, reduce, rewrite, rewrite_by,
-    rewrite_costs, rounds, sheet, stored, stored_costs, Answering, Numbers, Rewritten,
+    alike, around_both, changes, compose, every_kind, fetch, hide, in_lowest_terms, join, judge, judge_costs, kind_by, reduce, rewrite,
+    rewrite_by, rewrite_costs, rounds, sheet, stored, stored_costs, Answering, Numbers, WrittenPair,
 };
 use maker::families::{bytes, flow_heavy, flow_heavy_with_costs, internal_chain, largest, late_steps, one_source, tolls, with_costs};
 use maker::files::{Certificate, Flow, Model, Refutation, Transition};
@@ -35,7 +35,7 @@ const KINDS: [Kind; 2] = [
 
 impl Kind {
     /// Rewrites with buffers of just the pair's lengths.
-    fn rewrite(&self, model: &[u8], certificate: &[u8]) -> Rewritten {
+    fn rewrite(&self, model: &[u8], certificate: &[u8]) -> WrittenPair {
         rewrite_by(self.name, model, certificate, [model.len(), certificate.len()])
     }
 
@@ -188,8 +188,7 @@ fn buffers_around_both_lengths() {
     for kind in &KINDS {
         for (model, certificate) in (kind.stored)() {
             let (sizes, files) = ([model.len(), certificate.len()], kind.rewrite(&model, &certificate));
-            let around = |size: usize| [0, 1, size / 2, size - 1, size, size + 1, size + 50];
-            for lengths in around(sizes[0]).into_iter().flat_map(|m| around(sizes[1]).map(|c| [m, c])) {
+            for lengths in around_both(sizes) {
                 let (said, written) = rewrite_by(kind.name, &model, &certificate, lengths);
                 let short = lengths[0] < sizes[0] || lengths[1] < sizes[1];
                 match (files.0.answer.number, short) {
@@ -347,7 +346,7 @@ fn a_pair_of_the_other_kind_is_refused() {
     let (model, certificate) = &stored()[0];
     let (costly, its) = &stored_costs()[0];
     let count = usize::from(costly[4]) * 256 + usize::from(costly[5]);
-    let told = |(said, _): Rewritten| (said.answer.number, said.answer.file, said.answer.place);
+    let told = |(said, _): WrittenPair| (said.answer.number, said.answer.file, said.answer.place);
     assert_eq!(told(rewrite(costly, its)), (9, 1, costly.len() - 2 - count));
     assert_eq!(told(rewrite_costs(model, certificate)), (1, 1, model.len()));
     assert_eq!(told(rewrite(model, &[b"CC", &certificate[2..]].concat())), (12, 2, 0));

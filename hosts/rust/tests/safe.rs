@@ -3,7 +3,7 @@ mod compare;
 mod plain;
 
 use compare::{accepted, accepted_costs, accepted_texts, lines, of_todays_limits, sentence, stored, stored_costs};
-use compare::{Answering, Both, Counts, Numbers, Rewritten};
+use compare::{Answering, Both, Counts, Numbers, WrittenPair};
 use plain::sentence::sentence_of;
 use plain::{AlikeAnswer, Answer};
 use std::collections::BTreeSet;
@@ -51,6 +51,27 @@ fn same_lent(call: Call, told: (Answer, Vec<u8>), first: File, [one, other]: [&[
         }
     }
     told
+}
+
+/// Makes a safe call that lends two buffers and compares it with the answer of the raw one, which it hands back.
+fn same_two<'a>(
+    call: impl for<'b> Fn(&'b mut [u8], &'b mut [u8]) -> Result<(&'b [u8], &'b [u8]), Refusal<'a>>,
+    (said, files): WrittenPair,
+    [model, certificate]: [&[u8]; 2],
+    lengths: [usize; 2],
+) -> WrittenPair {
+    let [mut pa, mut ct] = lengths.map(|length| vec![0x3c; length]);
+    let starts = [pa.as_ptr(), ct.as_ptr()];
+    match call(&mut pa, &mut ct) {
+        Ok((written, its)) => {
+            assert_eq!((said.answer.number, [written, its]), (0, [&files[0][..], &files[1]]));
+            assert_eq!([written.as_ptr(), its.as_ptr()], starts);
+        }
+        Err(refusal) => same_refusal(refusal, said.answer, File::Model, model, certificate),
+    }
+    let later = [&pa[files[0].len()..], &ct[files[1].len()..]];
+    assert!(later.concat().iter().all(|&byte| byte == 0x3c));
+    (said, files)
 }
 
 fn sheet_bytes<'a, 'b>(model: &'a [u8], certificate: &'a [u8], buffer: &'b mut [u8]) -> Result<&'b [u8], Refusal<'a>> {
@@ -104,21 +125,15 @@ impl Answering for Safe {
         said
     }
 
-    fn rewrite(&self, call: &str, model: &[u8], certificate: &[u8], lengths: [usize; 2]) -> Rewritten {
-        let (said, files) = Both.rewrite(call, model, certificate, lengths);
+    fn rewrite(&self, call: &str, model: &[u8], certificate: &[u8], lengths: [usize; 2]) -> WrittenPair {
         let safe = if call == "rewrite" { zolkirta::rewrite } else { zolkirta::rewrite_costs };
-        let [mut pa, mut ct] = lengths.map(|length| vec![0x3c; length]);
-        let starts = [pa.as_ptr(), ct.as_ptr()];
-        match safe(model, certificate, &mut pa, &mut ct) {
-            Ok((lowest, its)) => {
-                assert_eq!((said.answer.number, [lowest, its]), (0, [&files[0][..], &files[1]]));
-                assert_eq!([lowest.as_ptr(), its.as_ptr()], starts);
-            }
-            Err(refusal) => same_refusal(refusal, said.answer, File::Model, model, certificate),
-        }
-        let later = [&pa[files[0].len()..], &ct[files[1].len()..]];
-        assert!(later.concat().iter().all(|&byte| byte == 0x3c));
-        (said, files)
+        let told = Both.rewrite(call, model, certificate, lengths);
+        same_two(|pa, ct| safe(model, certificate, pa, ct), told, [model, certificate], lengths)
+    }
+
+    fn largest(&self, states: u32, transitions: u32, lengths: [usize; 2]) -> WrittenPair {
+        let told = Both.largest(states, transitions, lengths);
+        same_two(|pa, ct| zolkirta::largest(states, transitions, pa, ct), told, [&[], &[]], lengths)
     }
 }
 
@@ -187,6 +202,21 @@ fn the_safe_calls_that_rewrite_say_what_the_raw_ones_say() {
         assert!([0, 1, 2, 7, 16, 20, 21, 35, 36].iter().chain(of_costs).all(|number| told.contains(number)), "{call} {told:?}");
         assert!(!told.contains(&10) && !told.contains(&34));
     }
+}
+
+#[test]
+fn the_safe_call_for_the_largest_says_what_the_raw_one_says() {
+    let mut numbers = Numbers::new(20);
+    let mut told = BTreeSet::new();
+    for _ in 0..2_000 {
+        let (states, below) = (numbers.below(140), *numbers.of(&[9, 270]));
+        let transitions = numbers.below(below);
+        let exact = [zolkirta::largest_model(states, transitions), zolkirta::largest_certificate(states, transitions)];
+        let lengths = exact.map(|length| length + [0, 0, 0, 1, 7][numbers.below(5)] - usize::from(numbers.below(6) == 0));
+        let said = Safe.largest(states as u32, transitions as u32, lengths).0;
+        told.insert((said.answer.number, said.certificate_written == exact[1]));
+    }
+    assert_eq!(told, BTreeSet::from([(0, true), (40, false), (41, false)]));
 }
 
 #[test]

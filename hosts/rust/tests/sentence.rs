@@ -51,6 +51,11 @@ fn sentences_known_beforehand() {
         (of(20, 2, 79, 1, 1), "Answer 20: what comes to a state in a flow is not what leaves it (file 2, place 79, state 1, remainder 1)."),
         (of(29, 1, 8265, 0, 0), "Answer 29: the model has a cost that is higher than allowed (file 1, place 8265, state 0, remainder 0)."),
         (of(39, 0, 0, 0, 0), "Answer 39: the lent buffer is too short for the sentence (file 0, place 0, state 0, remainder 0)."),
+        (
+            of(40, 0, 0, 0, 0),
+            "Answer 40: the number of states or transitions asked for the largest certificate is not allowed \
+             (file 0, place 0, state 0, remainder 0).",
+        ),
         (of(42, 0, 0, 0, -1), "Answer 42: no answer of this version has this number (file 0, place 0, state 0, remainder -1)."),
         (
             of(u32::MAX, u32::MAX, usize::MAX, u32::MAX, i64::MIN),

@@ -4,7 +4,7 @@ mod maker;
 mod plain;
 
 use compare::{accepted, accepted_costs, accepted_texts, compose, hide, judge_costs, read_prism, rewrite, rewrite_costs, stored, stored_costs};
-use compare::{sentence, Counts, Rewritten};
+use compare::{sentence, Counts, WrittenPair};
 use maker::families::{
     bytes, flow_heavy, flow_heavy_with_costs, half, internal_chain, largest, one_source, parts, refutation_heavy, still, tolls, with_costs,
 };
@@ -12,8 +12,8 @@ use maker::prism::largest_text;
 use std::arch::asm;
 use zolkirta::raw::{zolkirta_alike, zolkirta_compose, zolkirta_fetch, zolkirta_hide, zolkirta_join, zolkirta_judge, zolkirta_judge_costs};
 use zolkirta::raw::{zolkirta_read_prism, zolkirta_reduce, zolkirta_rewrite, zolkirta_rewrite_costs, zolkirta_sentence, zolkirta_sheet};
-use zolkirta::raw::{Answer, PairAnswer};
-use zolkirta::{MODEL, SENTENCE, SHEET, STATES};
+use zolkirta::raw::{zolkirta_largest, Answer, PairAnswer};
+use zolkirta::{MODEL, SENTENCE, SHEET, STATES, TRANSITIONS};
 
 /// Several times what a call uses.
 #[repr(align(16))]
@@ -81,7 +81,7 @@ fn calls_use_the_stack_that_the_header_states() {
     for (model, certificate) in &cost_pairs {
         assert_eq!(judge_costs(model, certificate, STATES).0.number, 0);
     }
-    let fits = |(said, _): Rewritten| said.answer.number == 0;
+    let fits = |(said, _): WrittenPair| said.answer.number == 0;
     let mut stored_pairs = [stored(), pairs.clone()].concat();
     stored_pairs.retain(|(model, certificate)| fits(rewrite(model, certificate)));
     let mut stored_cost_pairs = [stored_costs(), cost_pairs.clone()].concat();
@@ -130,8 +130,10 @@ fn calls_use_the_stack_that_the_header_states() {
         [number as usize, file as usize, of.place, file as usize, remainder as usize, lent, room, 0]
     };
     let reading = |text: &Vec<u8>| -> Words { [words(text).0, words(text).1, lent, room, 0, 0, 0, 0] };
+    let sizes = [1, 2, STATES].into_iter().flat_map(|n| [0, 1, TRANSITIONS].map(|transitions| (n, transitions)));
+    let writing = |(n, transitions): (usize, usize)| -> Words { [n, transitions, lent, room, lent_too, room_too, 0, 0] };
     let several_states = pairs.iter().filter(|(model, _)| model[2] > 1);
-    let calls: [(&str, *const (), Vec<Words>); 13] = [
+    let calls: [(&str, *const (), Vec<Words>); 14] = [
         ("zolkirta_fetch", zolkirta_fetch as *const (), pairs.iter().map(fetching).collect()),
         ("zolkirta_judge", zolkirta_judge as *const (), pairs.iter().map(lending).collect()),
         ("zolkirta_judge_costs", zolkirta_judge_costs as *const (), cost_pairs.iter().map(lending).collect()),
@@ -145,6 +147,7 @@ fn calls_use_the_stack_that_the_header_states() {
         ("zolkirta_compose", zolkirta_compose as *const (), compositions.iter().map(lending).collect()),
         ("zolkirta_hide", zolkirta_hide as *const (), sets.iter().map(lending).collect()),
         ("zolkirta_sentence", zolkirta_sentence as *const (), answers.map(saying).collect()),
+        ("zolkirta_largest", zolkirta_largest as *const (), sizes.map(writing).collect()),
     ];
     for (name, call, asked) in calls {
         // A byte that is written in the colour of one paint shows in the other.

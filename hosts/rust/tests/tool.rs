@@ -63,6 +63,39 @@ fn each_call_accepts() {
          written: its: 9 states, 8 transitions, 109 bytes\n",
     );
     assert_eq!(folder.read("its"), folder.read("hidden.model"));
+    said(
+        "largest 3 5 -o out its",
+        "accepted: 10 flow records for 3 states and 5 transitions\nwritten: out: 3 states, 5 transitions, 61 bytes\nwritten: its: 169 bytes\n",
+    );
+    said("judge out its", "accepted: 3 states in 1 block\nblock 0: 0 1 2\n");
+}
+
+#[test]
+fn the_largest_certificate_is_told() {
+    let folder = Folder::new("most-flows");
+    let said = |words: &str, lines: &str| folder.run(&format!("largest {words} -o out its")).is(0, lines, "");
+    said(
+        "1 0",
+        "accepted: no flow records for 1 state and no transitions\nwritten: out: 1 state, no transitions, 9 bytes\nwritten: its: 7 bytes\n",
+    );
+    said(
+        "02 01",
+        "accepted: 1 flow record for 2 states and 1 transition\nwritten: out: 2 states, 1 transition, 20 bytes\nwritten: its: 24 bytes\n",
+    );
+    assert_eq!(folder.read("out"), b"PA\x02\x01\0\x01LB\0\0TR\0\0\0\x01\x01\0\0\x01");
+    assert_eq!(folder.read("its"), b"CT\0\0BK\0\0FL\0\0\0\x01\0\0\0\x01\x01\0\0\0\0\x01");
+    // A number beyond all counts is refused, and never another.
+    let outside = ["0 1", "129 1", "1 257", "0 257", "4294967297 1", "1 4294967296", "18446744073709551617 0"];
+    let beyond = format!("1 {}", "9".repeat(60));
+    for words in outside.into_iter().chain([beyond.as_str()]) {
+        let lines = format!("{}\na model has 1 to 128 states and up to 256 transitions\n", refused_at(40, 0, 0));
+        folder.run(&format!("largest {words} -o new its-new")).is(1, &lines, "");
+        let stays = "zolkirta: out stays as it was\nzolkirta: its stays as it was\n";
+        folder.run(&format!("largest {words} -o out its")).is(1, &lines, stays);
+        assert!(!folder.path.join("new").exists() && !folder.path.join("its-new").exists());
+    }
+    let told = [("call", "\"largest\""), ("number", "40"), ("sentence", &format!("\"{}\"", refused_at(40, 0, 0)))];
+    folder.run("largest 129 0 --json -o new its-new").is(1, &object(&told), "");
 }
 
 /// What is shared goes by the action counts; a set has its members once, and members that change nothing are told as well.
@@ -324,7 +357,7 @@ fn a_state_beyond_all_numbers_is_refused_and_never_another() {
 
 /// The fields of the JSON object, in order.
 const FIELDS: &str = "call number sentence file name place state remainder blocks written output states transitions names sheet run alike \
-                      certificate_written certificate_output right_states made_internal";
+                      certificate_written certificate_output right_states made_internal flows";
 
 /// The line with these fields, with the sentence of 0 where none is told, and null for all others.
 fn object(told: &[(&str, &str)]) -> String {
@@ -368,6 +401,16 @@ fn json_has_every_field() {
     let composed = [("written", "109"), ("output", "\"out\""), ("states", "9"), ("transitions", "8")];
     accepted("compose sender.model channel.model -o out", &[&composed[..], &[("right_states", "3")]].concat());
     accepted("hide composed.model 1 2 -o out", &[&composed[..], &[("made_internal", "2")]].concat());
+    let most_flows = [
+        ("written", "61"),
+        ("output", "\"out\""),
+        ("states", "3"),
+        ("transitions", "5"),
+        ("certificate_written", "169"),
+        ("certificate_output", "\"its\""),
+        ("flows", "10"),
+    ];
+    accepted("largest 3 5 -o out its", &most_flows);
     let step = r#"{"number":1,"source":2,"action":0,"denominator":2,"targets":[{"state":1,"weight":1},{"state":2,"weight":1}]}"#;
     let other = r#"{"number":2,"source":2,"action":0,"denominator":1,"targets":[{"state":3,"weight":1}]}"#;
     accepted("fetch second.model 2", &[("run", &format!("[{step},{other}]"))]);
@@ -476,7 +519,7 @@ fn help_and_version_are_printed() {
         assert!(told.contains(&format!(" {field}")), "{field}");
     }
     let judging = ["judge", "judge-costs", "reduce", "sheet", "join", "fetch", "alike"];
-    for call in judging.into_iter().chain(["read-prism", "rewrite", "rewrite-costs", "compose", "hide", "sentence"]) {
+    for call in judging.into_iter().chain(["read-prism", "rewrite", "rewrite-costs", "compose", "hide", "sentence", "largest"]) {
         let help = folder.run(&format!("{call} --help"));
         assert_eq!((help.status, help.err.as_str()), (0, ""));
         let usage = help.out.lines().next().unwrap();
@@ -558,6 +601,16 @@ fn words_that_make_no_call_get_two_lines() {
         ("sentence 20 2 79 1 --1", "sentence: there is no option --1"),
         ("sentence 20 2 79 1 -- -", "sentence: - is no remainder"),
         ("-1 sentence 20 2 79 1", "sentence: there is no option -1"),
+        ("largest -o out its", "largest: STATES is missing"),
+        ("largest 3 -o out its", "largest: TRANSITIONS is missing"),
+        ("largest 3 5", "largest: -o MODEL_OUT CERTIFICATE_OUT is missing"),
+        ("largest 3 5 -o out", "largest: -o needs the names of two files"),
+        ("largest 3 5 -o out out", "largest: -o names out twice"),
+        ("largest 3 5 7 -o out its", "largest: 7 is one word too many"),
+        ("largest three 5 -o out its", "largest: three is no number of states"),
+        ("largest 3 five -o out its", "largest: five is no number of transitions"),
+        ("largest 3 -5 -o out its", "largest: there is no option -5"),
+        ("largest -o out its -- 3 -5", "largest: -5 is no number of transitions"),
         ("compose - - -o out", "compose: - is standard input, and there is only one"),
         ("judge - -", "judge: - is standard input, and there is only one"),
         ("alike - second.model - 0 3", "alike: - is standard input, and there is only one"),

@@ -382,6 +382,19 @@ fn the_largest_composition_goes_through() {
 }
 
 #[test]
+fn the_certificate_with_the_most_flow_records_goes_through() {
+    let folder = Folder::new("flows");
+    let ran = folder.run("largest 128 256 -o pa ct");
+    let written = "written: pa: 128 states, 256 transitions, 2696 bytes\nwritten: ct: 520326 bytes\n";
+    ran.is(0, &format!("accepted: 32512 flow records for 128 states and 256 transitions\n{written}"), "");
+    folder.run("judge pa ct").first_line_is(0, "accepted: 128 states in 1 block");
+    let merged = "accepted: 128 states in 1 block\nwritten: out: 1 state, 1 transition, 19 bytes\n";
+    folder.run("reduce pa ct -o out").is(0, merged, "");
+    folder.run("largest 2 2 -o no/pa ct").is(2, "", &format!("zolkirta: no/pa: {MISSING}\nzolkirta: ct stays as it was\n"));
+    assert_eq!(folder.read("ct").len(), 520_326);
+}
+
+#[test]
 fn the_largest_pairs_go_through() {
     let folder = Folder::new("largest");
     let (model, certificate) = internal_chain(4);

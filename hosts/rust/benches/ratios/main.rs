@@ -113,6 +113,22 @@ fn rewriting(length: Duration, library: raw::LendingTwo, plain: compare::PlainLe
     measured(length, proved, by_hand)
 }
 
+/// The pair with the most flow records, with buffers of just its lengths.
+fn writing_largest(length: Duration, states: usize, transitions: usize) -> Times {
+    let buffers = || [zolkirta::largest_model, zolkirta::largest_certificate].map(|bytes| vec![0; bytes(states, transitions)]);
+    let ([mut pa, mut ct], [mut pa_plain, mut ct_plain]) = (buffers(), buffers());
+    let asked = || black_box((states as u32, transitions as u32));
+    let proved = || {
+        let (n, count) = asked();
+        unsafe { raw::zolkirta_largest(n, count, pa.as_mut_ptr(), pa.len(), ct.as_mut_ptr(), ct.len()) }.answer.number
+    };
+    let by_hand = || {
+        let (n, count) = asked();
+        TODAY.largest(n, count, &mut pa_plain, &mut ct_plain).answer.number
+    };
+    measured(length, proved, by_hand)
+}
+
 fn on_paper(length: Duration, pairs: &[Files]) -> Times {
     lending(length, raw::zolkirta_sheet, Limits::sheet, pairs)
 }
@@ -238,6 +254,7 @@ fn cases(random: &[Files]) -> Vec<Case> {
         case("alike, flow-heavy, 64 states: yes", comparing(length, &flows[0]), by_a_third, ""),
         case("read_prism, 128 states, 256 choices, 2,048 lines, 31 names", reading(length, &largest_text(true)), no_slower, ""),
         case("read_prism, 128 states, 256 choices, 2,048 lines without names", reading(length, &largest_text(false)), no_slower, ""),
+        case("largest, 128 states, 256 transitions: 32,512 flows written", writing_largest(length, 128, 256), no_slower, ""),
     ]
 }
 

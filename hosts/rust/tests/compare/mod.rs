@@ -137,11 +137,11 @@ fn lent(name: &str, one: &[u8], other: &[u8], length: usize) -> (Answer, Vec<u8>
     only(lent_to_both(name, &[one, other], [length], library, |[out]| plain_call(&TODAY, one, other, out)))
 }
 
-/// What a rewriting call answers, and what it writes into each buffer.
-pub type Rewritten = (PairAnswer, [Vec<u8>; 2]);
+/// What a call that lends two buffers answers, and what it writes into each.
+pub type WrittenPair = (PairAnswer, [Vec<u8>; 2]);
 
 /// Rewrites a pair by both, by the call's name and with lent buffers of these lengths, and compares.
-pub fn rewrite_by(name: &str, model: &[u8], certificate: &[u8], lengths: [usize; 2]) -> Rewritten {
+pub fn rewrite_by(name: &str, model: &[u8], certificate: &[u8], lengths: [usize; 2]) -> WrittenPair {
     let (call, plain_call) = lending_two(name);
     let (m, c) = (model.as_ptr(), certificate.as_ptr());
     let library = |[pa, ct]: [_; 2]| unsafe { call(m, model.len(), c, certificate.len(), pa, lengths[0], ct, lengths[1]) };
@@ -149,13 +149,26 @@ pub fn rewrite_by(name: &str, model: &[u8], certificate: &[u8], lengths: [usize;
 }
 
 /// Rewrites a pair by both, with buffers of just its lengths, and compares.
-pub fn rewrite(model: &[u8], certificate: &[u8]) -> Rewritten {
+pub fn rewrite(model: &[u8], certificate: &[u8]) -> WrittenPair {
     rewrite_by("rewrite", model, certificate, [model.len(), certificate.len()])
 }
 
 /// The same of a cost pair.
-pub fn rewrite_costs(model: &[u8], certificate: &[u8]) -> Rewritten {
+pub fn rewrite_costs(model: &[u8], certificate: &[u8]) -> WrittenPair {
     rewrite_by("rewrite_costs", model, certificate, [model.len(), certificate.len()])
+}
+
+/// Lengths for two buffers around the lengths of their files, each with each.
+pub fn around_both(sizes: [usize; 2]) -> impl Iterator<Item = [usize; 2]> {
+    let around = |size: usize| [0, 1, size / 2, size - 1, size, size + 1, size + 50];
+    around(sizes[0]).into_iter().flat_map(move |m| around(sizes[1]).map(|c| [m, c]))
+}
+
+/// Writes the pair with the most flow records by both and compares.
+pub fn largest(states: u32, transitions: u32, lengths: [usize; 2]) -> WrittenPair {
+    let library = |[pa, ct]: [_; 2]| unsafe { raw::zolkirta_largest(states, transitions, pa, lengths[0], ct, lengths[1]) };
+    let name = format!("largest of {states} and {transitions}");
+    lent_to_both(&name, &[], lengths, library, |[pa, ct]| TODAY.largest(states, transitions, pa, ct))
 }
 
 /// Reads a text of PRISM by both and compares.
@@ -384,7 +397,8 @@ pub trait Answering {
     fn lent(&self, call: &str, one: &[u8], other: &[u8], length: usize) -> (Answer, Vec<u8>);
     fn alike(&self, model: &[u8], certificate: &[u8], named: [u32; 3]) -> AlikeAnswer;
     /// A rewriting call, by its name, with lent buffers of these lengths.
-    fn rewrite(&self, call: &str, model: &[u8], certificate: &[u8], lengths: [usize; 2]) -> Rewritten;
+    fn rewrite(&self, call: &str, model: &[u8], certificate: &[u8], lengths: [usize; 2]) -> WrittenPair;
+    fn largest(&self, states: u32, transitions: u32, lengths: [usize; 2]) -> WrittenPair;
 }
 
 /// What a call answers that is lent buffers of these lengths, and what it writes there.
@@ -412,8 +426,12 @@ impl Answering for Limits {
         self.alike(model, count, certificate, s, t)
     }
 
-    fn rewrite(&self, call: &str, model: &[u8], certificate: &[u8], lengths: [usize; 2]) -> Rewritten {
+    fn rewrite(&self, call: &str, model: &[u8], certificate: &[u8], lengths: [usize; 2]) -> WrittenPair {
         written(lengths, |[pa, ct]| lending_two(call).1(self, model, certificate, pa, ct))
+    }
+
+    fn largest(&self, states: u32, transitions: u32, lengths: [usize; 2]) -> WrittenPair {
+        written(lengths, |[pa, ct]| self.largest(states, transitions, pa, ct))
     }
 }
 
@@ -437,8 +455,12 @@ impl Answering for Both {
         alike(model, certificate, named)
     }
 
-    fn rewrite(&self, call: &str, model: &[u8], certificate: &[u8], lengths: [usize; 2]) -> Rewritten {
+    fn rewrite(&self, call: &str, model: &[u8], certificate: &[u8], lengths: [usize; 2]) -> WrittenPair {
         rewrite_by(call, model, certificate, lengths)
+    }
+
+    fn largest(&self, states: u32, transitions: u32, lengths: [usize; 2]) -> WrittenPair {
+        largest(states, transitions, lengths)
     }
 }
 
@@ -491,14 +513,19 @@ impl Line {
     /// What is said to the line, as far as its file tells it.
     pub fn said_by(&self, calls: &impl Answering) -> Said {
         let lent = |(answer, out)| (answer, 0, vec![out]);
+        let two = |(said, outs): WrittenPair| {
+            assert_eq!(said.certificate_written, outs[1].len());
+            (said.answer, 0, outs.into())
+        };
         let (answer, yes, outs) = match (&self.numbers[..], &self.files[..]) {
             (&[state], [model]) if self.call == "fetch" => lent((calls.fetch(model, state), Vec::new())),
             (&[length], [text]) if self.call == "read_prism" => lent(calls.read_prism(text, length as usize)),
             (&[length], [one, other]) => lent(calls.lent(&self.call, one, other, length as usize)),
             (&[model_out, certificate_out], [model, certificate]) => {
-                let (said, outs) = calls.rewrite(&self.call, model, certificate, [model_out, certificate_out].map(|x| x as usize));
-                assert_eq!(said.certificate_written, outs[1].len());
-                (said.answer, 0, outs.into())
+                two(calls.rewrite(&self.call, model, certificate, [model_out, certificate_out].map(|x| x as usize)))
+            }
+            (&[states, transitions, model_out, certificate_out], _) if self.call == "largest" => {
+                two(calls.largest(states, transitions, [model_out, certificate_out].map(|x| x as usize)))
             }
             (&[count, s, t], [model, certificate]) if self.call == "alike" => {
                 let said = calls.alike(model, certificate, [count, s, t]);
@@ -512,7 +539,7 @@ impl Line {
     /// The limits that the line was written under.
     pub fn limits(&self) -> &'static Limits {
         match self.name {
-            "k9" | "k10" | "k11" => &TODAY,
+            "k9" | "k10" | "k11" | "k13" => &TODAY,
             "k7" => &BEFORE_K10,
             _ => &BEFORE_K7,
         }
@@ -595,7 +622,7 @@ impl Line {
 }
 
 /// The files of vectors, in the order in which they came.
-pub const NAMES: [&str; 10] = ["base", "k1", "k2", "k3", "k4", "k6", "k7", "k9", "k10", "k11"];
+pub const NAMES: [&str; 11] = ["base", "k1", "k2", "k3", "k4", "k6", "k7", "k9", "k10", "k11", "k13"];
 
 /// The lines of a file of vectors.
 fn lines_of(name: &'static str) -> Vec<Line> {
@@ -650,7 +677,7 @@ pub fn stored_costs() -> Vec<Pair> {
 }
 
 /// Stored pairs once rewritten; those with a k that does not fit then are left out.
-fn rewritten(pairs: Vec<Pair>, rewrite: impl Fn(&[u8], &[u8]) -> Rewritten) -> Vec<Pair> {
+fn rewritten(pairs: Vec<Pair>, rewrite: impl Fn(&[u8], &[u8]) -> WrittenPair) -> Vec<Pair> {
     let all = pairs.into_iter().map(|(model, certificate)| rewrite(&model, &certificate));
     let fitting = all.filter(|(said, _)| {
         assert!(matches!(said.answer.number, 0 | 35));

@@ -10,7 +10,7 @@ pub mod random;
 mod simplex;
 mod varied;
 
-use crate::compare::{Numbers, Rewritten};
+use crate::compare::{Numbers, WrittenPair};
 use files::{Certificate, Flow, Model, Refutation};
 use question::{Met, Question};
 use varied::{added, varied_flow, varied_prices};
@@ -80,7 +80,7 @@ pub fn certificate(model: &Model, choices: &mut Numbers) -> Option<Certificate> 
 }
 
 /// A pair in any terms was rewritten to what the maker makes of it, which is handed back; none where a k does not fit, and 35 names its flow.
-pub fn rewritten(model: &Model, certificate: &Certificate, (said, files): Rewritten) -> Option<(Model, Certificate)> {
+pub fn rewritten(model: &Model, certificate: &Certificate, (said, files): WrittenPair) -> Option<(Model, Certificate)> {
     match certificate.for_lowest(model) {
         Ok(own) => {
             let lowest = model.lowest();

@@ -1,13 +1,14 @@
 //! Document 01's judge, reduce and fetch, document 02's join and alike (K1), the state and the remainder of 16, 20 and 21 (K2), its merged
 //! transitions that are the same as fractions (K3), its block sheet (K4), its cost pairs (K6), its limits (K7), its texts of PRISM (K9), its
-//! lowest terms (K10), its parallel composition and its hiding (K11) in plain Rust, written from the documents alone: what the library is compared
-//! with. Every call is one of a set of limits, today's or older ones.
+//! lowest terms (K10), its parallel composition and its hiding (K11), its sentences (K12) and its largest certificates (K13) in plain Rust, written
+//! from the documents alone: what the library is compared with. Every call but that of sentences is one of a set of limits, today's or older ones.
 //!
 //! Every sum fits an i64. Weights of a transition add up to at most 65,535, so weights times prices stay below 2^47 and a difference
 //! of two such sums below 2^48; L times cost times d is below 2^53. k times d is below 2^48, and a state's equation has at most 768 of
 //! them (each layer and transition once), 128 w and one D: below 2^58. d0 times the at most 128 w onto a state is below 2^55. k times d times
 //! cost is below 2^54, and at most 511 of them are paid: 256 transitions, of which all but the moves stand in two layers. That is below 2^63.
 
+mod largest;
 mod prism;
 pub mod sentence;
 
@@ -638,6 +639,19 @@ fn write(file: &[u8], buffer: &mut [u8], shorter: u32) -> Answer {
     Answer { written: file.len(), ..Answer::default() }
 }
 
+/// A refusal where two files are asked for.
+fn refused_pair(answer: Answer) -> PairAnswer {
+    PairAnswer { answer, certificate_written: 0 }
+}
+
+/// Writes a model and a certificate first into their buffers, or refuses with this number where one is shorter.
+fn write_both([pa, ct]: [Vec<u8>; 2], [model_out, certificate_out]: [&mut [u8]; 2], shorter: u32) -> PairAnswer {
+    if model_out.len() < pa.len() || certificate_out.len() < ct.len() {
+        return refused_pair(numbered(shorter));
+    }
+    PairAnswer { answer: write(&pa, model_out, shorter), certificate_written: write(&ct, certificate_out, shorter).written }
+}
+
 /// The calls.
 impl Limits {
     /// The transitions that leave a state, as a run of the model's bytes.
@@ -755,19 +769,14 @@ impl Limits {
 
     /// Judges a pair by a rule, in any terms; on acceptance both files stand first in their buffers, in lowest terms.
     fn rewrite_by(&self, rule: Rule, model: &[u8], certificate: &[u8], model_out: &mut [u8], certificate_out: &mut [u8]) -> PairAnswer {
-        let refusal = |answer| PairAnswer { answer, certificate_written: 0 };
         let (sound, accepted) = match (Limits { terms: Terms::Any, ..*self }).judged(rule, model, certificate, usize::MAX) {
             Ok(judged) => judged,
-            Err(answer) => return refusal(answer),
+            Err(answer) => return refused_pair(answer),
         };
-        let [pa, ct] = match rewritten(&sound, model, &accepted, certificate) {
-            Ok(files) => files,
-            Err(fault) => return refusal(refused(2, certificate, fault)),
-        };
-        if model_out.len() < pa.len() || certificate_out.len() < ct.len() {
-            return refusal(numbered(36));
+        match rewritten(&sound, model, &accepted, certificate) {
+            Ok(files) => write_both(files, [model_out, certificate_out], 36),
+            Err(fault) => refused_pair(refused(2, certificate, fault)),
         }
-        PairAnswer { answer: write(&pa, model_out, 36), certificate_written: write(&ct, certificate_out, 36).written }
     }
 
     /// Judges a stored pair, and writes it in lowest terms.

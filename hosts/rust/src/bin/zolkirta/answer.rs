@@ -3,7 +3,7 @@
 use crate::automaton::{decoded, states, transitions_of, Transition};
 use crate::prism;
 use std::collections::BTreeMap;
-use zolkirta::{OwnedRefusal, Refusal, MODEL, SENTENCE, SHEET, STATES};
+use zolkirta::{largest_certificate, largest_model, OwnedRefusal, Refusal, MODEL, SENTENCE, SHEET, STATES, TRANSITIONS};
 
 /// What an accepted call found.
 pub enum Found {
@@ -44,6 +44,11 @@ pub enum Found {
     },
     /// The sentence of an answer.
     Sentence(String),
+    /// A pair with the most flow records.
+    Largest {
+        model: Vec<u8>,
+        certificate: Vec<u8>,
+    },
 }
 
 pub type Answer = Result<Found, OwnedRefusal>;
@@ -102,13 +107,13 @@ pub fn join(files: &[&[u8]], _: &[i128]) -> Answer {
     Ok(Found::Joined { counts: [states(files[0]), states(files[1])], joined })
 }
 
-/// A number above 32 bits is the largest of them, which is no state of any model either.
-fn state(asked: i128) -> u32 {
+/// A number above 32 bits is the largest of them, which is no state and no count of any model either.
+fn in_32_bits(asked: i128) -> u32 {
     asked.try_into().unwrap_or(u32::MAX)
 }
 
 pub fn fetch(files: &[&[u8]], asked: &[i128]) -> Answer {
-    let (model, state) = (files[0], state(asked[0]));
+    let (model, state) = (files[0], in_32_bits(asked[0]));
     let run = |state| zolkirta::fetch(model, state).map_err(Refusal::into_owned);
     let asked_for = run(state)?;
     let mut before = 0;
@@ -119,7 +124,7 @@ pub fn fetch(files: &[&[u8]], asked: &[i128]) -> Answer {
 }
 
 pub fn alike(files: &[&[u8]], asked: &[i128]) -> Answer {
-    let (certificate, s, t) = (files[2], state(asked[0]), state(asked[1]));
+    let (certificate, s, t) = (files[2], in_32_bits(asked[0]), in_32_bits(asked[1]));
     let joined = lent(zolkirta::join, files, MODEL)?;
     let first_count = states(files[0]) as u32;
     // A number that would pass 32 bits stays the largest of them, which is no state of any model.
@@ -157,4 +162,11 @@ pub fn sentence(_: &[&[u8]], told: &[i128]) -> Answer {
     let (number, file, state) = (told[0] as u32, told[1] as u32, told[3] as u32);
     let said = zolkirta::sentence(number, file, told[2] as usize, state, told[4] as i64, &mut [0; SENTENCE]).map(str::to_owned);
     said.map(Found::Sentence).map_err(Refusal::into_owned)
+}
+
+pub fn largest(_: &[&[u8]], asked: &[i128]) -> Answer {
+    let [mut pa, mut ct] = [largest_model, largest_certificate].map(|bytes| vec![0; bytes(STATES, TRANSITIONS)]);
+    let written = zolkirta::largest(in_32_bits(asked[0]), in_32_bits(asked[1]), &mut pa, &mut ct);
+    let (model, certificate) = written.map_err(Refusal::into_owned)?;
+    Ok(Found::Largest { model: model.to_vec(), certificate: certificate.to_vec() })
 }

@@ -10,6 +10,11 @@ pub fn transitions(model: &[u8]) -> usize {
     number(&model[4..6]).into()
 }
 
+/// How many flow records a certificate for the model has at most.
+pub fn most_flows(model: &[u8]) -> usize {
+    zolkirta::flows(states(model), transitions(model))
+}
+
 /// The action count, from the model's head.
 pub fn actions(model: &[u8]) -> usize {
     model[3].into()

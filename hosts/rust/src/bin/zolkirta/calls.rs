@@ -1,6 +1,7 @@
 //! The calls: what each is named, what it takes, and what it is for.
 
-use crate::answer::{alike, compose, fetch, hide, join, judge, judge_costs, read_prism, reduce, rewrite, rewrite_costs, sentence, sheet, Answer};
+use crate::answer::{alike, compose, fetch, hide, join, judge, judge_costs, largest, read_prism, reduce, rewrite, rewrite_costs, sentence, sheet};
+use crate::answer::Answer;
 use std::ops::RangeInclusive;
 use zolkirta::File;
 
@@ -25,9 +26,13 @@ pub struct Number {
     pub range: RangeInclusive<i128>,
 }
 
-/// A state of a model. However large it is, the library is asked: no model has one above 32 bits.
+/// A state of a model, or how many of a thing it has. However large it is, the library is asked: no model has one above 32 bits.
+const fn of_model(word: &'static str, said: &'static str) -> Number {
+    Number { word, said, range: 0..=i128::MAX }
+}
+
 const fn state(word: &'static str) -> Number {
-    Number { word, said: "state's number", range: 0..=i128::MAX }
+    of_model(word, "state's number")
 }
 
 const ACTION: Number = Number { word: "[ACTION ...]", said: "action's number", range: 0..=u8::MAX as i128 };
@@ -114,7 +119,7 @@ impl Call {
     }
 }
 
-pub const CALLS: [Call; 13] = [
+pub const CALLS: [Call; 14] = [
     Call {
         name: "judge",
         files: &[MODEL, CERTIFICATE],
@@ -256,5 +261,16 @@ pub const CALLS: [Call; 13] = [
                remainder, of which the last may be below 0. No two answers have the same\n\
                sentence.",
         make: sentence,
+    },
+    Call {
+        name: "largest",
+        files: &[],
+        numbers: Numbers::Each(&[of_model("STATES", "number of states"), of_model("TRANSITIONS", "number of transitions")]),
+        writes: Writes::Pair,
+        purpose: "writes a pair with as many flow records as any of its size can have",
+        more: "For hosts that set space aside: no accepted certificate without costs for a\n\
+               model of so many STATES and TRANSITIONS has more flow records. Those of this\n\
+               one have 16 bytes each; others may be longer. Both files are written, or none.",
+        make: largest,
     },
 ];

@@ -17,7 +17,7 @@ pub struct Command {
     pub call: &'static Call,
     /// The names of its files, in its order.
     pub files: Vec<OsString>,
-    /// Its states or actions, or what an answer tells.
+    /// Its states, actions or counts, or what an answer tells.
     pub numbers: Vec<i128>,
     /// The files that it writes, as many as are named.
     pub outputs: Vec<Output>,

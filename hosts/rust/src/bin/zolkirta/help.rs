@@ -32,8 +32,8 @@ Options, in any place:
   -o OUT, --output OUT  the file to write: whole, or not at all. A refusal
                         leaves an older file as it was. - stands for standard
                         output; the verdict then goes to standard error.
-                        rewrite and rewrite-costs write two files, both or
-                        none, whose names follow one -o behind the call.
+                        rewrite, rewrite-costs and largest write two files,
+                        both or none, whose names follow one -o behind the call.
   --json                the verdict as one JSON object on one line
   -q, --quiet           no verdict, only the status and errors
   -h, --help            this text, or that of a call
@@ -81,4 +81,5 @@ status 2 there is no object:
   right_states          of a composition, how many states RIGHT has: state s of
                         LEFT with e of RIGHT is s * right_states + e
   made_internal         how many transitions were made internal by hide
+  flows                 how many flow records the certificate of largest has
 ";

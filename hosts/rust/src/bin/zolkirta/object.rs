@@ -1,7 +1,7 @@
 //! The verdict as one JSON object on one line. Every field is there always, null where it does not apply.
 
 use crate::answer::Found;
-use crate::automaton::{states, transitions, Target, Transition};
+use crate::automaton::{most_flows, states, transitions, Target, Transition};
 use crate::json::Value;
 use crate::verdict::Verdict;
 
@@ -39,6 +39,7 @@ fn object(verdict: &Verdict) -> Value {
         ("certificate_output", certificate.map(|(output, _)| output.name()).into()),
         ("right_states", found.and_then(|found| right_states(found, &verdict.files)).into()),
         ("made_internal", found.and_then(made_internal).into()),
+        ("flows", found.and_then(flows).into()),
     ])
 }
 
@@ -91,6 +92,13 @@ fn right_states(found: &Found, files: &[Vec<u8>]) -> Option<usize> {
 fn made_internal(found: &Found) -> Option<usize> {
     match found {
         Found::Hidden { made_internal, .. } => Some(made_internal.values().sum()),
+        _ => None,
+    }
+}
+
+fn flows(found: &Found) -> Option<usize> {
+    match found {
+        Found::Largest { model, .. } => Some(most_flows(model)),
         _ => None,
     }
 }

@@ -1,19 +1,20 @@
 //! The verdict in words: a line that says it, and what else there is.
 
 use crate::answer::Found;
-use crate::automaton::{actions, highest_label, states, transitions, Target, Transition};
+use crate::automaton::{actions, highest_label, most_flows, states, transitions, Target, Transition};
 use crate::input::shown_input;
 use crate::prism::Line;
 use crate::verdict::{Place, Verdict};
 use std::fmt::Write;
-use zolkirta::OwnedRefusal;
+use zolkirta::{OwnedRefusal, STATES, TRANSITIONS};
 
 /// The refusals of states that a model does not have: of one to fetch, and of one to compare.
 const NO_STATE: u32 = 24;
 const NOT_IN_PARTS: u32 = 27;
 
-/// The refusal of a composition that passes a limit.
+/// The refusal of a composition that passes a limit, and of counts that do.
 const COMPOSED_MODEL: u32 = 37;
+const LARGEST_COUNTS: u32 = 40;
 
 /// How many bytes of a record at fault are shown, and of a line.
 const SHOWN_BYTES: usize = 16;
@@ -51,10 +52,14 @@ fn first_line(verdict: &Verdict, found: &Found) -> String {
             format!("{word}: state {s} of {} {behaves} as state {t} of {}", verdict.shown(0), verdict.shown(1))
         }
         Found::Read { names, model } => {
-            let [states, transitions] = [counted(states(model), "state"), counted(transitions(model), "transition")];
+            let [states, transitions] = sizes(model);
             format!("accepted: {states}, {transitions}, {}", counted(names.len(), "named action"))
         }
         Found::Sentence(sentence) => sentence.clone(),
+        Found::Largest { model, .. } => {
+            let [states, transitions] = sizes(model);
+            format!("accepted: {} for {states} and {transitions}", counted(most_flows(model), "flow record"))
+        }
     }
 }
 
@@ -73,7 +78,7 @@ fn further_lines(verdict: &Verdict, found: &Found) -> String {
             let name_lines: String = names.iter().zip(1..).map(|(name, action)| format!("action {action}: {name}\n")).collect();
             name_lines + &model_line(verdict, model)
         }
-        Found::Rewritten { model, certificate, .. } => {
+        Found::Rewritten { model, certificate, .. } | Found::Largest { model, certificate } => {
             model_line(verdict, model) + &written_line(verdict, 1, &counted(certificate.len(), "byte"))
         }
         Found::Sheet { sheet, .. } if verdict.command.outputs.is_empty() => sheet.clone(),
@@ -99,8 +104,7 @@ fn composition_lines(left: &[u8], right: &[u8]) -> String {
 }
 
 fn model_line(verdict: &Verdict, model: &[u8]) -> String {
-    let sizes = [counted(states(model), "state"), counted(transitions(model), "transition"), counted(model.len(), "byte")];
-    written_line(verdict, 0, &sizes.join(", "))
+    written_line(verdict, 0, &format!("{}, {}", sizes(model).join(", "), counted(model.len(), "byte")))
 }
 
 /// The line of the file that is written first, or second.
@@ -138,6 +142,7 @@ fn refused_lines(verdict: &Verdict, refusal: &OwnedRefusal) -> String {
     let more: String = match refusal.number {
         NO_STATE | NOT_IN_PARTS => verdict.models().map(|(name, model)| states_line(&name, model)).collect(),
         COMPOSED_MODEL => verdict.models().map(|(name, model)| sizes_line(&name, model)).collect(),
+        LARGEST_COUNTS => format!("a model has 1 to {STATES} states and up to {TRANSITIONS} transitions\n"),
         _ => verdict.place(refusal).map_or(String::new(), stretch_line),
     };
     let off = refusal.difference.map_or(String::new(), |difference| format!("{difference}\n"));
@@ -152,9 +157,14 @@ fn states_line(name: &str, model: &[u8]) -> String {
     }
 }
 
+/// How many states and transitions a sound model has.
+fn sizes(model: &[u8]) -> [String; 2] {
+    [counted(states(model), "state"), counted(transitions(model), "transition")]
+}
+
 /// How large a sound model is, as far as its head and its labels say.
 fn sizes_line(name: &str, model: &[u8]) -> String {
-    let [states, transitions] = [counted(states(model), "state"), counted(transitions(model), "transition")];
+    let [states, transitions] = sizes(model);
     format!("{name} has {states}, {transitions} and labels up to {}\n", highest_label(model))
 }
 

@@ -36,7 +36,7 @@ impl Verdict<'_> {
             Ok(Found::Reduced { merged: model, .. } | Found::Joined { joined: model, .. } | Found::Read { model, .. }) => vec![model],
             Ok(Found::Composed(model) | Found::Hidden { model, .. }) => vec![model],
             Ok(Found::Sheet { sheet, .. }) => vec![sheet.as_bytes()],
-            Ok(Found::Rewritten { model, certificate, .. }) => vec![model, certificate],
+            Ok(Found::Rewritten { model, certificate, .. } | Found::Largest { model, certificate }) => vec![model, certificate],
             _ => Vec::new(),
         }
     }

@@ -6,6 +6,7 @@ pub mod Product
 pub mod ProductLaws
 pub mod PairsLaws
 pub mod LargestPairs
+pub mod InsideOf
 pub mod PairsLeftLaws
 pub mod BlocksLargest
 pub mod Spelling
@@ -16,6 +17,7 @@ pub mod PartsLaws
 pub mod Once
 pub mod Moves
 pub mod MovesLaws
+pub mod OneLayer
 pub mod PlainMoves
 pub mod Wider
 pub mod Own

@@ -52,7 +52,7 @@ module _ (A B C : Automaton) (composed : IsComposed A B C) where
             (m .0, m .1, aloneAtOnce q e (m .0) (m .2))
 
     -- a step of transitions with a shared action, each with the right one's r
-    throughTogether : SoundAutomaton B → (r : ℕ) → r < B .transitions → Shared A B (B .action r) → l .step ≡ true → ((s b : ℕ) → l .allows s b → b ≡ B .action r) → (h : ℕ → ℕ) × Through C l h (spread (B .states) x (start (B .source r) (B .denominator r))) (spread (B .states) y (B .weight r))
+    pub throughTogether : SoundAutomaton B → (r : ℕ) → r < B .transitions → Shared A B (B .action r) → l .step ≡ true → ((s b : ℕ) → l .allows s b → b ≡ B .action r) → (h : ℕ → ℕ) × Through C l h (spread (B .states) x (start (B .source r) (B .denominator r))) (spread (B .states) y (B .weight r))
     unfolding IsMove SoundAutomaton start
     throughTogether sound r below shared step action =
         throughAtOnce A B C (composed .states) (λ j i. sound j i .from) any t (once r) _ _ has

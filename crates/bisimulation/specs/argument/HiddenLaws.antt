@@ -11,13 +11,14 @@ use Rattle.bisimulation.specs.argument.ChoiceLaws.{eitherTrue, false-not
 use Rattle.bisimulation.specs.definitions.Sum.{sum}
 use Rattle.bisimulation.specs.argument.SumLaws.{sumCong}
 use Rattle.bisimulation.specs.definitions.Automaton.{Automaton}
-use Rattle.bisimulation.specs.definitions.StepRule.{arriving, leaving, overTargets, Met}
+use Rattle.bisimulation.specs.definitions.StepRule.{Flow, arriving, leaving, overTargets, StepRule, Met}
 use Rattle.bisimulation.specs.definitions.Largest.{Bisimulation}
 use Rattle.bisimulation.specs.definitions.Hidden.{hiddenAction, IsHidden}
 use Rattle.bisimulation.specs.argument.Once.{none}
 use Rattle.bisimulation.specs.argument.Moves.{Layer, Movement, internally, internalMovement, plainMovement, start, Through, Moves, MetBy, Nothing}
 use Rattle.bisimulation.specs.argument.MovesLaws.{movesCong, throughCong, stays}
-use Rattle.bisimulation.specs.argument.PlainMoves.{eitherMovement, externalOf, oneLayer, plainBy}
+use Rattle.bisimulation.specs.argument.OneLayer.{movesOne}
+use Rattle.bisimulation.specs.argument.PlainMoves.{eitherMovement, externalOf, plainBy}
 use Rattle.bisimulation.specs.argument.PlainAllowed.{plainAllowed}
 use Rattle.bisimulation.specs.argument.LayerValues.{arrivingAdd, leavingAdd}
 
@@ -57,7 +58,7 @@ module _ (chosen : ℕ → Bool) (A H : Automaton) (hidden : IsHidden chosen A H
       ∙ sumCong (A .transitions) _ _ (λ q l. ap₂ (λ (s d : ℕ). ifSame s v (k q * d) 0) (hidden .source q l) (hidden .denominator q l))
 
   -- a layer that allows what is hidden where it was allowed before
-  throughHidden : {l l′ : Layer} {k x y : ℕ → ℕ} → ((s b : ℕ) → l .allows s b → l′ .allows s (hiddenAction chosen b)) → (l′ .step ≡ true → l .step ≡ true) → Through A l k x y → Through H l′ k x y
+  pub throughHidden : {l l′ : Layer} {k x y : ℕ → ℕ} → ((s b : ℕ) → l .allows s b → l′ .allows s (hiddenAction chosen b)) → (l′ .step ≡ true → l .step ≡ true) → Through A l k x y → Through H l′ k x y
   throughHidden {l} {l′} {k} allows steps t =
       record {
         uses = λ r i u. let j : r < A .transitions = omega (arith, hidden .transitions) in
@@ -85,24 +86,16 @@ module _ (chosen : ℕ → Bool) (A H : Automaton) (hidden : IsHidden chosen A H
       upTo (suc i) l = throughAdded H false-not (upTo i (omega arith)) (throughHidden (internal i (omega arith)) (λ s. absurd (false-not s)) (o .through i (omega arith)))
 
       movesAdded : Moves H internalMovement (λ i r. sum (m .count) (λ j. k j r)) x y
-      unfolding ifSame
-      movesAdded =
-          record {
-            between = λ i. ifSame i 0 x y;
-            starts = λ v i. refl;
-            through =
-                oneLayer (λ i. Through H internally (λ r. sum (m .count) (λ j. k j r)) (ifSame i 0 x y) (ifSame (suc i) 0 x y))
-                (throughCong (λ v i. o .starts v (omega (arith, hidden .states))) (λ v i. o .ends v (omega (arith, hidden .states))) (upTo (m .count) (le-refl _)));
-            ends = λ v i. refl;
-          }
+      movesAdded = movesOne (throughCong (λ v i. o .starts v (omega (arith, hidden .states))) (λ v i. o .ends v (omega (arith, hidden .states))) (upTo (m .count) (le-refl _)))
 
   module _ (W : ℕ → ℕ → Type 0) (q t : ℕ) (l : q < A .transitions) where
     abbrev a : ℕ
     a = A .action q
 
-    hiddenBy : {m m′ : Movement} {k : ℕ → ℕ → ℕ} (o : MetBy A m (Nothing A q t) W q t) → Moves H m′ k (start t (o .flow .D)) (overTargets A (o .flow .w)) → MetBy H m′ (Nothing H q t) W q t
+    -- the same D and w, with the k of H
+    pub hiddenBy : {m m′ : Movement} {More More′ : Flow → Type 0} {k : ℕ → ℕ → ℕ} (o : MetBy A m More W q t) → Moves H m′ k (start t (o .flow .D)) (overTargets A (o .flow .w)) → More′ (record { D = o .flow .D; k = k; w = o .flow .w }) → MetBy H m′ More′ W q t
     unfolding overTargets
-    hiddenBy {k = k} o moves =
+    hiddenBy {k = k} o moves more =
         let w = o .flow .w in
         record {
           flow = record { D = o .flow .D; k = k; w = w };
@@ -115,15 +108,15 @@ module _ (chosen : ℕ → Bool) (A H : Automaton) (hidden : IsHidden chosen A H
                 ∙ o .couples .target u j
                 ∙ ap (λ (z : ℕ). z * o .flow .D) (sym (hidden .weight q u l j));
           };
-          more = tt;
+          more = more;
         }
 
     hiddenMet : Met A W q t → Met H W q t
     hiddenMet met =
         plainBy .from H W q t
         (eitherMovement P
-        (λ e. hiddenBy o (movesAdded (o .moves) (λ i j s b h. allInternal e b (plainAllowed a i j s b h))))
-        (λ n. externalOf P (hiddenBy o (kept n)) n))
+        (λ e. hiddenBy o (movesAdded (o .moves) (λ i j s b h. allInternal e b (plainAllowed a i j s b h))) tt)
+        (λ n. externalOf P (hiddenBy o (kept n) tt) n))
       where
         P : Movement → Type 0
         P m = MetBy H m (Nothing H q t) W q t
@@ -144,15 +137,16 @@ module _ (chosen : ℕ → Bool) (A H : Automaton) (hidden : IsHidden chosen A H
             movesCong (λ v i. refl) (λ v i. refl) (ap plainMovement (sym (hidden .action q l ∙ allKept n a (inr refl))))
             (movesKept (o .moves) (λ i j s b h. allKept n b (plainAllowed a i j s b h)))
 
--- 'If a symmetric relation keeps labels and meets the step rule on the left model, then .. the relation itself does so after hiding'
-pub hiddenBisimulation : (chosen : ℕ → Bool) (A H : Automaton) → IsHidden chosen A H → (W : ℕ → ℕ → Type 0) → Bisimulation Met A W → Bisimulation Met H W
-hiddenBisimulation chosen A H hidden W b =
+-- a rule whose questions are still met after hiding
+pub bisimulationHidden : {rule : StepRule} {chosen : ℕ → Bool} {A H : Automaton} {W : ℕ → ℕ → Type 0} → IsHidden chosen A H → ((q t : ℕ) → q < A .transitions → rule A W q t → rule H W q t) → Bisimulation rule A W → Bisimulation rule H W
+bisimulationHidden {A = A} hidden met b =
     record {
       onStates = λ s t w. let o = b .onStates s t w in (omega (arith, hidden .states, o .0), omega (arith, hidden .states, o .1));
       symmetric = b .symmetric;
       keepsLabels = λ s t w. let o = b .onStates s t w in hidden .label s (o .0) ∙ b .keepsLabels s t w ∙ sym (hidden .label t (o .1));
-      meets = record {
-        met = λ s t w q i e. let l : q < A .transitions = omega (arith, hidden .transitions) in
-            hiddenMet chosen A H hidden W q t l (b .meets .met s t w q l (sym (hidden .source q l) ∙ e));
-      };
+      meets = record { met = λ s t w q i e. let l : q < A .transitions = omega (arith, hidden .transitions) in met q t l (b .meets .met s t w q l (sym (hidden .source q l) ∙ e)) };
     }
+
+-- 'If a symmetric relation keeps labels and meets the step rule on the left model, then .. the relation itself does so after hiding'
+pub hiddenBisimulation : (chosen : ℕ → Bool) (A H : Automaton) → IsHidden chosen A H → (W : ℕ → ℕ → Type 0) → Bisimulation Met A W → Bisimulation Met H W
+hiddenBisimulation chosen A H hidden W = bisimulationHidden hidden (hiddenMet chosen A H hidden W)

@@ -19,13 +19,17 @@ pub record Movement : Type 1 where
   pub count : ℕ
   pub layer : ℕ → Layer
 
+-- of one layer
+abbrev pub oneMovement : Layer → Movement
+oneMovement l = record { count = 1; layer = λ i. l }
+
 -- the layer of internal transitions
 abbrev pub internally : Layer
 internally = record { allows = λ s b. b ≡ 0; step = false }
 
 -- document 01's: layer 0 for an internal challenger, layers 0, 1 and 2 for an external one, with its action a in layer 1
 abbrev pub internalMovement : Movement
-internalMovement = record { count = 1; layer = λ i. internally }
+internalMovement = oneMovement internally
 
 abbrev pub externalMovement : ℕ → Movement
 externalMovement a = record { count = 3; layer = λ i. ifSame i 1 (record { allows = λ s b. b ≡ a; step = true }) internally }

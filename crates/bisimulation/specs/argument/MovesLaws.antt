@@ -4,12 +4,12 @@ use mathlib.Core.Path.{_≡_, refl, sym, _∙_, ap, ap₂, subst, subst₂}
 use mathlib.Core.Logic.{_⊎_, inl, inr}
 use mathlib.Core.Bool.{true}
 use native.Mathlib.Decide.{ℕ-discrete, decLt}
-use native.Mathlib.Nat.{eq-zero-or-pos, mul-comm}
+use native.Mathlib.Nat.{eq-zero-or-pos, mul-comm, mul-one}
 use native.Mathlib.Omega.{arith}
 use Rattle.bisimulation.specs.definitions.Choice.{ifLess, ifSame}
-use Rattle.bisimulation.specs.argument.ChoiceLaws.{less, notLess, same, notSame, turned, timesSame}
+use Rattle.bisimulation.specs.argument.ChoiceLaws.{less, notLess, same, notSame, turned, timesSame, eitherSame}
 use Rattle.bisimulation.specs.definitions.Sum.{sum}
-use Rattle.bisimulation.specs.argument.SumLaws.{sumCong, sumZero, sumTimes}
+use Rattle.bisimulation.specs.argument.SumLaws.{sumCong, sumZero, sumTimes, sumTimesRight}
 use Rattle.bisimulation.specs.argument.Once.{once, none, onceUsed, arrivingNone, leavingNone, arrivingOnce, leavingOnce}
 use Rattle.bisimulation.specs.definitions.Automaton.{Automaton}
 use Rattle.bisimulation.specs.definitions.StepRule.{arriving, leaving}
@@ -123,6 +123,24 @@ movesTimes A c {k = k} =
 pub startTimes : (c t D v : ℕ) → c * start t D v ≡ start t (c * D) v
 unfolding start
 startTimes c t D v = mul-comm c _ ∙ timesSame v t D c ∙ ap (λ (z : ℕ). ifSame v t z 0) (mul-comm D c)
+
+-- transitions of t alone: all of it leaves t
+pub leavingOwn : (A : Automaton) (t : ℕ) (k : ℕ → ℕ) → ((r : ℕ) → r < A .transitions → 0 < k r → A .source r ≡ t) → (v : ℕ) → leaving A k v ≡ start t (sum (A .transitions) (λ r. k r * A .denominator r)) v
+unfolding leaving start
+leavingOwn A t k own v =
+    sumCong (A .transitions) _ _ (λ r l. term r l (eq-zero-or-pos (k r)))
+    ∙ sumTimesRight (A .transitions) (start t 1 v) (λ r. k r * A .denominator r)
+    ∙ times (sum (A .transitions) (λ r. k r * A .denominator r))
+  where
+    times : (D : ℕ) → D * start t 1 v ≡ start t D v
+    times D = startTimes D t 1 v ∙ ap (λ (z : ℕ). start t z v) (mul-one D)
+
+    term : (r : ℕ) → r < A .transitions → (k r ≡ 0) ⊎ (0 < k r) → ifSame (A .source r) v (k r * A .denominator r) 0 ≡ k r * A .denominator r * start t 1 v
+    term r l (inl e) =
+        eitherSame (λ z. z ≡ 0) (A .source r) v (omega (arith, ap (λ (z : ℕ). z * A .denominator r) e)) refl
+        ∙ sym (ap (λ (z : ℕ). z * A .denominator r * start t 1 v) e ∙ omega arith)
+    term r l (inr u) =
+        ap (λ (s : ℕ). ifSame s v (k r * A .denominator r) 0) (own r l u) ∙ turned t v (k r * A .denominator r) 0 ∙ sym (times (k r * A .denominator r))
 
 -- the transition q once, in one layer
 unfoldable pub ownLayers : (q layer : ℕ) → ℕ → ℕ → ℕ

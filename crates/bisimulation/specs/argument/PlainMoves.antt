@@ -10,6 +10,7 @@ use Rattle.bisimulation.specs.argument.ChoiceLaws.{same, notSame, false-
 use Rattle.bisimulation.specs.definitions.Automaton.{Automaton}
 use Rattle.bisimulation.specs.definitions.StepRule.{Flow, arriving, leaving, overTargets, overSources, beforeMove, afterMove, internalMove, atTarget, MetExternal, MetInternal, Met}
 use Rattle.bisimulation.specs.argument.Moves.{Movement, internalMovement, externalMovement, plainMovement, start, Through, MetBy, Nothing, ByMovement, DoesOnce, OfAnySource}
+use Rattle.bisimulation.specs.argument.OneLayer.{movesOne, throughOne, onceInOne}
 
 -- the movement by the challenger's kind
 byInternal : {a : ℕ} → a ≡ 0 → internalMovement ≡ plainMovement a
@@ -34,11 +35,7 @@ module _ (P : Movement → Type 0) {a : ℕ} where
   pub externalOf : P (plainMovement a) → a ≢ 0 → P (externalMovement a)
   externalOf p n = subst P (sym (byExternal n)) p
 
--- what holds of each layer of a movement
-pub oneLayer : (P : ℕ → Type 0) → P 0 → (i : ℕ) → i < 1 → P i
-oneLayer P a zero l = a
-oneLayer P a (suc i) l = absurd (omega arith)
-
+-- what holds of each of three layers
 pub threeLayers : (P : ℕ → Type 0) → P 0 → P 1 → P 2 → (i : ℕ) → i < 3 → P i
 threeLayers P a b c zero l = a
 threeLayers P a b c (suc zero) l = b
@@ -47,21 +44,12 @@ threeLayers P a b c (suc (suc (suc i))) l = absurd (omega arith)
 
 module _ (A : Automaton) (More : Flow → Type 0) (W : ℕ → ℕ → Type 0) (q t : ℕ) where
   pub internalBy : (o : MetInternal A W q t) → More (o .flow) → MetBy A internalMovement More W q t
-  unfolding ifLess start internalMove atTarget overSources
+  unfolding start internalMove atTarget overSources
   internalBy o more =
-      let f = o .flow in
-      let between : ℕ → ℕ → ℕ = λ i. ifLess i 1 (start t (f .D)) (overTargets A (f .w)) in
       record {
-        flow = f;
+        flow = o .flow;
         atLeastOne = o .atLeastOne;
-        moves = record {
-          between = between;
-          starts = λ v l. refl;
-          through =
-              oneLayer (λ i. Through A (internalMovement .layer i) (f .k i) (between i) (between (suc i)))
-              (record { uses = o .layer0; balance = λ v l. o .move v l .equal; all = λ s. absurd (false-not s) });
-          ends = λ v l. refl;
-        };
+        moves = movesOne (record { uses = o .layer0; balance = λ v l. o .move v l .equal; all = λ s. absurd (false-not s) });
         couples = record { related = o .related; target = λ u l. o .target u l .equal };
         more = more;
       }
@@ -91,13 +79,13 @@ module _ (A : Automaton) (More : Flow → Type 0) (W : ℕ → ℕ → Type 0) (
   unfoldable pub internalFrom : MetBy A internalMovement More W q t → MetInternal A W q t
   unfolding start internalMove atTarget overSources
   internalFrom m =
-      let o = m .moves in
+      let o = throughOne (m .moves) in
       record {
         flow = m .flow;
         atLeastOne = m .atLeastOne;
-        layer0 = o .through 0 (omega arith) .uses;
+        layer0 = o .uses;
         related = m .couples .related;
-        move = λ v l. record { equal = omega (arith, o .starts v l, o .through 0 (omega arith) .balance v l, o .ends v l) };
+        move = λ v l. record { equal = o .balance v l };
         target = λ u l. record { equal = m .couples .target u l };
       }
 
@@ -133,7 +121,7 @@ pub plainOnce : (a s : ℕ) → DoesOnce (plainMovement a) s a
 unfolding ifSame
 plainOnce a s =
     eitherMovement (λ m. DoesOnce m s a)
-    (λ e. record { layer = 0; below = omega arith; allows = e; others = λ j l n s. false-not s })
+    onceInOne
     (λ n. record {
       layer = 1;
       below = omega arith;

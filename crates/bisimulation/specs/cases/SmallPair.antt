@@ -1,5 +1,5 @@
 -- Document 01, 'A small pair': model S as an automaton, with the refutations, pairs, blocks and flows of its certificate.
-use Prim.Native.Nat.{ℕ, zero, suc, _+_, _<_}
+use Prim.Native.Nat.{ℕ, zero, suc, _<_}
 use mathlib.Core.Path.{_≡_, refl}
 use mathlib.Core.Logic.{_≢_}
 use mathlib.Core.Bool.{true, false}
@@ -42,7 +42,7 @@ abbrev pub small : Automaton
 small = smallWith (λ v. 0)
 
 -- what holds of 0 and 1, or of 0, 1 and 2, holds below 2 and below 3
-belowTwo : (P : ℕ → Type 0) → P 0 → P 1 → (v : ℕ) → v < 2 → P v
+pub belowTwo : (P : ℕ → Type 0) → P 0 → P 1 → (v : ℕ) → v < 2 → P v
 belowTwo P a b zero l = a
 belowTwo P a b (suc zero) l = b
 belowTwo P a b (suc (suc v)) l = absurd (omega arith)

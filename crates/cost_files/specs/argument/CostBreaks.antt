@@ -29,7 +29,7 @@ cost-breaks costs =
     record {
       prices = λ A R q t p.
           eitherSame Unbroken _ _ (internal-unbroken A (priceWithCost (costOf costs) A _) R q t _ _) (external-unbroken A (priceWithCost (costOf costs) A _) R q t _ _ _);
-      equations = λ A q t x.
+      equations = λ A q t x l.
           either-first (λ (f : Fault). Broken f → InOrder (A .states) (equationKinds A q t x) f) _ _ (λ b. plain-order A q t x)
           (λ b. absurd (eitherSame Unbroken _ _ (unbroken 0 (omega arith) (omega arith)) (unbroken 30 (omega arith) (omega arith)) b));
     }

@@ -17,7 +17,7 @@ use Rattle.rules.specs.definitions.Demands.{outcomeBy}
 use Rattle.rules.specs.argument.SoundModelLaws.{current-fit}
 use Rattle.rules.specs.argument.PlainRules.{plainRules}
 use Rattle.rules.specs.argument.PairOutcome.{outcome-refused}
-use Rattle.rules.specs.argument.DemandsHold.{another-mark}
+use Rattle.rules.specs.argument.DemandsHold.{mark-refused}
 use Rattle.rules.specs.argument.MadeLaws.{first-refused, second-refused}
 use Rattle.joined.specs.definitions.JoinAnswer.{joinOutcome}
 use Rattle.cost_files.specs.definitions.CostModel.{CostFileOf, transitionsEnd}
@@ -53,8 +53,8 @@ module _ (bytes : List ℕ) {M : Model} (cost : CostFileOf current bytes M) wher
 
 -- a cost certificate, 43 43, given to a call that judges by document 01's rules, whatever follows acceptance
 pub cost-mark-refused : (s C : List ℕ) (M : Model) → Bytes s → FileOf current s M → 2 ≤ length C → twoAt C 0 ≡ 0x4343 → (follows : Follows) (before : List (List ℕ)) → follows .blockRoom M ≤ length (firstLent before) → outcomeBy plainPairs follows s C before ≡ unwritten (refusalIn (fault 12) 2 0 (length C)) before
-cost-mark-refused s C M b f two e = another-mark plainRules s C M b f two (λ z. omega (arith, e, z))
+cost-mark-refused = mark-refused plainRules 0x4343 (λ s z. omega arith)
 
 -- a certificate without costs, 43 54, given to the call that judges cost pairs
 pub plain-mark-refused : (s C : List ℕ) (M : Model) → Bytes s → CostFileOf current s M → 2 ≤ length C → twoAt C 0 ≡ 0x4354 → (follows : Follows) (before : List (List ℕ)) → follows .blockRoom M ≤ length (firstLent before) → outcomeBy costPairs follows s C before ≡ unwritten (refusalIn (fault 12) 2 0 (length C)) before
-plain-mark-refused s C M b f two e = another-mark costRules s C M b f two (λ z. omega (arith, e, z))
+plain-mark-refused = mark-refused costRules 0x4354 (λ s z. omega arith)

@@ -1,6 +1,6 @@
 -- Document 02, K2, of judging and of a call that judges: 20 and 21 come from a flow record of the certificate, at the place that is answered, whose
 -- equations break first at the state that is answered, by the remainder that is.
-use Prim.Native.Nat.{ℕ, zero, suc, _+_, _≤_}
+use Prim.Native.Nat.{ℕ, zero, suc, _+_, _≤_, _<_}
 use mathlib.Core.Path.{_≡_, refl, sym, subst}
 use mathlib.Core.Logic.{_⊎_, inr, ⊎-elim}
 use mathlib.Core.List.{List, [], _∷_}
@@ -15,6 +15,7 @@ use Rattle.bisimulation.specs.definitions.Prices.{Side, priceOfTargets}
 use Rattle.rules.specs.definitions.Limits.{Terms, Limits}
 use Rattle.rules.specs.definitions.Bytes.{twoAt}
 use Rattle.rules.specs.definitions.Model.{Model, automatonOf}
+use Rattle.rules.specs.definitions.SoundModel.{FitsWidths}
 use Rattle.rules.specs.definitions.Reading.{ReadNumber, Reading, model, noModel}
 use Rattle.rules.specs.definitions.Faults.{Fault, fault, noFault, Passes, firstOf, certificateRecord}
 use Rattle.rules.specs.definitions.Certificate.{FileRule, refutationCount, pairsAfter, afterRefutation, blocksAt, blocksFault, afterFlow, flowAt, flowFault}
@@ -24,14 +25,14 @@ use Rattle.rules.specs.definitions.JudgedBy.{plainPairs}
 use Rattle.rules.specs.definitions.Accepted.{Among, here, there, Asks}
 use Rattle.rules.specs.definitions.Answers.{Answer, refusalIn, answerWithoutPlace, unwritten, Follows}
 use Rattle.rules.specs.definitions.Demands.{outcomeBy, Accepting}
-use Rattle.rules.specs.argument.AnyRule.{PairRules, RefusalOf, pairsOf}
+use Rattle.rules.specs.argument.AnyRule.{CertificateRule, PairRules, RefusalOf, pairsOf}
 use Rattle.rules.specs.argument.FaultLaws.{none-first, certificate-refuses, opened}
 use Rattle.rules.specs.argument.JudgingLaws.{record-cases}
 use Rattle.rules.specs.argument.RecordFaults.{k-either, w-either, open-either, head-either, refutation-either, blocks-either}
 use Rattle.rules.specs.argument.ReadingLaws.{read-number}
 use Rattle.rules.specs.argument.QuestionsLaws.{questions-asked}
 use Rattle.rules.specs.argument.BreakOrder.{InOrder, Kinds, equationKinds, plain-order}
-use Rattle.rules.specs.argument.PlainRules.{PlainNumber, ModelNumber, plainRules}
+use Rattle.rules.specs.argument.PlainRules.{PlainNumber, ModelNumber, wholeRules, plainCertificates, plainRules}
 use Rattle.rules.specs.argument.AnswerLaws.{faultIn}
 use Rattle.rules.specs.argument.PairOutcome.{FollowsLaws, outcome-cases}
 
@@ -42,10 +43,11 @@ Broken f = (f .number ≡ 20) ⊎ (f .number ≡ 21)
 abbrev pub Unbroken : Fault → Type 0
 Unbroken f = Broken f → ⊥
 
--- what a step rule tells with them: its price conditions answer neither, and its equations are looked at in the order of these kinds
+-- what a step rule tells with them: its price conditions answer neither, and its equations against a state t are looked at in the order of these
+-- kinds
 pub record TellsBreaks (kinds : Kinds) (file : FileRule) : Type 0 where
   pub prices : (A : Automaton) (R : Pairs) (q t : ℕ) (p : ℕ → ℤ) → Unbroken (file .pricesFault A R q t p)
-  pub equations : (A : Automaton) (q t : ℕ) (x : Flow) → Broken (file .equationsFault A q t x) → InOrder (A .states) (kinds A q t x) (file .equationsFault A q t x)
+  pub equations : (A : Automaton) (q t : ℕ) (x : Flow) → t < A .states → Broken (file .equationsFault A q t x) → InOrder (A .states) (kinds A q t x) (file .equationsFault A q t x)
 
 -- 'Place alone says which question a record meets': the flow record at a place meets a question, where those of the questions given stand from
 -- `at` on
@@ -149,6 +151,7 @@ module _ (L : Limits) (kinds : Kinds) (file : FileRule) (tells : TellsBreaks kin
       λ b.
       let k = h b in
       let x = k .question in
+      let asked = questions-asked A (blocksAt A C at) .only x (is-among C x place (k .meets)) in
       record {
         certificate = k .certificate;
         marked = k .broken .marked;
@@ -156,12 +159,12 @@ module _ (L : Limits) (kinds : Kinds) (file : FileRule) (tells : TellsBreaks kin
         blocks = at;
         named = named;
         question = x;
-        asked = questions-asked A (blocksAt A C at) .only x (is-among C x place (k .meets));
+        asked = asked;
         meets = k .meets;
         breaks =
             let e = sym (k .broken .is) in
             subst (InOrder (A .states) (kinds A (x .challenger) (x .defender) (flowAt C place))) e
-            (tells .equations A (x .challenger) (x .defender) (flowAt C place) (subst Broken (k .broken .is) b));
+            (tells .equations A (x .challenger) (x .defender) (flowAt C place) (asked .second) (subst Broken (k .broken .is) b));
       }
 
   refutations-told : (left : ℕ) (R : Pairs) (at : ℕ) → CertificateTold (judgeRefutations L file A C left R at)
@@ -228,39 +231,44 @@ module _ (by : PairRules) (kinds : Kinds) (M C : List ℕ) (tells : TellsBreaks 
       late : (k : ℕ) → Among k (follows .late) → Unbroken (fault k)
       late k z b = ⊎-elim (λ x. laws .late 20 r20 (omega arith) (subst (λ (j : ℕ). Among j (follows .late)) x z)) (λ x. laws .late 21 r21 (omega arith) (subst (λ (j : ℕ). Among j (follows .late)) x z)) b
 
--- document 01's rule: its prices are refused with 15 and 16
+-- prices are refused with 15 and 16
+pub price-unbroken : Unbroken (fault 15)
+price-unbroken = unbroken 15 (omega arith) (omega arith)
+
+pub last-unbroken : (A : Automaton) (side : Side) (X G : ℕ → ℤ) (q t : ℕ) → Unbroken (lastFault A side X G q t)
+unfolding lastFault
+last-unbroken A side X G q t = eitherTrue Unbroken _ none (λ b. ⊎-elim (λ x. omega (arith, x)) (λ x. omega (arith, x)) b)
+
+-- document 01's rule
 module _ (A : Automaton) (side : Side) (R : Pairs) (q t : ℕ) where
-  price : Unbroken (fault 15)
-  price = unbroken 15 (omega arith) (omega arith)
-
-  last-unbroken : (X G : ℕ → ℤ) → Unbroken (lastFault A side X G q t)
-  unfolding lastFault
-  last-unbroken X G = eitherTrue Unbroken _ none (λ b. ⊎-elim (λ x. omega (arith, x)) (λ x. omega (arith, x)) b)
-
   pub internal-unbroken : (X G : ℕ → ℤ) → Unbroken (internalPricesFault A side R q t X G)
   unfolding internalPricesFault
-  internal-unbroken X G = eitherTrue Unbroken _ (eitherTrue Unbroken _ (last-unbroken X G) price) price
+  internal-unbroken X G = eitherTrue Unbroken _ (eitherTrue Unbroken _ (last-unbroken A side X G q t) price-unbroken) price-unbroken
 
   pub external-unbroken : (X Y G : ℕ → ℤ) → Unbroken (externalPricesFault A side R q t X Y G)
   unfolding externalPricesFault
   external-unbroken X Y G =
-      eitherTrue Unbroken _ (eitherTrue Unbroken _ (eitherTrue Unbroken _ (eitherTrue Unbroken _ (last-unbroken X G) price) price) price) price
+      eitherTrue Unbroken _ (eitherTrue Unbroken _ (eitherTrue Unbroken _ (eitherTrue Unbroken _ (last-unbroken A side X G q t) price-unbroken) price-unbroken) price-unbroken) price-unbroken
 
 pub plain-breaks : TellsBreaks equationKinds plainRule
 unfolding plainPricesFault byKind
 plain-breaks =
     record {
       prices = λ A R q t p. eitherSame Unbroken _ _ (internal-unbroken A (priceOfTargets A) R q t _ _) (external-unbroken A (priceOfTargets A) R q t _ _ _);
-      equations = λ A q t x b. plain-order A q t x;
+      equations = λ A q t x l b. plain-order A q t x;
     }
 
 -- no number of reading is one of an equation
 pub read-unbroken : (terms : Terms) (k : ℕ) → ReadNumber terms k → Unbroken (fault k)
 read-unbroken terms k h = ⊎-elim (λ x. unbroken k (λ z. omega (arith, x, z)) (λ z. omega (arith, x, z))) (λ x. unbroken k (λ z. omega (arith, x, z)) (λ z. omega (arith, x, z))) (read-number terms k h)
 
--- a call that judges by document 01's rules
-pub plain-break-answered : (M C : List ℕ) (follows : Follows) → FollowsLaws plainRules follows → (before : List (List ℕ)) → AnswerBreaks plainRules equationKinds M C (outcomeBy plainPairs follows M C before .answer)
+-- a call that judges document 01's model files by one step rule, which answers document 01's numbers
+pub whole-break-answered : (L : Limits) (widths : FitsWidths L) (few : L .refutations < 65536) (rule : CertificateRule PlainNumber) (kinds : Kinds) → TellsBreaks kinds (rule .file) → (M C : List ℕ) (follows : Follows) → FollowsLaws (wholeRules L widths few rule) follows → (before : List (List ℕ)) → AnswerBreaks (wholeRules L widths few rule) kinds M C (outcomeBy (pairsOf (wholeRules L widths few rule)) follows M C before .answer)
 unfolding RefusalOf PlainNumber ModelNumber
-plain-break-answered M C =
-    break-answered plainRules equationKinds M C plain-breaks (λ k h. read-unbroken _ k (h .1))
+whole-break-answered L widths few rule kinds tells M C =
+    break-answered (wholeRules L widths few rule) kinds M C tells (λ k h. read-unbroken _ k (h .1))
     (inr (inr (inr (omega arith, omega arith)))) (inr (inr (inr (omega arith, omega arith))))
+
+-- by document 01's own
+pub plain-break-answered : (M C : List ℕ) (follows : Follows) → FollowsLaws plainRules follows → (before : List (List ℕ)) → AnswerBreaks plainRules equationKinds M C (outcomeBy plainPairs follows M C before .answer)
+plain-break-answered = whole-break-answered (plainRules .limits) (plainRules .widths) (plainRules .refutations) plainCertificates equationKinds plain-breaks

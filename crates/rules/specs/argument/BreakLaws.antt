@@ -1,7 +1,7 @@
 -- Document 02, K2: laws of the first break, and what the state and the remainder of a refusal tell.
 use Prim.Native.Nat.{ℕ, zero, suc, _+_, _-_, _≤_, _<_}
-use mathlib.Core.Path.{_≡_, refl, sym, ap, subst}
-use mathlib.Core.Logic.{_⊎_}
+use mathlib.Core.Path.{_≡_, refl, sym, _∙_, ap, subst}
+use mathlib.Core.Logic.{_⊎_, _≢_}
 use mathlib.Core.Bool.{Bool, true, false, cond}
 use mathlib.Core.List.{List}
 use lib.Dec.{ltb, le→leb}
@@ -10,7 +10,7 @@ use lib.Signed.{ltZ, _≤ℤ_, leZ-yes}
 use borrow.Author.Tests.{ltb-false, le-ltb}
 use native.Mathlib.Omega.{arith}
 use native.Mathlib.Decide.{ℕ-discrete}
-use Rattle.bisimulation.specs.definitions.Choice.{ifTrue}
+use Rattle.bisimulation.specs.definitions.Choice.{ifTrue, unlessSame}
 use Rattle.bisimulation.specs.argument.ChoiceLaws.{same, notSame, false-not}
 use Rattle.bisimulation.specs.definitions.StepRule.{Sides, Holds}
 use Rattle.rules.specs.definitions.Faults.{Fault, faultBy, noFault, Passes}
@@ -79,6 +79,18 @@ module _ (number : ℕ) (e : ℕ → Sides) where
           (notSame _ (λ q. n (subst (λ (x : ℕ). Holds (e x)) p (record { equal = q }))) refl)
       go later (no p) =
           same _ (earlier v (omega arith) (omega arith) .equal) (later (omega arith) (omega arith) (λ x l m. earlier x (omega arith) m) n)
+
+  -- only the one at t can
+  pub break-alone : (left v t : ℕ) → v ≤ t → t < v + left → ((u : ℕ) → u ≢ t → Holds (e u)) → breakFrom number e left v ≡ unlessSame (e t .left) (e t .right) (breakAt t) noFault
+  break-alone left v t l m others = go (ℕ-discrete (e t .left) (e t .right))
+    where
+      all : e t .left ≡ e t .right → (u : ℕ) → Dec (t ≡ u) → Holds (e u)
+      all h u (yes z) = subst (λ (x : ℕ). Holds (e x)) z (record { equal = h })
+      all h u (no n) = others u (λ z. n (sym z))
+
+      go : Dec (e t .left ≡ e t .right) → breakFrom number e left v ≡ unlessSame (e t .left) (e t .right) (breakAt t) noFault
+      go (yes h) = sym (break-none left v (λ u a b. all h u (ℕ-discrete t u))) ∙ same _ h refl
+      go (no n) = sym (break-at left v t l m (λ x a b. others x (λ z. omega arith)) (λ h. n (h .equal))) ∙ notSame _ n refl
 
   -- without fault all of them hold
   pub break-passed : (number ≡ 0 → ⊥) → (left v : ℕ) → Passes (breakFrom number e left v) → (u : ℕ) → v ≤ u → u < v + left → Holds (e u)

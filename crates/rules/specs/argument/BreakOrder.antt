@@ -14,7 +14,8 @@ use Rattle.bisimulation.specs.definitions.StepRule.{Sides, Holds, Flow, interna
 use Rattle.rules.specs.definitions.Faults.{Fault, Passes, firstOf}
 use Rattle.rules.specs.definitions.PlainRule.{byKind, firstBreak, internalEquationsFault, externalEquationsFault, plainEquationsFault}
 use Rattle.rules.specs.argument.FaultLaws.{first-stops, first-none}
-use Rattle.rules.specs.argument.BreakLaws.{FirstBreak, break-first, break-passed}
+use Rattle.rules.specs.argument.BreakLaws.{FirstBreak, break-first}
+use Rattle.rules.specs.argument.PlainDecides.{all-hold}
 
 -- equations of one kind, and the number that refuses them
 pub record Kind : Type 0 where
@@ -39,30 +40,26 @@ module _ (A : Automaton) where
     abbrev here : Fault
     here = firstBreak A number sides
 
-    holds : Passes here → (u : ℕ) → u < A .states → Holds (sides u)
-    unfolding firstBreak
-    holds p u m = break-passed number sides some (A .states) 0 p u (omega arith) (omega (arith, m))
-
     breaks : (Passes here → ⊥) → FirstBreak number sides (A .states) 0 here
     unfolding firstBreak
     breaks n = break-first number sides (A .states) 0 n
 
     -- the last kind
-    last-kind : InOrder (A .states) (kind number sides ∷ []) here
+    pub last-kind : InOrder (A .states) (kind number sides ∷ []) here
     unfolding InOrder
     last-kind = go (ℕ-discrete (here .number) 0)
       where
         go : Dec (Passes here) → InOrder (A .states) (kind number sides ∷ []) here
-        go (yes p) = inr (holds p, p)
+        go (yes p) = inr (all-hold A number sides some p, p)
         go (no n) = inl (breaks n)
 
     -- a kind before others
-    kind-before : (ks : List Kind) (next : Fault) → InOrder (A .states) ks next → InOrder (A .states) (kind number sides ∷ ks) (firstOf here next)
+    pub kind-before : (ks : List Kind) (next : Fault) → InOrder (A .states) ks next → InOrder (A .states) (kind number sides ∷ ks) (firstOf here next)
     unfolding InOrder
     kind-before ks next h = go (ℕ-discrete (here .number) 0)
       where
         go : Dec (Passes here) → InOrder (A .states) (kind number sides ∷ ks) (firstOf here next)
-        go (yes p) = inr (holds p, subst (InOrder (A .states) ks) (first-none here next p refl) h)
+        go (yes p) = inr (all-hold A number sides some p, subst (InOrder (A .states) ks) (first-none here next p refl) h)
         go (no n) = inl (subst (FirstBreak number sides (A .states) 0) (first-stops here next refl n) (breaks n))
 
   -- an internal challenger: 20, then 21

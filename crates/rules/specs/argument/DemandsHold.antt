@@ -14,7 +14,7 @@ use Rattle.rules.specs.definitions.Reading.{ReadNumber}
 use Rattle.rules.specs.definitions.Accepted.{Among, here, there}
 use Rattle.rules.specs.definitions.JudgedBy.{plainPairs}
 use Rattle.rules.specs.definitions.SoundModel.{Bytes, FitsWidths}
-use Rattle.rules.specs.argument.AnyRule.{PairRules, RefusalOf, pairsOf}
+use Rattle.rules.specs.argument.AnyRule.{CertificateRule, PairRules, RefusalOf, pairsOf}
 use Rattle.rules.specs.definitions.Answers.{Outcome, leftIn, refusalIn, answerWithoutPlace, unwritten, filled, filledEach, filledWith, Follows, firstLent, writesBlocks, writesFile, JudgeNumber, LateNumber}
 use Rattle.rules.specs.definitions.Demand3.{HoldsModel, LargestBlocks}
 use Rattle.rules.specs.definitions.Demands.{KeepsRulesOn, LargestOf, outcomeBy, Accepting, Demands}
@@ -26,7 +26,7 @@ use Rattle.rules.specs.argument.JudgedFirst.{Found, found-outcome}
 use Rattle.rules.specs.argument.AcceptedExactly.{AcceptedAs, accepted-exactly}
 use Rattle.rules.specs.argument.Demand3Holds.{holds, one-model, holds-read, demand3, largest-of}
 use Rattle.rules.specs.argument.PairOutcome.{FollowsLaws, Followed, outcome-cases, outcome-number, outcome-unwritten, outcome-found, outcome-followed, outcome-other-mark}
-use Rattle.rules.specs.argument.PlainRules.{PlainNumber, ModelNumber, plainRulesAt, plainRules}
+use Rattle.rules.specs.argument.PlainRules.{PlainNumber, ModelNumber, wholeRules, plainCertificates, plainRulesAt, plainRules}
 
 module _ (by : PairRules) (model certificate blocks : List ℕ) (b : Bytes model) where
   -- the two ways to say that the rules are kept
@@ -110,12 +110,24 @@ blocks-follow =
       notTen = none-late;
     }
 
--- document 01's rules, within limits
-module _ (L : Limits) (widths : FitsWidths L) (few : L .refutations < 65536) where
+-- 10 only for a block buffer shorter than the most states, where no refusal of judging is 10
+pub blocks-short : (by : PairRules) → (RefusalOf by 10 → ⊥) → (M C : List ℕ) (before : List (List ℕ)) → Bytes M → outcomeBy (pairsOf by) writesBlocks M C before .answer .number ≡ 10 → length (firstLent before) < by .limits .states
+unfolding unwritten refusalIn answerWithoutPlace filled
+blocks-short by none M C before b =
+    outcome-cases by writesBlocks blocks-follow M C before (λ o. o .answer .number ≡ 10 → length (firstLent before) < by .limits .states)
+    (λ f file place h j z. absurd (none (subst (RefusalOf by) z (h .number))))
+    (λ N end e h z. omega (arith, h, by .models .sound M N (by .models .exactly M N b .0 (holds-read by M b e .reads)) .states))
+    (λ N end blocks e room q z. absurd (omega (arith, z)))
+
+-- document 01's model files within limits, and one step rule that answers document 01's numbers
+module _ (L : Limits) (widths : FitsWidths L) (few : L .refutations < 65536) (rule : CertificateRule PlainNumber) where
+  abbrev by : PairRules
+  by = wholeRules L widths few rule
+
   -- a refusal of judging: one of reading, or 11 to 22
-  pub plain-refusal : (k : ℕ) → RefusalOf (plainRulesAt L widths few) k → ReadNumber (L .terms) k ⊎ ((11 ≤ k) × (k ≤ 22))
+  pub whole-refusal : (k : ℕ) → RefusalOf (wholeRules L widths few rule) k → ReadNumber (L .terms) k ⊎ ((11 ≤ k) × (k ≤ 22))
   unfolding RefusalOf AnyCertificateNumber PlainNumber ModelNumber
-  plain-refusal k h =
+  whole-refusal k h =
       ⊎-elim (λ x. inl (x .1))
       (λ y.
       ⊎-elim
@@ -123,6 +135,23 @@ module _ (L : Limits) (widths : FitsWidths L) (few : L .refutations < 65536) whe
       (λ x. ⊎-elim (λ w. inr (omega (arith, w), omega (arith, w))) (λ w. inr (omega (arith, w), omega (arith, w))) x)
       y)
       h
+
+  module _ (M C : List ℕ) (before : List (List ℕ)) where
+    -- the call that judges answers a number of reading, or one of 10 to 22
+    pub whole-numbered : JudgeNumber (L .terms) (outcomeBy (pairsOf (wholeRules L widths few rule)) writesBlocks M C before .answer .number)
+    unfolding JudgeNumber
+    whole-numbered =
+        outcome-number by writesBlocks blocks-follow M C before (λ k. ReadNumber (L .terms) k ⊎ ((10 ≤ k) × (k ≤ 22))) (inl (read-low (L .terms) 0 (omega arith))) (λ k z. absurd (none-late z))
+        (λ k h. ⊎-elim inl (λ x. inr (omega (arith, x), x .1)) (whole-refusal k h)) (λ N h. inr (omega arith, omega arith))
+
+    -- with 10 only for a block buffer shorter than the most states
+    pub whole-short : Bytes M → outcomeBy (pairsOf (wholeRules L widths few rule)) writesBlocks M C before .answer .number ≡ 10 → length (firstLent before) < L .states
+    whole-short = blocks-short by (λ h. ⊎-elim (λ x. read-not-ten (L .terms) x) (λ x. omega (arith, x)) (whole-refusal 10 h)) M C before
+
+-- document 01's own
+module _ (L : Limits) (widths : FitsWidths L) (few : L .refutations < 65536) where
+  pub plain-refusal : (k : ℕ) → RefusalOf (plainRulesAt L widths few) k → ReadNumber (L .terms) k ⊎ ((11 ≤ k) × (k ≤ 22))
+  plain-refusal = whole-refusal L widths few plainCertificates
 
   -- none of them is a number of a request's own
   pub plain-other : (late : ℕ) → 22 < late → (late ≡ 34 → ⊥) → (k : ℕ) → RefusalOf (plainRulesAt L widths few) k → k ≡ late → ⊥
@@ -146,6 +175,15 @@ pub another-mark : (by : PairRules) (s C : List ℕ) (M : Model) → Bytes s →
 another-mark by s C M b f two other follows before room =
     sym (outcome-other-mark (by .limits) (by .models .read) (by .rule s .file) follows s C before (by .models .exactly s M b .1 f) room two other)
 
+-- so to one with this mark, whatever follows acceptance: 12 at 0
+abbrev pub MarkRefused : PairRules → (mark : ℕ) → Type 0
+MarkRefused by mark =
+    (s C : List ℕ) (M : Model) → Bytes s → by .models .isFile s M → 2 ≤ length C → twoAt C 0 ≡ mark → (follows : Follows) (before : List (List ℕ)) → follows .blockRoom M ≤ length (firstLent before)
+    → outcomeBy (pairsOf by) follows s C before ≡ unwritten (refusalIn (fault 12) 2 0 (length C)) before
+
+pub mark-refused : (by : PairRules) (mark : ℕ) → ((s : List ℕ) → mark ≡ by .rule s .file .mark → ⊥) → MarkRefused by mark
+mark-refused by mark other s C M b f two e = another-mark by s C M b f two (λ z. other s (sym e ∙ z))
+
 -- the number for a short buffer only where it is shorter than the longest file of an accepted pair
 pub file-late : (by : PairRules) (short : ℕ) (file : Model → List ℕ → List ℕ) → FollowsLaws by (writesFile short file) → (short ≡ 0 → ⊥) → (M C buffer : List ℕ) (most : ℕ) → ((a : Found by M C) → length (file (a .N) (a .blocks)) ≤ most) → outcomeBy (pairsOf by) (writesFile short file) M C (buffer ∷ []) .answer .number ≡ short → length buffer < most
 unfolding Accepting
@@ -153,15 +191,6 @@ file-late by short file laws some M C buffer most longest z =
     let f = outcome-found by (writesFile short file) laws M C (buffer ∷ []) (inr (subst (λ (k : ℕ). Among k (short ∷ [])) (sym z) here)) .found in
     let o = found-outcome by M C (writesFile short file) (buffer ∷ []) (λ N end e. omega arith) f in
     omega (arith, file-lacks short (file (f .N) (f .blocks)) buffer some (ap (λ (x : Outcome). x .answer .number) o ∙ z), longest f)
-
--- 10 only for a block buffer shorter than the most states, where no refusal of judging is 10
-pub blocks-short : (by : PairRules) → (RefusalOf by 10 → ⊥) → (M C : List ℕ) (before : List (List ℕ)) → Bytes M → outcomeBy (pairsOf by) writesBlocks M C before .answer .number ≡ 10 → length (firstLent before) < by .limits .states
-unfolding unwritten refusalIn answerWithoutPlace filled
-blocks-short by none M C before b =
-    outcome-cases by writesBlocks blocks-follow M C before (λ o. o .answer .number ≡ 10 → length (firstLent before) < by .limits .states)
-    (λ f file place h j z. absurd (none (subst (RefusalOf by) z (h .number))))
-    (λ N end e h z. omega (arith, h, by .models .sound M N (by .models .exactly M N b .0 (holds-read by M b e .reads)) .states))
-    (λ N end blocks e room q z. absurd (omega (arith, z)))
 
 module _ (M C : List ℕ) (before : List (List ℕ)) where
   abbrev terms : Terms
@@ -172,14 +201,11 @@ module _ (M C : List ℕ) (before : List (List ℕ)) where
 
   -- the call that judges answers a number of reading, or one of 10 to 22
   pub judge-numbered : JudgeNumber terms (outcomeBy plainPairs writesBlocks M C before .answer .number)
-  unfolding JudgeNumber
-  judge-numbered =
-      outcome-number plainRules writesBlocks blocks-follow M C before (λ k. ReadNumber terms k ⊎ ((10 ≤ k) × (k ≤ 22))) (inl (read-low terms 0 (omega arith))) (λ k z. absurd (none-late z))
-      (λ k h. ⊎-elim inl (λ x. inr (omega (arith, x), x .1)) (today k h)) (λ N h. inr (omega arith, omega arith))
+  judge-numbered = whole-numbered (plainRules .limits) (plainRules .widths) (plainRules .refutations) plainCertificates M C before
 
   -- with 10 only for a block buffer of less than 128 bytes
   pub blocks-short-today : Bytes M → outcomeBy plainPairs writesBlocks M C before .answer .number ≡ 10 → length (firstLent before) < 128
-  blocks-short-today = blocks-short plainRules (λ h. ⊎-elim (λ x. read-not-ten terms x) (λ x. omega (arith, x)) (today 10 h)) M C before
+  blocks-short-today = whole-short (plainRules .limits) (plainRules .widths) (plainRules .refutations) plainCertificates M C before
 
   -- a call of document 02 that lends no block buffer: one of reading, of 11 to 22, and its own
   pub late-numbered : (follows : Follows) → FollowsLaws plainRules follows → ((N : Model) → follows .blockRoom N ≡ 0) → LateNumber terms (follows .late) (outcomeBy plainPairs follows M C before .answer .number)

@@ -5,10 +5,9 @@ use mathlib.Core.Logic.{_⊎_, inl, inr, ⊎-elim}
 use mathlib.Core.Bool.{Bool}
 use mathlib.Core.List.{List}
 use lib.ListN.{length}
-use lib.IntN.{ℤ, _-ℤ_}
-use lib.Signed.{ltZ}
+use lib.IntN.{ℤ}
 use native.Mathlib.Omega.{arith}
-use Rattle.bisimulation.specs.definitions.Choice.{ifTrue, unlessTrue}
+use Rattle.bisimulation.specs.definitions.Choice.{ifTrue}
 use Rattle.bisimulation.specs.argument.ChoiceLaws.{eitherSame, eitherTrue}
 use Rattle.bisimulation.specs.definitions.Automaton.{Automaton}
 use Rattle.bisimulation.specs.definitions.StepRule.{Flow, Sides, beforeMove, afterMove, internalMove, atTarget}
@@ -19,12 +18,12 @@ use Rattle.rules.specs.definitions.Limits.{Terms, anyTerms, Limits, limi
 use Rattle.rules.specs.definitions.Model.{HoldOneAutomaton}
 use Rattle.rules.specs.definitions.SoundModel.{FitsWidths}
 use Rattle.rules.specs.argument.SoundModelLaws.{limits-fit, current-fit, with-fits, sound-any}
-use Rattle.rules.specs.definitions.Faults.{Fault, faultBy, fault, noFault}
+use Rattle.rules.specs.definitions.Faults.{Fault, fault, noFault}
 use Rattle.rules.specs.argument.FaultLaws.{Told, told-fault, either-first}
 use Rattle.rules.specs.definitions.Reading.{ReadNumber, Scan, sound, refused, scanWhole, noModel, readingOf, readWhole}
 use Rattle.rules.specs.argument.ReadingLaws.{Tells, whole-tells}
 use Rattle.rules.specs.argument.ReadSound.{read-whole-exactly, read-whole-ends}
-use Rattle.rules.specs.definitions.PlainRule.{byKind, below, lastFault, firstBreak, internalPricesFault, externalPricesFault, plainPricesFault, internalEquationsFault, externalEquationsFault, plainEquationsFault, plainRule}
+use Rattle.rules.specs.definitions.PlainRule.{byKind, below, lastFault, breakFrom, firstBreak, internalPricesFault, externalPricesFault, plainPricesFault, internalEquationsFault, externalEquationsFault, plainEquationsFault, plainRule}
 use Rattle.rules.specs.definitions.PlainSays.{plainSays}
 use Rattle.rules.specs.definitions.Accepted.{FileOf}
 use Rattle.rules.specs.argument.AnyRule.{NoneOr, AnswersOnly, CertificateRule, ModelFiles, PairRules}
@@ -42,52 +41,48 @@ Own f = NoneOr PlainNumber f
 pub none : Own noFault
 none = record { number = inl refl; told = told-fault 0 (omega arith) }
 
-price : Own (fault 15)
+pub price : Own (fault 15)
 unfolding PlainNumber
 price = record { number = inr (inl (omega arith, omega arith)); told = told-fault 15 (omega arith) }
 
 orTrue : (b : Bool) {x y : Fault} → Own x → Own y → Own (ifTrue b x y)
 orTrue b p q = eitherTrue Own b p q
 
--- a last condition, of which the left side is to be below the right
-last-condition : (left right : ℤ) (t : ℕ) → Own (unlessTrue (ltZ left right) (faultBy 16 t (left -ℤ right)) noFault)
-unfolding PlainNumber
-last-condition left right t =
+-- the last condition, whatever the side of the targets
+pub last : (A : Automaton) (side : Side) (X G : ℕ → ℤ) (q t : ℕ) → Own (lastFault A side X G q t)
+unfolding lastFault below PlainNumber
+last A side X G q t =
     by-test Own _ (λ e. none)
     (λ e.
     record {
       number = inr (inl (omega arith, omega arith));
       told =
           record {
-            last = λ z. not-below left right e;
+            last = λ z. not-below (priceAt A X q t) (side G q) e;
             broken = λ z. absurd (⊎-elim (λ x. omega arith) (λ x. omega arith) z);
             otherwise = λ o. absurd (o .not16 refl);
           };
     })
 
--- the price conditions, whatever the side of the targets
+-- the price conditions
 module _ (A : Automaton) (side : Side) (R : Pairs) (q t : ℕ) where
-  last : (X G : ℕ → ℤ) → Own (lastFault A side X G q t)
-  unfolding lastFault below
-  last X G = last-condition (priceAt A X q t) (side G q) t
-
   pub internal-prices : (X G : ℕ → ℤ) → Own (internalPricesFault A side R q t X G)
   unfolding internalPricesFault
-  internal-prices X G = orTrue _ (orTrue _ (last X G) price) price
+  internal-prices X G = orTrue _ (orTrue _ (last A side X G q t) price) price
 
   pub external-prices : (X Y G : ℕ → ℤ) → Own (externalPricesFault A side R q t X Y G)
   unfolding externalPricesFault
-  external-prices X Y G = orTrue _ (orTrue _ (orTrue _ (orTrue _ (last X G) price) price) price) price
+  external-prices X Y G = orTrue _ (orTrue _ (orTrue _ (orTrue _ (last A side X G q t) price) price) price) price
 
 prices : (A : Automaton) (R : Pairs) (q t : ℕ) (p : ℕ → ℤ) → Own (plainPricesFault A R q t p)
 unfolding plainPricesFault byKind
 prices A R q t p = eitherSame Own _ _ (internal-prices A (priceOfTargets A) R q t _ _) (external-prices A (priceOfTargets A) R q t _ _ _)
 
--- a break tells by how much the sides differ
-first-break : (A : Automaton) (number : ℕ) (e : ℕ → Sides) → (number ≡ 20) ⊎ (number ≡ 21) → Own (firstBreak A number e)
-unfolding firstBreak PlainNumber
-first-break A number e is =
-    break-cases number e Own (A .states) 0 none
+-- a break tells by how much the sides differ, among however many states
+pub first-break : (number : ℕ) (e : ℕ → Sides) → (number ≡ 20) ⊎ (number ≡ 21) → (left v : ℕ) → Own (breakFrom number e left v)
+unfolding PlainNumber
+first-break number e is left v =
+    break-cases number e Own left v none
     (λ f b.
     record {
       number = inr (inr (⊎-elim (λ z. (omega (arith, b .numbered), omega (arith, b .numbered))) (λ z. (omega (arith, b .numbered), omega (arith, b .numbered))) is));
@@ -100,11 +95,11 @@ first-break A number e is =
     })
 
 equations : (A : Automaton) (q t : ℕ) (f : Flow) → Own (plainEquationsFault A q t f)
-unfolding plainEquationsFault byKind internalEquationsFault externalEquationsFault
+unfolding plainEquationsFault byKind internalEquationsFault externalEquationsFault firstBreak
 equations A q t f =
-    let target = first-break A 21 (atTarget A f q) (inr refl) in
-    eitherSame Own _ _ (either-first Own _ _ (first-break A 20 (internalMove A f t) (inl refl)) target)
-    (either-first Own _ _ (first-break A 20 (beforeMove A f t) (inl refl)) (either-first Own _ _ (first-break A 20 (afterMove A f) (inl refl)) target))
+    let target = first-break 21 (atTarget A f q) (inr refl) (A .states) 0 in
+    eitherSame Own _ _ (either-first Own _ _ (first-break 20 (internalMove A f t) (inl refl) (A .states) 0) target)
+    (either-first Own _ _ (first-break 20 (beforeMove A f t) (inl refl) (A .states) 0) (either-first Own _ _ (first-break 20 (afterMove A f) (inl refl) (A .states) 0) target))
 
 pub plain-answers : AnswersOnly PlainNumber plainRule
 plain-answers = record { prices = prices; equations = equations }

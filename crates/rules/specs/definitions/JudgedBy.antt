@@ -24,19 +24,23 @@ pub record JudgedBy : Type 1 where
   pub met : (model : List ℕ) → StepRule
   pub oneAutomaton : (model other : List ℕ) → (M N : Model) → Type 0
 
--- document 01's model files and its step rule, one for all of them, within given limits
-abbrev pub plainPairsAt : Limits → JudgedBy
-plainPairsAt L =
+-- document 01's model files within given limits, and one step rule for all of them
+abbrev pub wholePairsAt : Limits → FileRule → RuleSays → StepRule → JudgedBy
+wholePairsAt L file says met =
     record {
       limits = L;
       read = readWhole L;
       spelled = readWhole (withTerms anyTerms L);
       isFile = FileOf L;
-      file = λ model. plainRule;
-      says = λ model. plainSays;
-      met = λ model. Met;
+      file = λ model. file;
+      says = λ model. says;
+      met = λ model. met;
       oneAutomaton = λ model other. HoldOneAutomaton;
     }
+
+-- its own step rule
+abbrev pub plainPairsAt : Limits → JudgedBy
+plainPairsAt L = wholePairsAt L plainRule plainSays Met
 
 -- as the calls judge them
 abbrev pub plainPairs : JudgedBy

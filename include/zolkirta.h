@@ -1,14 +1,14 @@
-/* Zolkirta: judges certificates of weak bisimulation for probabilistic automata.
+/* Zolkirta: judges certificates of weak and of strong bisimulation for probabilistic automata.
  *
  * Buffers. Every call takes byte buffers and plain numbers and checks everything itself. A buffer is a pointer and a length; the
  * pointer may be NULL where the length is 0. The caller sees to this alone: each pointer is good for its length, the bytes are not
  * changed by others during the call, and a lent buffer overlaps no input and no other lent buffer. A refusal writes no byte of any
  * lent buffer.
  *
- * Stack. zolkirta_judge, zolkirta_judge_costs and zolkirta_alike use at most 12,500 bytes each, zolkirta_sheet 16,500, zolkirta_reduce
- * 23,500, zolkirta_rewrite and zolkirta_rewrite_costs 18,500, zolkirta_read_prism 11,000, zolkirta_compose 7,000, zolkirta_sentence
- * 5,000, zolkirta_hide 2,800, zolkirta_join and zolkirta_fetch 2,500, zolkirta_largest 110 (measured, rounded up). In a dynamically linked
- * program the loader adds some 3 KiB when it binds memcpy or memset at the first call. No heap is used.
+ * Stack. zolkirta_judge, zolkirta_judge_costs, zolkirta_judge_strong and zolkirta_alike use at most 12,500 bytes each, zolkirta_sheet
+ * 16,500, zolkirta_reduce 23,500, zolkirta_rewrite and zolkirta_rewrite_costs 18,500, zolkirta_read_prism 11,000, zolkirta_compose 7,000,
+ * zolkirta_sentence 5,000, zolkirta_hide 2,800, zolkirta_join and zolkirta_fetch 2,500, zolkirta_largest 110 (measured, rounded up). In a
+ * dynamically linked program the loader adds some 3 KiB when it binds memcpy or memset at the first call. No heap is used.
  *
  * Threads. The library has no state and keeps no pointer: any number of calls may run at once.
  *
@@ -20,8 +20,8 @@
 #include <stddef.h>
 #include <stdint.h>
 
-#define ZOLKIRTA_VERSION "0.13.0"
-#define ZOLKIRTA_VERSION_NUMBER 1300 /* major * 10000 + minor * 100 + patch */
+#define ZOLKIRTA_VERSION "1.0.0"
+#define ZOLKIRTA_VERSION_NUMBER 10000 /* major * 10000 + minor * 100 + patch */
 
 /* The most states that a model has: a block buffer of this length is always long enough. */
 #define ZOLKIRTA_STATES 128
@@ -35,12 +35,13 @@
 #define ZOLKIRTA_SHEET 9344
 /* A sentence buffer of this length is always long enough. */
 #define ZOLKIRTA_SENTENCE 201
-/* How many flow records there are at most: no accepted certificate without costs for a model of so many states and transitions has more (theorem
- * few-flows, docs/PROOFS.md), and the one that zolkirta_largest writes has as many. Both counts are within the limits, here and in the next two.
+/* How many flow records there are at most: no accepted certificate without costs, weak or strong, for a model of so many states and transitions
+ * has more (theorem few-flows, docs/PROOFS.md), and the one that zolkirta_largest writes has as many. Both counts are within the limits, here and
+ * in the next two.
  *
  * This bounds no length of a certificate. A flow record has 10 bytes, 7 for each k entry and 6 for each w entry. As entries strictly ascend,
- * there are at most `transitions` k entries for an internal challenger, 2 * transitions - 1 for an external one, and states * states w entries:
- * up to 101,891 bytes for one record. Refutations stand before the flows. */
+ * there are at most `transitions` k entries for an internal challenger, 2 * transitions - 1 for an external one, in a strong certificate
+ * transitions - 1 for either, and states * states w entries: up to 101,891 bytes for one record. Refutations stand before the flows. */
 #define ZOLKIRTA_FLOWS(states, transitions) ((size_t)(transitions) * ((size_t)(states) - 1))
 /* The bytes of the two files that zolkirta_largest writes, at most 2,696 and 520,326. */
 #define ZOLKIRTA_LARGEST_MODEL(states, transitions) (8 + (size_t)(states) + 10 * (size_t)(transitions))
@@ -85,7 +86,8 @@ enum zolkirta_number {
     ZOLKIRTA_BLOCKS = 18,               /* the blocks of the certificate do not agree with the pairs of states that are still related */
     ZOLKIRTA_FLOW = 19,                 /* a flow moves nothing or has an entry that is out of order, zero, unknown or out of place;
                                            D is 0, or an entry is not in the question */
-    ZOLKIRTA_FLOW_EQUATION = 20,        /* what comes to a state in a flow is not what leaves it; an equation at some v breaks */
+    ZOLKIRTA_FLOW_EQUATION = 20,        /* what comes to a state in a flow is not what leaves it; an equation at some v breaks, or in a strong
+                                           certificate that of D */
     ZOLKIRTA_TARGET_EQUATION = 21,      /* what a flow leaves at a target is not the share that the challenging transition has there;
                                            an equation at some u breaks */
     ZOLKIRTA_CERTIFICATE_BYTES_LEFT = 22, /* the certificate file goes on after its last flow */
@@ -132,11 +134,12 @@ enum zolkirta_number {
  * equation of that state in the record at `place`, and lessen its left side, or raise its right one, by the remainder (the other way
  * where it is negative). Names are those of document 01.
  *   16: state is the refutation's t, remainder is d0 A(t) less the sum of p0(u) G(u), for a cost model less L times the challenger's cost
- *       times d0 as well. It is never negative, and as the left side must be below the right, one more than the remainder is to be made up
- *       for.
+ *       times d0 as well, and in a strong certificate with its one price A for A(t). It is never negative, and as the left side must be below
+ *       the right, one more than the remainder is to be made up for.
  *   20: state is the first v where an equation breaks, remainder is its left side, what arrives at v, less its right, what leaves v; never
  *       0. An external challenger has two equations at v: it is the one before the move, or where that one holds the one after it, since
- *       none after the move is looked at until all before it hold.
+ *       none after the move is looked at until all before it hold. In a strong certificate the equation of D comes first, whatever the
+ *       challenger: state is the defender t, remainder is D less the sum of k d; then the first v, with the sum of k p(v) less that of w(v,u).
  *   21: state is the first u where an equation breaks, remainder is d0 times the sum of w(v,u) over v, less p0(u) D; never 0. Where d0
  *       divides it, the quotient is by how much the w onto u are too many. */
 typedef struct zolkirta_answer {
@@ -188,6 +191,20 @@ zolkirta_answer zolkirta_judge(const uint8_t *model, size_t model_length, const 
  * costs begin. */
 zolkirta_answer zolkirta_judge_costs(const uint8_t *model, size_t model_length, const uint8_t *certificate, size_t certificate_length,
                                      uint8_t *blocks, size_t blocks_length);
+
+/* Judges a certificate for a model by strong bisimulation, in which internal steps count as every other action does. It begins with 43 53
+ * (hexadecimal) in place of 43 54. The defender t answers with its own transitions that have the challenger's action, internal or not: the k
+ * entries of a flow have layer 1, and such a transition. D equals the sum of k times d; at each v the sum of k times p(v) equals the sum of
+ * w(v,u) over u; the equations at u are as in zolkirta_judge. Each refutation has one price A, for t, then B and then G, one for each state, also
+ * for an internal challenger: for each such transition d times A is at least the sum of p(v) B(v), B(v) is at least G(u) for related v and u,
+ * and d0 times A is below the sum of p0(u) G(u). Number 0: accepted, and the first `written` bytes of the block buffer, one a state, are the
+ * blocks, each of which lies inside a block that zolkirta_judge accepts for the same model; its later bytes stay. Else a refusal, which writes
+ * nothing: those of zolkirta_judge, in its order.
+ *
+ * No merged file is written for strong pairs, and every other call that takes a certificate refuses theirs with 12, as this one does those of the
+ * other kinds. */
+zolkirta_answer zolkirta_judge_strong(const uint8_t *model, size_t model_length, const uint8_t *certificate, size_t certificate_length,
+                                      uint8_t *blocks, size_t blocks_length);
 
 /* Judges a certificate for a model and writes the model with each block merged into one state. Of the transitions of a block with one
  * action and the same probabilities the first is kept. Weights are added up by block, then divided: the file is in lowest terms. Number 0:
@@ -247,9 +264,9 @@ zolkirta_answer zolkirta_read_prism(const uint8_t *text, size_t text_length, uin
  * are divided by their greatest common divisor g, and each k of a flow for that transition is multiplied by g; all else stays. Number 0:
  * accepted, and the first `answer.written` bytes of `model_out` and the first `certificate_written` bytes of `certificate_out` are the
  * rewritten files, each as long as the stored one; later bytes stay. The rewritten pair is accepted, with the same blocks, by zolkirta_judge
- * and every other call. Else a refusal, which writes nothing into either buffer: 1 to 9 in the model (file 1), 11 to 22 in the certificate
- * (file 2); then, the certificate being accepted, 35 at the first flow record in which a k times g is above 4,294,967,295 (file 2); then 36
- * where a buffer is shorter than its file (no file, no place). */
+ * and every other call that takes a weak pair. Else a refusal, which writes nothing into either buffer: 1 to 9 in the model (file 1), 11 to 22
+ * in the certificate (file 2); then, the certificate being accepted, 35 at the first flow record in which a k times g is above 4,294,967,295
+ * (file 2); then 36 where a buffer is shorter than its file (no file, no place). */
 zolkirta_pair_answer zolkirta_rewrite(const uint8_t *model, size_t model_length, const uint8_t *certificate, size_t certificate_length,
                                       uint8_t *model_out, size_t model_out_length, uint8_t *certificate_out,
                                       size_t certificate_out_length);
@@ -271,7 +288,7 @@ zolkirta_pair_answer zolkirta_rewrite_costs(const uint8_t *model, size_t model_l
  * `out` is shorter than the file (no file, no place).
  *
  * States of the left model that behave alike do so beside every state of the right: for s and t of one block of an accepted certificate, s
- * with e and t with e are in one block of the composition's. */
+ * with e and t with e are in one block of the composition's. This holds of weak certificates and of strong ones. */
 zolkirta_answer zolkirta_compose(const uint8_t *left, size_t left_length, const uint8_t *right, size_t right_length, uint8_t *out,
                                  size_t out_length);
 
@@ -280,7 +297,7 @@ zolkirta_answer zolkirta_compose(const uint8_t *left, size_t left_length, const 
  * 0: the first `written` bytes of `out` are the file, which is as long as the model's; its later bytes stay. Else a refusal, which writes
  * nothing: 1 to 9 and 34 in the model (file 1), then 38 where `out` is shorter than the file (no file, no place).
  *
- * States that behave alike do so with actions hidden. */
+ * States that behave alike, weakly or strongly, do so with actions hidden. */
 zolkirta_answer zolkirta_hide(const uint8_t *model, size_t model_length, const uint8_t *actions, size_t actions_length, uint8_t *out,
                               size_t out_length);
 

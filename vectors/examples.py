@@ -2,8 +2,8 @@
 """Writes the pairs small and repeats of examples/, with their merged models by hand: the small pair S, and a pair whose merged model drops
 repeated transitions, one of them in other terms once its targets are joined, keeps an equal one of another block, joins two targets, and changes
 the order. The pair stored: the pair repeats from before lowest terms were asked for, with 2/4 for 1/2 in one transition. A certificate for S that
-is refused: 2 for D in its first flow. The text relay, with its model and a certificate for it by hand. And the models sender and channel, with the
-two side by side and that model with two actions hidden, both by hand.
+is refused: 2 for D in its first flow. A strong certificate for S. The text relay, with its model and a certificate for it by hand. And the models
+sender and channel, with the two side by side and that model with two actions hidden, both by hand.
 """
 import os
 
@@ -51,6 +51,8 @@ MERGED = model(3, 3, (5, 7, 9), [
 
 MERGED_S = model(2, 2, (0, 0), [(0, 1, 1, [(1, 1)]), (0, 0, 1, [(0, 1)])])
 
+
+STRONG = certificate([refutation(q, t, (0,), (1, 1, 1), (1, 1, 1)) for q, t in [(0, 1), (0, 2), (1, 2)]], (0, 1, 2), [], mark=b'CS')
 
 BROKEN = certificate([FIRST, SECOND], (0, 0, 1), [flow(2, [(0, 1, 1), (1, 0, 1)], [(2, 2, 1)]), STAYS])
 
@@ -112,6 +114,7 @@ def side_by_side(send, receive):
 
 for name, data in [
         ('small.model', S), ('small.certificate', S_CERTIFICATE), ('small.merged', MERGED_S), ('broken.certificate', BROKEN),
+        ('strong.certificate', STRONG),
         ('repeats.model', REPEATS), ('repeats.certificate', MEETS_REPEATS), ('repeats.merged', MERGED),
         ('stored.model', STORED), ('stored.certificate', MEETS_STORED),
         ('relay.tra', RELAY_TEXT), ('relay.model', RELAY), ('relay.certificate', MEETS_RELAY),

@@ -28,9 +28,9 @@ def flow(d, ks, ws):
     return out
 
 
-def certificate(refutations, blocks, flows, count=None):
+def certificate(refutations, blocks, flows, count=None, mark=b'CT'):
     count = len(refutations) if count is None else count
-    return b'CT' + count.to_bytes(2, 'big') + b''.join(refutations) + b'BK' + bytes(blocks) + b''.join(flows)
+    return mark + count.to_bytes(2, 'big') + b''.join(refutations) + b'BK' + bytes(blocks) + b''.join(flows)
 
 
 FIRST = refutation(0, 2, (1, 1, 0), (1, 1, 1), (1, 1, 1))

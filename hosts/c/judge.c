@@ -1,6 +1,6 @@
 /* Reads a model and a certificate, and prints the answer: judge MODEL CERTIFICATE [MERGED [SHEET]]. With a third name the merged model is
- * written there, and with a fourth one the block sheet. A certificate that begins with CC is one for a cost model, for which neither is
- * written. Exit status: 0 accepted, 1 refused, 2 a file could not be read or written. */
+ * written there, and with a fourth one the block sheet. A certificate that begins with CC is one for a cost model, and one with CS is judged by
+ * strong bisimulation; for both neither is written. Exit status: 0 accepted, 1 refused, 2 a file could not be read or written. */
 #include <stdio.h>
 #include <stdlib.h>
 
@@ -11,9 +11,13 @@ static zolkirta_answer judge(const uint8_t *model, size_t model_length, const ui
 {
     uint8_t blocks[ZOLKIRTA_STATES];
     size_t state;
-    int costs = certificate_length >= 2 && certificate[0] == 'C' && certificate[1] == 'C';
-    zolkirta_answer answer = (costs ? zolkirta_judge_costs : zolkirta_judge)(model, model_length, certificate, certificate_length, blocks,
-                                                                             sizeof blocks);
+    zolkirta_answer (*judged)(const uint8_t *, size_t, const uint8_t *, size_t, uint8_t *, size_t) = zolkirta_judge;
+    zolkirta_answer answer;
+    if (certificate_length >= 2 && certificate[0] == 'C' && certificate[1] == 'C')
+        judged = zolkirta_judge_costs;
+    if (certificate_length >= 2 && certificate[0] == 'C' && certificate[1] == 'S')
+        judged = zolkirta_judge_strong;
+    answer = judged(model, model_length, certificate, certificate_length, blocks, sizeof blocks);
     print_answer(answer);
     for (state = 0; state < answer.written; state++)
         printf("state %zu block %u\n", state, (unsigned)blocks[state]);

@@ -40,7 +40,7 @@ fn head_fault(kind: Kind, cert: &[u8]) -> Fault
     fault::none().at(0)
 }
 
-// The blocks record at a place, and the flows. Those are judged by two calls, so that the compiler keeps their loops out of line: fewer values
+// The blocks record at a place, and the flows. Those are judged by a call for each kind, so that the compiler keeps their loops out of line: fewer values
 // live through them.
 fn judge_blocks(
     kind: Kind,
@@ -63,6 +63,7 @@ fn judge_blocks(
     match kind {
         Kind::Plain => flows::judge_flows(Kind::Plain, s, n, count, places, rows, cert, start),
         Kind::Costs => flows::judge_flows(Kind::Costs, s, n, count, places, rows, cert, start),
+        Kind::Strong => flows::judge_flows(Kind::Strong, s, n, count, places, rows, cert, start),
     }
 }
 

@@ -33,18 +33,18 @@ module _ (cost : ℕ → ℕ) (A : Automaton) (L : ℤ) where
   fairBy Within X Y r = fairTwice X Y r
   fairBy Unasked X Y r = true
 
-  -- what a challenger with the action a asks of a transition; where there is no move Y is X
-  unfoldable pub fairTo : Kind → ℕ → (X Y : ℕ → ℤ) → ℕ → Bool
-  fairTo kind a X Y r = fairBy (conditionBy kind a (A .action r)) X Y r
+  -- what a challenger with the action a asks of a transition, against t; where there is no move Y is X
+  unfoldable pub fairTo : Kind → (a t : ℕ) → (X Y : ℕ → ℤ) → ℕ → Bool
+  fairTo kind a t X Y r = fairBy (conditionBy kind a t (A .source r) (A .action r)) X Y r
 
   -- what it asks of the transitions
-  unfoldable pub allFair : Kind → ℕ → (X Y : ℕ → ℤ) → Bool
-  allFair kind a X Y = allBelow (A .transitions) (fairTo kind a X Y)
+  unfoldable pub allFair : Kind → (a t : ℕ) → (X Y : ℕ → ℤ) → Bool
+  allFair kind a t X Y = allBelow (A .transitions) (fairTo kind a t X Y)
 
   -- 15 and 16, of the challenger q with the action a against t; where there is no move Y is X
   unfoldable pub conditionsFault : Kind → Pairs → (a q t : ℕ) → (X Y G : ℕ → ℤ) → Fault
   conditionsFault kind R a q t X Y G =
-      unlessTrue (allFair kind a X Y) (fault 15)
+      unlessTrue (allFair kind a t X Y) (fault 15)
       (unlessTrue (allRelated A R Y G) (fault 15)
       (lastCostFault cost A L X G q t))
 

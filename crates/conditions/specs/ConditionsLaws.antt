@@ -13,7 +13,7 @@ use borrow.Author.Tests.{lt-ltb, le-ltb, le-leb, ltb-true, ltb-false}
 use native.Mathlib.Nat.{zero-mul, mul-le-mul, mul-le-mul-left}
 use native.Mathlib.Omega.{arith}
 use native.Mathlib.Decide.{ℕ-discrete}
-use Rattle.bisimulation.specs.definitions.Choice.{ifSame, both, allBelow}
+use Rattle.bisimulation.specs.definitions.Choice.{ifSame, ifTrue, both, allBelow}
 use Rattle.bisimulation.specs.argument.ChoiceLaws.{same, notSame, allBelowCong, all-both}
 use Rattle.bisimulation.specs.definitions.Automaton.{Automaton}
 use Rattle.bisimulation.specs.definitions.Prices.{priceAt, priceOfTargets}
@@ -26,12 +26,13 @@ use Rattle.costs.specs.definitions.CostPrices.{priceWithCost}
 use Rattle.cost_files.specs.definitions.CostModel.{highestCost}
 use Rattle.cost_files.specs.definitions.CostFile.{costCondition, lastCostFault}
 use Rattle.cost_files.specs.argument.CostReadingLaws.{cost-at}
+use Rattle.strong_files.specs.definitions.StrongFile.{ownWithAction, allOwn}
 use Rattle.rule_kind.specs.declared.Kind.{Kind}
-use Rattle.rule_kind.specs.declared.Kind.the-variants.{Plain, Costs}
+use Rattle.rule_kind.specs.declared.Kind.the-variants.{Plain, Costs, Strong}
 use Rattle.rule_kind.specs.declared.Condition.{Condition}
 use Rattle.rule_kind.specs.declared.Condition.the-variants.{Across, Within, Unasked}
-use Rattle.rule_kind.specs.Kinds.{costIn, CostAsked, CostIs}
-use Rattle.rule_kind.specs.Steps.{conditionBy}
+use Rattle.rule_kind.specs.Kinds.{isStrong, costIn, CostAsked, CostIs}
+use Rattle.rule_kind.specs.Steps.{ownTransition, strongCondition, conditionBy}
 use Rattle.rule_kind.specs.StepsLaws.{across, within, unasked}
 use Rattle.signed.specs.Terms.{Addable, WithTerm}
 use Rattle.signed.specs.TermsLaws.{abs-add, abs-less, abs-term, mag-abs}
@@ -49,6 +50,7 @@ state-price k h small less = (h .small, omega (arith, less, few-states (k .known
 -- the cost of a transition is not above the highest
 pub cost-low : {kind : Kind} {s places : List ℕ} {count r : ℕ} → CostAsked kind s count places r → costIn kind s r ≤ highestCost
 cost-low {kind = Plain} a = omega arith
+cost-low {kind = Strong} a = omega arith
 cost-low {kind = Costs} {s} {r = r} a =
     let below : r < countOf s = omega (arith, a .below, a .known .transitions) in omega (arith, cost-at s r below, a .stands .low r below)
 
@@ -207,41 +209,50 @@ module _ (cost : ℕ → ℕ) (A : Automaton) (L : ℤ) (X Y : ℕ → ℤ) (r :
   unfolding fairTwice both
   twice-then e q = q ∙ ap (λ (t : Bool). cond t (costCondition cost A L Y Y r) false) (sym e)
 
--- what each condition says of a transition whose action was read
-module _ (cost : ℕ → ℕ) (A : Automaton) (L : ℤ) (kind : Kind) (a : ℕ) (X Y : ℕ → ℤ) (r : ℕ) {action : ℕ} {condition : Condition} (is : condition ≡ conditionBy kind a action) (read : action ≡ A .action r) where
-  fair-as : {z : Bool} {told : Condition} → condition ≡ told → z ≡ fairBy cost A L told X Y r → z ≡ fairTo cost A L kind a X Y r
+-- what each condition says of a transition whose source and action were read
+module _ (cost : ℕ → ℕ) (A : Automaton) (L : ℤ) (kind : Kind) (a t : ℕ) (X Y : ℕ → ℤ) (r : ℕ) {source action : ℕ} {condition : Condition} (is : condition ≡ conditionBy kind a t source action) (from : source ≡ A .source r) (read : action ≡ A .action r) where
+  fair-as : {z : Bool} {told : Condition} → condition ≡ told → z ≡ fairBy cost A L told X Y r → z ≡ fairTo cost A L kind a t X Y r
   unfolding fairTo
-  fair-as e f = f ∙ ap (λ (c : Condition). fairBy cost A L c X Y r) (sym e ∙ is ∙ ap (conditionBy kind a) read)
+  fair-as e f = f ∙ ap (λ (c : Condition). fairBy cost A L c X Y r) (sym e ∙ is ∙ ap₂ (conditionBy kind a t) from read)
 
-  pub fair-across : {z : Bool} → condition ≡ Across → z ≡ costCondition cost A L X Y r → z ≡ fairTo cost A L kind a X Y r
+  pub fair-across : {z : Bool} → condition ≡ Across → z ≡ costCondition cost A L X Y r → z ≡ fairTo cost A L kind a t X Y r
   unfolding fairBy
   fair-across e f = fair-as e f
 
-  pub fair-within : {z : Bool} → condition ≡ Within → z ≡ fairTwice cost A L X Y r → z ≡ fairTo cost A L kind a X Y r
+  pub fair-within : {z : Bool} → condition ≡ Within → z ≡ fairTwice cost A L X Y r → z ≡ fairTo cost A L kind a t X Y r
   unfolding fairBy
   fair-within e f = fair-as e f
 
-  pub fair-unasked : condition ≡ Unasked → true ≡ fairTo cost A L kind a X Y r
+  pub fair-unasked : condition ≡ Unasked → true ≡ fairTo cost A L kind a t X Y r
   unfolding fairBy
   fair-unasked e = fair-as e refl
 
 -- the transitions of the head are all of them
-pub all-of-count : {s places : List ℕ} {n count : ℕ} → Known s n count places → (cost : ℕ → ℕ) (L : ℤ) (kind : Kind) (a : ℕ) (X Y : ℕ → ℤ) → allBelow count (fairTo cost (automatonIn s) L kind a X Y) ≡ allFair cost (automatonIn s) L kind a X Y
+pub all-of-count : {s places : List ℕ} {n count : ℕ} → Known s n count places → (cost : ℕ → ℕ) (L : ℤ) (kind : Kind) (a t : ℕ) (X Y : ℕ → ℤ) → allBelow count (fairTo cost (automatonIn s) L kind a t X Y) ≡ allFair cost (automatonIn s) L kind a t X Y
 unfolding allFair
-all-of-count {s} k cost L kind a X Y = ap (λ (n : ℕ). allBelow n (fairTo cost (automatonIn s) L kind a X Y)) (sym (known-transitions k))
+all-of-count {s} k cost L kind a t X Y = ap (λ (n : ℕ). allBelow n (fairTo cost (automatonIn s) L kind a t X Y)) (sym (known-transitions k))
 
--- what the tests of each kind of challenger come to
-module _ (cost : ℕ → ℕ) (A : Automaton) (L : ℤ) (kind : Kind) where
-  pub fair-internal : (X : ℕ → ℤ) → allFair cost A L kind 0 X X ≡ allWithAction A 0 (costCondition cost A L X X)
+-- what the tests of the strong rule come to
+pub fair-strong : (cost : ℕ → ℕ) (A : Automaton) (L : ℤ) (q t : ℕ) (X Y : ℕ → ℤ) → allFair cost A L Strong (A .action q) t X Y ≡ allOwn A q t (costCondition cost A L X Y)
+unfolding allFair allOwn fairTo conditionBy strongCondition ownTransition ownWithAction ifTrue fairBy
+fair-strong cost A L q t X Y = allBelowCong (A .transitions) _ _ (λ r l. go r (ownWithAction A q t r))
+  where
+    go : (r : ℕ) (own : Bool) → fairBy cost A L (cond own Across Unasked) X Y r ≡ cond own (costCondition cost A L X Y r) true
+    go r true = refl
+    go r false = refl
+
+-- and those of each kind of challenger by the others
+module _ (cost : ℕ → ℕ) (A : Automaton) (L : ℤ) (kind : Kind) (weak : isStrong kind ≡ false) (t : ℕ) where
+  pub fair-internal : (X : ℕ → ℤ) → allFair cost A L kind 0 t X X ≡ allWithAction A 0 (costCondition cost A L X X)
   unfolding allFair allWithAction
   fair-internal X = allBelowCong (A .transitions) _ _ (λ r l. go r (ℕ-discrete (A .action r) 0))
     where
-      go : (r : ℕ) → Dec (A .action r ≡ 0) → fairTo cost A L kind 0 X X r ≡ ifSame (A .action r) 0 (costCondition cost A L X X r) true
-      go r (yes e) = sym (fair-across cost A L kind 0 X X r refl refl (across kind 0 (A .action r) e) refl) ∙ same true e refl
-      go r (no e) = sym (fair-unasked cost A L kind 0 X X r refl refl (unasked kind 0 (A .action r) e e)) ∙ notSame (costCondition cost A L X X r) e refl
+      go : (r : ℕ) → Dec (A .action r ≡ 0) → fairTo cost A L kind 0 t X X r ≡ ifSame (A .action r) 0 (costCondition cost A L X X r) true
+      go r (yes e) = sym (fair-across cost A L kind 0 t X X r refl refl refl (across kind weak 0 t (A .source r) (A .action r) e) refl) ∙ same true e refl
+      go r (no e) = sym (fair-unasked cost A L kind 0 t X X r refl refl refl (unasked kind weak 0 t (A .source r) (A .action r) e e)) ∙ notSame (costCondition cost A L X X r) e refl
 
   module _ (a : ℕ) (X Y : ℕ → ℤ) (external : a ≡ 0 → ⊥) where
-    each-fair : (r : ℕ) → fairTo cost A L kind a X Y r ≡ both (both (ifSame (A .action r) 0 (costCondition cost A L X X r) true) (ifSame (A .action r) 0 (costCondition cost A L Y Y r) true)) (ifSame (A .action r) a (costCondition cost A L X Y r) true)
+    each-fair : (r : ℕ) → fairTo cost A L kind a t X Y r ≡ both (both (ifSame (A .action r) 0 (costCondition cost A L X X r) true) (ifSame (A .action r) 0 (costCondition cost A L Y Y r) true)) (ifSame (A .action r) a (costCondition cost A L X Y r) true)
     unfolding fairTwice both
     each-fair r = go (ℕ-discrete (A .action r) 0) (ℕ-discrete (A .action r) a)
       where
@@ -257,18 +268,18 @@ module _ (cost : ℕ → ℕ) (A : Automaton) (L : ℤ) (kind : Kind) where
             ap (λ (b : Bool). cond b move false)
             (ap₂ (λ (b c : Bool). cond b c false) (notSame (costCondition cost A L X X r) e refl) (notSame (costCondition cost A L Y Y r) e refl))
 
-        go : Dec (A .action r ≡ 0) → Dec (A .action r ≡ a) → fairTo cost A L kind a X Y r ≡ cond (cond (ifSame (A .action r) 0 (costCondition cost A L X X r) true) (ifSame (A .action r) 0 (costCondition cost A L Y Y r) true) false) move false
+        go : Dec (A .action r ≡ 0) → Dec (A .action r ≡ a) → fairTo cost A L kind a t X Y r ≡ cond (cond (ifSame (A .action r) 0 (costCondition cost A L X X r) true) (ifSame (A .action r) 0 (costCondition cost A L Y Y r) true) false) move false
         go (yes e) (yes q) = absurd (external (sym q ∙ e))
         go (yes e) (no other) =
-            sym (fair-within cost A L kind a X Y r refl refl (within kind a (A .action r) other e) refl) ∙ after _
+            sym (fair-within cost A L kind a t X Y r refl refl refl (within kind weak a t (A .source r) (A .action r) other e) refl) ∙ after _
             ∙ ap₂ (λ (b c : Bool). cond b c false)
             (ap₂ (λ (b c : Bool). cond b c false) (same true e refl) (same true e refl))
             (notSame (costCondition cost A L X Y r) other refl)
-        go (no e) (yes q) = sym (fair-across cost A L kind a X Y r refl refl (across kind a (A .action r) q) refl) ∙ same true q refl ∙ apart e
+        go (no e) (yes q) = sym (fair-across cost A L kind a t X Y r refl refl refl (across kind weak a t (A .source r) (A .action r) q) refl) ∙ same true q refl ∙ apart e
         go (no e) (no other) =
-            sym (fair-unasked cost A L kind a X Y r refl refl (unasked kind a (A .action r) other e)) ∙ notSame (costCondition cost A L X Y r) other refl ∙ apart e
+            sym (fair-unasked cost A L kind a t X Y r refl refl refl (unasked kind weak a t (A .source r) (A .action r) other e)) ∙ notSame (costCondition cost A L X Y r) other refl ∙ apart e
 
-    pub fair-external : allFair cost A L kind a X Y ≡ both (both (allWithAction A 0 (costCondition cost A L X X)) (allWithAction A 0 (costCondition cost A L Y Y))) (allWithAction A a (costCondition cost A L X Y))
+    pub fair-external : allFair cost A L kind a t X Y ≡ both (both (allWithAction A 0 (costCondition cost A L X X)) (allWithAction A 0 (costCondition cost A L Y Y))) (allWithAction A a (costCondition cost A L X Y))
     unfolding allFair allWithAction
     fair-external =
         allBelowCong (A .transitions) _ _ (λ r l. each-fair r)

@@ -105,7 +105,7 @@ fn fair_twice(
     at_least(d, y, t.source, second)
 }
 
-// What a challenger with the action a asks of the transition r. Where there is no move the prices y are x.
+// What a challenger with the action a asks of the transition r, against t. Where there is no move the prices y are x.
 fn fair_to(
     kind: Kind,
     s: &[u8],
@@ -113,15 +113,16 @@ fn fair_to(
     places: &Places,
     r: usize,
     a: usize,
+    t: usize,
     l: i64,
     x: &Prices,
     y: &Prices,
 ) -> bool
     requires { ⌜ CostPriced kind (now s) count (now places) r l × SmallPrices (statesOf (now s)) (now x) × SmallPrices (statesOf (now s)) (now y) ⌝ }
-    ensures { λ z. ⌜ z ≡ fairTo (costIn kind (now (s .entry))) (automatonIn (now (s .entry))) l kind a (priceIn (now (x .entry))) (priceIn (now (y .entry))) r ⌝ }
+    ensures { λ z. ⌜ z ≡ fairTo (costIn kind (now (s .entry))) (automatonIn (now (s .entry))) l kind a t (priceIn (now (x .entry))) (priceIn (now (y .entry))) r ⌝ }
 {
-    let action = transition::fields_of(s, places, r).action;
-    let condition = rule_kind::condition_of(kind, a, action);
+    let fields = transition::fields_of(s, places, r);
+    let condition = rule_kind::condition_of(kind, a, t, fields.source, fields.action);
     if let Condition::Across = condition {
         return fair(kind, s, count, places, r, l, x, y);
     }
@@ -138,16 +139,17 @@ pub fn all_fair(
     count: usize,
     places: &Places,
     a: usize,
+    t: usize,
     l: i64,
     x: &Prices,
     y: &Prices,
 ) -> bool
     requires { ⌜ AllPriced kind (now s) count (now places) l × SmallPrices (statesOf (now s)) (now x) × SmallPrices (statesOf (now s)) (now y) ⌝ }
-    ensures { λ z. ⌜ z ≡ allFair (costIn kind (now (s .entry))) (automatonIn (now (s .entry))) l kind a (priceIn (now (x .entry))) (priceIn (now (y .entry))) ⌝ }
+    ensures { λ z. ⌜ z ≡ allFair (costIn kind (now (s .entry))) (automatonIn (now (s .entry))) l kind a t (priceIn (now (x .entry))) (priceIn (now (y .entry))) ⌝ }
 {
     let mut r = 0;
     while r < count {
-        if !fair_to(kind, s, count, places, r, a, l, x, y) {
+        if !fair_to(kind, s, count, places, r, a, t, l, x, y) {
             return false;
         }
         r += 1;

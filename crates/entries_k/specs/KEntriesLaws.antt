@@ -1,6 +1,6 @@
 -- Laws of the k entries taken into the remainders, and of what they cost.
 use Prim.Native.Nat.{ℕ, zero, suc, _+_, _*_, _-_, _^_, _≤_, _<_}
-use mathlib.Core.Path.{_≡_, refl, sym, _∙_, ap, subst, subst₂}
+use mathlib.Core.Path.{_≡_, refl, sym, _∙_, ap, ap₂, subst, subst₂}
 use mathlib.Core.Bool.{Bool, true, false}
 use mathlib.Core.List.{List}
 use lib.ListN.{length}
@@ -123,9 +123,9 @@ module _ (s C : List ℕ) (left : ℕ) {at layer r k : ℕ} (e : KRead C at laye
       (ap (λ (i : ℕ). costOfK cost (automatonIn s) layer i k) (e .transition-is)
       ∙ ap (costOfK cost (automatonIn s) layer (twoAt C (at + 1))) (e .k-is))
 
--- the machine's answer to whether a transition's action is asked for
-pub asked-by : (test : ℕ → Bool) {action other : ℕ} {answer b : Bool} → answer ≡ test action → action ≡ other → answer ≡ b → test other ≡ b
-asked-by test e f g = ap test (sym f) ∙ sym e ∙ g
+-- the machine's answer to whether a transition of a source and an action is asked for
+pub asked-by : (test : ℕ → ℕ → Bool) {source action from by : ℕ} {answer b : Bool} → answer ≡ test source action → source ≡ from → action ≡ by → answer ≡ b → test from by ≡ b
+asked-by test e from by g = ap₂ test (sym from) (sym by) ∙ sym e ∙ g
 
 -- the test's two answers
 module _ {count lowest layer r k : ℕ} {asked : Bool} where
@@ -136,7 +136,7 @@ module _ {count lowest layer r k : ℕ} {asked : Bool} where
   tells-right o = record { wrong = λ e. absurd (false-not (sym e)); right = λ e. o }
 
 -- before each k entry: the keys before the lowest are those of at most `layer` layers and x transitions, so at most `ahead` entries follow
-pub record TakingKs (rule : FileRule) (cost : ℕ → ℕ) (s C : List ℕ) (action start entries : ℕ) (before remainders : List ℤ) (left at lowest nonzero paid : ℕ) : Type 0 where
+pub record TakingKs (rule : FileRule) (cost : ℕ → ℕ) (s C : List ℕ) (action t start entries : ℕ) (before remainders : List ℤ) (left at lowest nonzero paid : ℕ) : Type 0 where
   pub layer : ℕ
   pub x : ℕ
   pub ahead : ℕ
@@ -149,13 +149,13 @@ pub record TakingKs (rule : FileRule) (cost : ℕ → ℕ) (s C : List ℕ) (act
   pub table : Counted remainders nonzero
   pub enough : Room before (2 * mostKs)
   pub room : (more : ℕ) → Room before (2 * mostKs + more) → Room remainders (2 * ahead + more)
-  pub number : (q t : ℕ) → action ≡ automatonIn s .action q → kFault rule (automatonIn s) C q t left at lowest ≡ kFault rule (automatonIn s) C q t entries start 0
+  pub number : (q : ℕ) → action ≡ automatonIn s .action q → kFault rule (automatonIn s) C q t left at lowest ≡ kFault rule (automatonIn s) C q t entries start 0
   pub makesUp : tookKs s C left at remainders ≡ tookKs s C entries start before
   pub pays : paid + kSum C (costOfK cost (automatonIn s)) left at ≡ kSum C (costOfK cost (automatonIn s)) entries start
   pub fits : paid + ahead * mostCostOfK ≤ mostKs * mostCostOfK
 
-pub ks-start : {rule : FileRule} {cost : ℕ → ℕ} {kind : Kind} {s C : List ℕ} {count : ℕ} {places : List ℕ} {at entries : ℕ} {remainders : List ℤ} {nonzero : ℕ} → CanTakeKs kind s C count places at entries remainders nonzero → (action : ℕ) → TakingKs rule cost s C action at entries remainders remainders entries at 0 nonzero 0
-ks-start c action =
+pub ks-start : {rule : FileRule} {cost : ℕ → ℕ} {kind : Kind} {s C : List ℕ} {count : ℕ} {places : List ℕ} {at entries : ℕ} {remainders : List ℤ} {nonzero : ℕ} → CanTakeKs kind s C count places at entries remainders nonzero → (action t : ℕ) → TakingKs rule cost s C action t at entries remainders remainders entries at 0 nonzero 0
+ks-start c action t =
     record {
       layer = 0;
       x = 0;
@@ -169,26 +169,26 @@ ks-start c action =
       table = c .table;
       enough = c .room;
       room = λ more room. room;
-      number = λ q t a. refl;
+      number = λ q a. refl;
       makesUp = refl;
       pays = omega arith;
       fits = omega arith;
     }
 
 -- the tests of one entry
-module _ {rule : FileRule} {test : ℕ → ℕ → ℕ → Bool} (tests : Tests test rule) (s C : List ℕ) {action count : ℕ} (left : ℕ) {at layer r k : ℕ} (known : automatonIn s .transitions ≡ count) (e : KRead C at layer r k) (q t : ℕ) (same-action : action ≡ automatonIn s .action q) where
+module _ {rule : FileRule} {test : ℕ → ℕ → ℕ → ℕ → ℕ → Bool} (tests : Tests test rule) (s C : List ℕ) {action count : ℕ} (left : ℕ) {at layer r k : ℕ} (known : automatonIn s .transitions ≡ count) (e : KRead C at layer r k) (q t : ℕ) (same-action : action ≡ automatonIn s .action q) where
   key-is : layer * 65536 + r ≡ threeAt C at
   unfolding threeAt
   key-is = omega (arith, e .layer-is, e .transition-is)
 
-  asked-as : test action layer (automatonIn s .action r) ≡ rule .inQuestion (automatonIn s) q t (byteAt C at) (twoAt C (at + 1))
+  asked-as : test action t layer (automatonIn s .source r) (automatonIn s .action r) ≡ rule .inQuestion (automatonIn s) q t (byteAt C at) (twoAt C (at + 1))
   asked-as =
-      ap (λ (a : ℕ). test a layer (automatonIn s .action r)) same-action
+      ap (λ (a : ℕ). test a t layer (automatonIn s .source r) (automatonIn s .action r)) same-action
       ∙ tests .is (automatonIn s) q t layer r
       ∙ ap (λ (l : ℕ). rule .inQuestion (automatonIn s) q t l r) (e .layer-is)
       ∙ ap (rule .inQuestion (automatonIn s) q t (byteAt C at)) (e .transition-is)
 
-  wrong-k : {lowest : ℕ} → WrongK count lowest layer r k (test action layer (automatonIn s .action r)) → fault 19 ≡ kFault rule (automatonIn s) C q t (suc left) at lowest
+  wrong-k : {lowest : ℕ} → WrongK count lowest layer r k (test action t layer (automatonIn s .source r) (automatonIn s .action r)) → fault 19 ≡ kFault rule (automatonIn s) C q t (suc left) at lowest
   unfolding kFault
   wrong-k (unordered l) = less _ (omega (arith, key-is)) refl
   wrong-k (absent l) = eitherLess (λ (f : Fault). fault 19 ≡ f) _ _ refl (notLess _ (omega (arith, known, e .transition-is)) refl)
@@ -201,7 +201,7 @@ module _ {rule : FileRule} {test : ℕ → ℕ → ℕ → Bool} (tests : Tests 
       (eitherTrue (λ (f : Fault). fault 19 ≡ f) _ (notLess _ (omega (arith, e .k-is)) refl) refl)
       refl)
 
-  right-k : {lowest : ℕ} → RightK count lowest layer r k (test action layer (automatonIn s .action r)) → kFault rule (automatonIn s) C q t left (at + 7) (layer * 65536 + r + 1) ≡ kFault rule (automatonIn s) C q t (suc left) at lowest
+  right-k : {lowest : ℕ} → RightK count lowest layer r k (test action t layer (automatonIn s .source r) (automatonIn s .action r)) → kFault rule (automatonIn s) C q t left (at + 7) (layer * 65536 + r + 1) ≡ kFault rule (automatonIn s) C q t (suc left) at lowest
   unfolding kFault
   right-k w =
       notLess _ (omega (arith, key-is, w .ordered))
@@ -211,12 +211,12 @@ module _ {rule : FileRule} {test : ℕ → ℕ → ℕ → Bool} (tests : Tests 
       (ap (λ (key : ℕ). kFault rule (automatonIn s) C q t left (at + 7) (key + 1)) key-is))))
 
 -- the entries from one that is wrong on
-module _ {rule : FileRule} {test : ℕ → ℕ → ℕ → Bool} (tests : Tests test rule) {cost : ℕ → ℕ} {s C : List ℕ} {action start entries : ℕ} {before remainders : List ℤ} {count : ℕ} (known : automatonIn s .transitions ≡ count) where
-  pub ks-refused : (left : ℕ) {at lowest nonzero paid layer r k : ℕ} {x : Taken} → TakingKs rule cost s C action start entries before remainders left at lowest nonzero paid → 0 < left → KRead C at layer r k → WrongK count lowest layer r k (test action layer (automatonIn s .action r)) → x .good ≡ false → TookKs rule cost s C action start entries before remainders x
+module _ {rule : FileRule} {test : ℕ → ℕ → ℕ → ℕ → ℕ → Bool} (tests : Tests test rule) {cost : ℕ → ℕ} {s C : List ℕ} {action t start entries : ℕ} {before remainders : List ℤ} {count : ℕ} (known : automatonIn s .transitions ≡ count) where
+  pub ks-refused : (left : ℕ) {at lowest nonzero paid layer r k : ℕ} {x : Taken} → TakingKs rule cost s C action t start entries before remainders left at lowest nonzero paid → 0 < left → KRead C at layer r k → WrongK count lowest layer r k (test action t layer (automatonIn s .source r) (automatonIn s .action r)) → x .good ≡ false → TookKs rule cost s C action t start entries before remainders x
   ks-refused zero h some e w n = absurd (omega arith)
   ks-refused (suc left) h some e w n =
       record {
-        refused = λ z q t a. wrong-k tests s C left known e q t a w ∙ h .number q t a;
+        refused = λ z q a. wrong-k tests s C left known e q t a w ∙ h .number q a;
         passed = λ z. absurd (false-not (sym n ∙ z));
         became = λ z. absurd (false-not (sym n ∙ z));
         room = λ z. absurd (false-not (sym n ∙ z));
@@ -225,18 +225,18 @@ module _ {rule : FileRule} {test : ℕ → ℕ → ℕ → Bool} (tests : Tests 
       }
 
 -- an entry that is right, in its turn
-pub record StandingK (test : ℕ → ℕ → ℕ → Bool) (rule : FileRule) (cost : ℕ → ℕ) (s C : List ℕ) (count : ℕ) (places : List ℕ) (action start entries : ℕ) (before remainders : List ℤ) (left at lowest nonzero paid layer r k : ℕ) : Type 0 where
+pub record StandingK (test : ℕ → ℕ → ℕ → ℕ → ℕ → Bool) (rule : FileRule) (cost : ℕ → ℕ) (s C : List ℕ) (count : ℕ) (places : List ℕ) (action t start entries : ℕ) (before remainders : List ℤ) (left at lowest nonzero paid layer r k : ℕ) : Type 0 where
   pub tests : Tests test rule
-  pub turn : TakingKs rule cost s C action start entries before remainders left at lowest nonzero paid
+  pub turn : TakingKs rule cost s C action t start entries before remainders left at lowest nonzero paid
   pub some : 0 < left
   pub read : KRead C at layer r k
   pub states : ℕ
   pub known : Known s states count places
-  pub right : RightK count lowest layer r k (test action layer (automatonIn s .action r))
+  pub right : RightK count lowest layer r k (test action t layer (automatonIn s .source r) (automatonIn s .action r))
 
-module _ {test : ℕ → ℕ → ℕ → Bool} {rule : FileRule} {cost : ℕ → ℕ} {s C : List ℕ} {count : ℕ} {places : List ℕ} {action start entries : ℕ} {before remainders : List ℤ} {left at lowest nonzero paid layer r k : ℕ} (g : StandingK test rule cost s C count places action start entries before remainders left at lowest nonzero paid layer r k) where
+module _ {test : ℕ → ℕ → ℕ → ℕ → ℕ → Bool} {rule : FileRule} {cost : ℕ → ℕ} {s C : List ℕ} {count : ℕ} {places : List ℕ} {action t start entries : ℕ} {before remainders : List ℤ} {left at lowest nonzero paid layer r k : ℕ} (g : StandingK test rule cost s C count places action t start entries before remainders left at lowest nonzero paid layer r k) where
   in-layers : layer ≤ 2
-  in-layers = g .tests .layers action layer (automatonIn s .action r) (g .right .asked-is)
+  in-layers = g .tests .layers action t layer (automatonIn s .source r) (automatonIn s .action r) (g .right .asked-is)
 
   -- how many can follow it
   abbrev following : ℕ
@@ -265,10 +265,10 @@ module _ {test : ℕ → ℕ → ℕ → Bool} {rule : FileRule} {cost : ℕ →
         fits = omega (arith, one-fewer, g .turn .fits);
       }
 
-  pub ks-turn : {next above paid' now : ℕ} {after : List ℤ} → Became (tookK s layer r k remainders) after now → PaidIs cost s r k paid paid' → next ≡ at + 7 → above ≡ layer * 65536 + r + 1 → TakingKs rule cost s C action start entries before after (left - 1) next above now paid'
+  pub ks-turn : {next above paid' now : ℕ} {after : List ℤ} → Became (tookK s layer r k remainders) after now → PaidIs cost s r k paid paid' → next ≡ at + 7 → above ≡ layer * 65536 + r + 1 → TakingKs rule cost s C action t start entries before after (left - 1) next above now paid'
   ks-turn {next} {above} {paid'} {now} {after} b p n o = go left (g .turn) (g .some) one-fewer
     where
-      one-k : (left : ℕ) (h : TakingKs rule cost s C action start entries before remainders (suc left) at lowest nonzero paid) → following + 1 ≤ h .ahead → TakingKs rule cost s C action start entries before after left (at + 7) (layer * 65536 + r + 1) now paid'
+      one-k : (left : ℕ) (h : TakingKs rule cost s C action t start entries before remainders (suc left) at lowest nonzero paid) → following + 1 ≤ h .ahead → TakingKs rule cost s C action t start entries before after left (at + 7) (layer * 65536 + r + 1) now paid'
       one-k left h fewer =
           record {
             layer = layer;
@@ -283,25 +283,25 @@ module _ {test : ℕ → ℕ → ℕ → Bool} {rule : FileRule} {cost : ℕ →
             table = b .counted;
             enough = h .enough;
             room = λ more room. subst (λ (x : List ℤ). Room x (2 * following + more)) (sym (b .same)) (took-room ks-asks layer (room-fewer (omega (arith, fewer)) (h .room more room)));
-            number = λ q t a. right-k (g .tests) s C left (known-transitions (g .known)) (g .read) q t a (g .right) ∙ h .number q t a;
+            number = λ q a. right-k (g .tests) s C left (known-transitions (g .known)) (g .read) q t a (g .right) ∙ h .number q a;
             makesUp = took-next s C left (g .read) remainders (b .same) ∙ h .makesUp;
             pays = omega (arith, paid-next s C left (g .read) cost, p .is layer, h .pays);
             fits = omega (arith, fewer, h .fits, p .low);
           }
 
-      go : (left : ℕ) (h : TakingKs rule cost s C action start entries before remainders left at lowest nonzero paid) → 0 < left → following + 1 ≤ h .ahead → TakingKs rule cost s C action start entries before after (left - 1) next above now paid'
+      go : (left : ℕ) (h : TakingKs rule cost s C action t start entries before remainders left at lowest nonzero paid) → 0 < left → following + 1 ≤ h .ahead → TakingKs rule cost s C action t start entries before after (left - 1) next above now paid'
       go zero h some fewer = absurd (omega arith)
       go (suc left) h some fewer =
           let one : left ≡ suc left - 1 = omega arith in
-          subst (λ (j : ℕ). TakingKs rule cost s C action start entries before after j next above now paid') one
-          (subst₂ (λ (i l : ℕ). TakingKs rule cost s C action start entries before after left i l now paid') (sym n) (sym o) (one-k left h fewer))
+          subst (λ (j : ℕ). TakingKs rule cost s C action t start entries before after j next above now paid') one
+          (subst₂ (λ (i l : ℕ). TakingKs rule cost s C action t start entries before after left i l now paid') (sym n) (sym o) (one-k left h fewer))
 
-pub ks-end : {rule : FileRule} {cost : ℕ → ℕ} {s C : List ℕ} {action start entries : ℕ} {before remainders : List ℤ} (left : ℕ) {at lowest nonzero paid : ℕ} {x : Taken} → TakingKs rule cost s C action start entries before remainders left at lowest nonzero paid → left ≤ 0 → x .good ≡ true → x .nonzero ≡ nonzero → x .paid ≡ paid → x .next .at ≡ at → TookKs rule cost s C action start entries before remainders x
+pub ks-end : {rule : FileRule} {cost : ℕ → ℕ} {s C : List ℕ} {action t start entries : ℕ} {before remainders : List ℤ} (left : ℕ) {at lowest nonzero paid : ℕ} {x : Taken} → TakingKs rule cost s C action t start entries before remainders left at lowest nonzero paid → left ≤ 0 → x .good ≡ true → x .nonzero ≡ nonzero → x .paid ≡ paid → x .next .at ≡ at → TookKs rule cost s C action t start entries before remainders x
 unfolding kFault tookKs kSum
-ks-end {s = s} {C} {action} {start} {entries} {before} {remainders} zero {x = x} h none z n o p =
+ks-end {s = s} {C} {action} {t} {start} {entries} {before} {remainders} zero {x = x} h none z n o p =
     record {
       refused = λ y. absurd (false-not (sym y ∙ z));
-      passed = λ y q t a. pass-on (h .number q t a) refl;
+      passed = λ y q a. pass-on (h .number q a) refl;
       became = λ y. subst (λ (m : ℕ). Became (tookKs s C entries start before) remainders m) (sym n) (record { same = h .makesUp; counted = h .table });
       room = λ y more room. room-fewer (omega arith) (h .room more room);
       paid = λ y. omega (arith, h .pays, o);

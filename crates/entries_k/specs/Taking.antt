@@ -97,11 +97,11 @@ pub record CanTakeKs (kind : Kind) (s C : List ℕ) (count : ℕ) (places : List
   pub table : Counted remainders nonzero
   pub room : Room remainders (2 * mostKs)
 
--- whether the k entries are without fault, for each challenger with this action; where they are, they are taken, their costs are summed, and the
+-- whether the k entries are without fault, for each challenger with this action, against t; where they are, they are taken, their costs are summed, and the
 -- cursor is past them
-pub record TookKs (rule : FileRule) (cost : ℕ → ℕ) (s C : List ℕ) (action at entries : ℕ) (before remainders : List ℤ) (r : Taken) : Type 0 where
-  pub refused : r .good ≡ false → (q t : ℕ) → action ≡ automatonIn s .action q → fault 19 ≡ kFault rule (automatonIn s) C q t entries at 0
-  pub passed : r .good ≡ true → (q t : ℕ) → action ≡ automatonIn s .action q → Passes (kFault rule (automatonIn s) C q t entries at 0)
+pub record TookKs (rule : FileRule) (cost : ℕ → ℕ) (s C : List ℕ) (action t at entries : ℕ) (before remainders : List ℤ) (r : Taken) : Type 0 where
+  pub refused : r .good ≡ false → (q : ℕ) → action ≡ automatonIn s .action q → fault 19 ≡ kFault rule (automatonIn s) C q t entries at 0
+  pub passed : r .good ≡ true → (q : ℕ) → action ≡ automatonIn s .action q → Passes (kFault rule (automatonIn s) C q t entries at 0)
   pub became : r .good ≡ true → Became (tookKs s C entries at before) remainders (r .nonzero)
   pub room : r .good ≡ true → (more : ℕ) → Room before (2 * mostKs + more) → Room remainders more
   pub paid : r .good ≡ true → r .paid ≡ kSum C (costOfK cost (automatonIn s)) entries at

@@ -78,13 +78,14 @@ fn stands(
     count: usize,
     places: &Places,
     action: usize,
+    t: usize,
     lowest: usize,
     layer: usize,
     r: usize,
     k: usize,
 ) -> bool
     requires { ⌜ CanTest (now s) (now places) count layer r ⌝ }
-    ensures { λ x. ⌜ TellsK count lowest layer r k (inQuestionBy kind action layer (automatonIn (now (s .entry)) .action r)) x ⌝ }
+    ensures { λ x. ⌜ TellsK count lowest layer r k (inQuestionBy kind action t layer (automatonIn (now (s .entry)) .source r) (automatonIn (now (s .entry)) .action r)) x ⌝ }
 {
     let key = layer * 65536 + r;
     if key < lowest {
@@ -93,12 +94,8 @@ fn stands(
     if count <= r {
         return false;
     }
-    if !rule_kind::in_question(
-        kind,
-        action,
-        layer,
-        transition::fields_of(s, places, r).action,
-    ) {
+    let fields = transition::fields_of(s, places, r);
+    if !rule_kind::in_question(kind, action, t, layer, fields.source, fields.action) {
         return false;
     }
     if k == 0 {
@@ -114,6 +111,7 @@ pub fn take_ks(
     count: usize,
     places: &Places,
     action: usize,
+    t: usize,
     cert: &[u8],
     first: Cursor,
     entries: usize,
@@ -121,7 +119,7 @@ pub fn take_ks(
     initial: usize,
 ) -> Taken
     requires { ⌜ CanTakeKs kind (now s) (now cert) count (now places) (first .at) entries (now remainders) initial ⌝ }
-    ensures { λ r. ⌜ TookKs (ruleOf kind (now (s .entry))) (costIn kind (now (s .entry))) (now (s .entry)) (now (cert .entry)) action (first .at) entries (now (remainders .entry)) (now (remainders .exit)) r ⌝ }
+    ensures { λ r. ⌜ TookKs (ruleOf kind (now (s .entry))) (costIn kind (now (s .entry))) (now (s .entry)) (now (cert .entry)) action t (first .at) entries (now (remainders .entry)) (now (remainders .exit)) r ⌝ }
 {
     let mut left = entries;
     let mut place = first;
@@ -135,7 +133,7 @@ pub fn take_ks(
         let l = layer.value;
         let r = which.value;
         let k = amount.value;
-        if !stands(kind, s, count, places, action, lowest, l, r, k) {
+        if !stands(kind, s, count, places, action, t, lowest, l, r, k) {
             return Taken {
                 good: false,
                 nonzero,

@@ -1,5 +1,5 @@
 -- The two sides of a flow's equations as sums over its entries, in their order: what the remainders hold is left less right.
-use Prim.Native.Nat.{ℕ, zero, suc, _+_, _*_}
+use Prim.Native.Nat.{ℕ, zero, suc, _+_, _*_, _<_}
 use mathlib.Core.Path.{_≡_}
 use mathlib.Core.Bool.{Bool}
 use mathlib.Core.List.{List}
@@ -107,6 +107,7 @@ pub record Decided (rule : FileRule) (cost : ℕ → ℕ) (moves : Bool) (A : Au
 abbrev pub DecidesEquations : FileRule → (cost : ℕ → ℕ) → (moves : ℕ → Bool) → Type 0
 DecidesEquations rule cost moves =
     (A : Automaton) (C : List ℕ) (R : Pairs) (q t at : ℕ)
+    → t < A .states
     → Passes (kFault rule A C q t (kCountAt C at) (at + 8) 0)
     → Passes (wFault A C R (wCountAt C at) (afterK C at + 2) 0)
     → Decided rule cost (moves (A .action q)) A C q t at

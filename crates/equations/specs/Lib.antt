@@ -3,3 +3,4 @@ pub mod Differences
 pub mod EquationsLaws
 pub mod RuleEquations
 pub mod LayerOne
+pub mod Decided

@@ -18,23 +18,17 @@ use Rattle.bisimulation.specs.definitions.StepRule.{Flow, Sides, arriving, leav
 use Rattle.rules.specs.definitions.Bytes.{byteAt, twoAt, threeAt, fourAt}
 use Rattle.rules.specs.definitions.Certificate.{FileRule, kCountAt, afterK, wCountAt, kOf, wOf, flowAt, kFault, wFault}
 use Rattle.rules.specs.definitions.Faults.{Fault, faultBy, fault, noFault, firstOf, Passes}
-use Rattle.rules.specs.definitions.PlainRule.{breakFrom, firstBreak, internalEquationsFault, externalEquationsFault, plainInQuestion, plainEquationsFault}
-use Rattle.rules.specs.definitions.PlainSays.{InPlainQuestion}
-use Rattle.rules.specs.argument.PlainDecides.{kind-internal, kind-external, six-cases}
+use Rattle.rules.specs.definitions.PlainRule.{breakFrom, firstBreak, internalEquationsFault, externalEquationsFault, plainEquationsFault}
+use Rattle.rules.specs.argument.PlainDecides.{kind-internal, kind-external}
 use Rattle.rules.specs.argument.FaultLaws.{first-stops, first-none, first-passes}
 use Rattle.rules.specs.argument.BreakLaws.{break-none}
 use Rattle.rules.specs.argument.EntryFaults.{passed-k, passed-w}
 use Rattle.costs.specs.definitions.CostStepRule.{costOfLayer, costEquation}
 use Rattle.costs.specs.argument.CostLaws.{internalCost, externalCost}
-use Rattle.costs.specs.argument.Free.{free, freeEquation}
-use Rattle.cost_files.specs.definitions.CostFile.{costEquationFault, costEquationsFault}
-use Rattle.rule_kind.specs.declared.Kind.{Kind}
-use Rattle.rule_kind.specs.declared.Kind.the-variants.{Plain, Costs}
-use Rattle.rule_kind.specs.Kinds.{ruleOf, costIn}
-use Rattle.rule_kind.specs.Steps.{inQuestionBy, Tests, hasMove}
-use Rattle.rule_kind.specs.StepsLaws.{tests-of, moves-external, stays-internal}
+use Rattle.costs.specs.argument.Free.{free}
+use Rattle.cost_files.specs.definitions.CostFile.{costEquationFault}
 use Rattle.entries_k.specs.Taking.{kSum, costOfK}
-use Rattle.equations.specs.Differences.{wSum, kTotal, wTotal, beforeLeft, beforeRight, afterLeft, afterRight, takenAt, givenAt, firstLeft, firstRight, secondLeft, secondRight, targetLeft, targetRight, costLeft, costRight, sidesOf, beforeBreak, afterBreak, targetBreak, costBreak, DecidesEquations}
+use Rattle.equations.specs.Differences.{wSum, kTotal, wTotal, beforeLeft, beforeRight, afterLeft, afterRight, takenAt, givenAt, firstLeft, firstRight, secondLeft, secondRight, targetLeft, targetRight, costLeft, costRight, sidesOf, beforeBreak, afterBreak, targetBreak, costBreak}
 use Rattle.equations.specs.EntrySums.{Entries, turned, added, nothing, overSecond}
 
 -- what stands for two numbers where they are the entry's, and where they are not
@@ -46,38 +40,38 @@ pair-passed : (x y a b value rest : ℕ) → (x ≡ a → y ≡ b → ⊥) → i
 unfolding isPair
 pair-passed x y a b value rest n = sym (notTrue value (λ e. let p = isPairTrue a b x y e in n (p .0) (p .1)) refl)
 
--- what is known of a k entry without fault
-record GoodK (A : Automaton) (C : List ℕ) (q at : ℕ) : Type 0 where
+-- what is known of a k entry without fault: where there is no move it is of layer 0
+record GoodK (A : Automaton) (C : List ℕ) (moves : Bool) (at : ℕ) : Type 0 where
   pub transition : twoAt C (at + 1) < A .transitions
   pub layer : byteAt C at < 3
-  pub internal : A .action q ≡ 0 → byteAt C at ≡ 0
+  pub still : moves ≡ false → byteAt C at ≡ 0
+
+-- a rule allows three layers, and one where there is no move
+pub record Layered (rule : FileRule) (moves : ℕ → Bool) : Type 0 where
+  pub layers : (A : Automaton) (q t layer r : ℕ) → rule .inQuestion A q t layer r ≡ true → layer < 3
+  pub still : (A : Automaton) (q t layer r : ℕ) → rule .inQuestion A q t layer r ≡ true → moves (A .action q) ≡ false → layer ≡ 0
 
 record GoodW (A : Automaton) (C : List ℕ) (at : ℕ) : Type 0 where
   pub from : byteAt C at < A .states
   pub to : byteAt C (at + 1) < A .states
 
-known-k : (A : Automaton) (C : List ℕ) (q at : ℕ) → twoAt C (at + 1) < A .transitions → InPlainQuestion (A .action q) (byteAt C at) (A .action (twoAt C (at + 1))) → GoodK A C q at
-known-k A C q at l (InPlainQuestion.before a b) = record { transition = l; layer = omega arith; internal = λ i. a }
-known-k A C q at l (InPlainQuestion.move n a b) = record { transition = l; layer = omega arith; internal = λ i. absurd (n i) }
-known-k A C q at l (InPlainQuestion.after n a b) = record { transition = l; layer = omega arith; internal = λ i. absurd (n i) }
-
 -- the k entries and the w entries of a certificate
-unfoldable kEntries : {rule : FileRule} → Tests plainInQuestion rule → Automaton → List ℕ → (q t : ℕ) → Entries
+unfoldable kEntries : {rule : FileRule} {moves : ℕ → Bool} → Layered rule moves → Automaton → List ℕ → (q t : ℕ) → Entries
 unfolding kOf kSum threeAt
-kEntries {rule} tests A C q t =
+kEntries {rule} {moves} layered A C q t =
     record {
       first = byteAt C;
       second = λ at. twoAt C (at + 1);
       value = λ at. fourAt C (at + 3);
       size = 7;
       number = λ layer r. layer * 65536 + r;
-      Good = GoodK A C q;
+      Good = GoodK A C (moves (A .action q));
       judged = kFault rule A C q t;
       look = kOf C;
       total = kSum C;
       turn = λ left at lowest e.
           let p = passed-k rule A C q t left at lowest e in
-          (p .order, known-k A C q at (p .transition) (six-cases _ _ _ .0 (tests .is A q t _ _ ∙ p .allowed)), p .rest);
+          (p .order, record { transition = p .transition; layer = layered .layers A q t _ _ (p .allowed); still = layered .still A q t _ _ (p .allowed) }, p .rest);
       absent = λ at layer r. refl;
       found = λ left at layer r. pair-found (byteAt C at) (twoAt C (at + 1)) layer r (fourAt C (at + 3)) (kOf C left (at + 7) layer r);
       passed = λ left at layer r. pair-passed (byteAt C at) (twoAt C (at + 1)) layer r (fourAt C (at + 3)) (kOf C left (at + 7) layer r);
@@ -152,20 +146,20 @@ unfolding firstBreak
 break-alone A number equation some = breaks-alone number equation some (A .states) 0
 
 -- the first of three faults
-first-again : (x y z : Fault) → firstOf x (firstOf y z) ≡ firstOf (firstOf x y) z
+pub first-again : (x y z : Fault) → firstOf x (firstOf y z) ≡ firstOf (firstOf x y) z
 first-again x y z = go (ℕ-discrete (x .number) 0)
   where
     go : Dec (x .number ≡ 0) → firstOf x (firstOf y z) ≡ firstOf (firstOf x y) z
     go (yes p) = sym (first-none x _ p refl) ∙ ap (λ (f : Fault). firstOf f z) (first-none x y p refl)
     go (no n) = sym (first-stops x _ refl n) ∙ first-stops x z refl n ∙ ap (λ (f : Fault). firstOf f z) (first-stops x y refl n)
 
-module _ {rule : FileRule} (tests : Tests plainInQuestion rule) (A : Automaton) (C : List ℕ) (R : Pairs) (q t at : ℕ) (noK : Passes (kFault rule A C q t (kCountAt C at) (at + 8) 0)) (noW : Passes (wFault A C R (wCountAt C at) (afterK C at + 2) 0)) where
+module _ {rule : FileRule} {moves : ℕ → Bool} (layered : Layered rule moves) (A : Automaton) (C : List ℕ) (R : Pairs) (q t at : ℕ) (noK : Passes (kFault rule A C q t (kCountAt C at) (at + 8) 0)) (noW : Passes (wFault A C R (wCountAt C at) (afterK C at + 2) 0)) where
   -- the sums' breaks without the cost equation
-  abbrev sumsBreak : (moves : Bool) → Fault
-  sumsBreak moves = firstOf (beforeBreak A C q t at moves) (firstOf (afterBreak A C q t at moves) (targetBreak A C q t at))
+  abbrev sumsBreak : (move : Bool) → Fault
+  sumsBreak move = firstOf (beforeBreak A C q t at move) (firstOf (afterBreak A C q t at move) (targetBreak A C q t at))
 
   abbrev ks : Entries
-  ks = kEntries tests A C q t
+  ks = kEntries layered A C q t
 
   abbrev k : (layer r : ℕ) → ℕ
   k = kOf C (kCountAt C at) (at + 8)
@@ -252,12 +246,12 @@ module _ {rule : FileRule} (tests : Tests plainInQuestion rule) (A : Automaton) 
   unfolding targetLeft targetRight atTarget flowAt
   target = record { left = over-sources (A .denominator q); right = λ u. refl }
 
-  -- the equations of an internal challenger, whose entries are all of layer 0
-  module _ (i : A .action q ≡ 0) where
+  -- the equations of an internal challenger without a move, whose entries are all of layer 0
+  module _ (m : moves (A .action q) ≡ false) (i : A .action q ≡ 0) where
     other-layer : (layer : ℕ) → (0 ≡ layer → ⊥) → (g : ℕ → ℕ → ℕ) → overK (λ l r x. ifSame l layer (g r x) 0) ≡ 0
     unfolding kEntries
     other-layer layer n g =
-        nothing ks _ (λ at e. sym (notSame _ (λ o. n (sym (e .internal i) ∙ o)) refl)) (kCountAt C at) (at + 8) 0 noK
+        nothing ks _ (λ at e. sym (notSame _ (λ o. n (sym (e .still m) ∙ o)) refl)) (kCountAt C at) (at + 8) 0 noK
 
     move : AreSides (firstLeft A C q t at) (firstRight A C q t at false) (internalMove A (flowAt C at) t)
     unfolding firstRight internalMove flowAt ifTrue
@@ -290,8 +284,8 @@ module _ {rule : FileRule} (tests : Tests plainInQuestion rule) (A : Automaton) 
         let two = cost-k cost 2 ∙ other-layer 2 (λ o. omega arith) (costOfK cost A 2) in
         sym (omega (arith, one, two, all-layers cost, internalCost cost A (flowAt C at) q i))
 
-  -- those of an external challenger
-  module _ (n : A .action q ≢ 0) where
+  -- those over a move
+  module _ where
     before : AreSides (firstLeft A C q t at) (firstRight A C q t at true) (beforeMove A (flowAt C at) t)
     unfolding firstRight beforeMove flowAt ifTrue
     before =
@@ -308,52 +302,54 @@ module _ {rule : FileRule} (tests : Tests plainInQuestion rule) (A : Automaton) 
           right = λ v. ap₂ _+_ (leaving-k 2 v) (over-targets v);
         }
 
+    pub moved : sumsBreak true ≡ externalEquationsFault A q t (flowAt C at)
+    unfolding externalEquationsFault
+    moved = ap₂ firstOf (same-first A 20 before) (ap₂ firstOf (same-first A 20 after) (same-first A 21 target))
+
+  -- those of an external challenger
+  module _ (n : A .action q ≢ 0) where
     external : sumsBreak true ≡ plainEquationsFault A q t (flowAt C at)
-    unfolding plainEquationsFault externalEquationsFault
-    external = ap₂ firstOf (same-first A 20 before) (ap₂ firstOf (same-first A 20 after) (same-first A 21 target)) ∙ kind-external A q _ _ n
+    unfolding plainEquationsFault
+    external = moved ∙ kind-external A q _ _ n
 
     external-cost : (cost : ℕ → ℕ) → costLeft A C q t at cost ≡ costEquation cost A (flowAt C at) q .left
     unfolding costLeft flowAt
     external-cost cost = sym (externalCost cost A (flowAt C at) q n ∙ all-layers cost)
 
-  -- for either kind of challenger
-  plain-decided : (kind : Kind) → sumsBreak (hasMove kind (A .action q)) ≡ plainEquationsFault A q t (flowAt C at)
-  plain-decided kind = go (hasMove kind (A .action q)) refl
-    where
-      go : (b : Bool) → hasMove kind (A .action q) ≡ b → sumsBreak b ≡ plainEquationsFault A q t (flowAt C at)
-      go true e = external (moves-external kind (A .action q) e)
-      go false e = internal (stays-internal kind (A .action q) e)
+  -- for either kind of challenger, where an internal one has no move
+  module _ (external-moves : moves (A .action q) ≡ true → A .action q ≢ 0) (internal-stays : moves (A .action q) ≡ false → A .action q ≡ 0) where
+    pub plain-decided : sumsBreak (moves (A .action q)) ≡ plainEquationsFault A q t (flowAt C at)
+    plain-decided = go (moves (A .action q)) refl
+      where
+        go : (b : Bool) → moves (A .action q) ≡ b → sumsBreak b ≡ plainEquationsFault A q t (flowAt C at)
+        go true e = external (external-moves e)
+        go false e = internal e (internal-stays e)
 
-  cost-left : (cost : ℕ → ℕ) → costLeft A C q t at cost ≡ costEquation cost A (flowAt C at) q .left
-  cost-left cost = go (ℕ-discrete (A .action q) 0)
-    where
-      go : Dec (A .action q ≡ 0) → costLeft A C q t at cost ≡ costEquation cost A (flowAt C at) q .left
-      go (yes i) = internal-cost i cost
-      go (no n) = external-cost n cost
+    cost-left : (cost : ℕ → ℕ) → costLeft A C q t at cost ≡ costEquation cost A (flowAt C at) q .left
+    cost-left cost = go (moves (A .action q)) refl
+      where
+        go : (b : Bool) → moves (A .action q) ≡ b → costLeft A C q t at cost ≡ costEquation cost A (flowAt C at) q .left
+        go true e = external-cost (external-moves e) cost
+        go false e = internal-cost e (internal-stays e) cost
 
-  cost-decided : (cost : ℕ → ℕ) → costBreak (costLeft A C q t at cost) (costRight A C q t at cost) ≡ costEquationFault cost A q (flowAt C at)
-  unfolding costBreak costRight costEquationFault costEquation flowAt
-  cost-decided cost = ap (λ (x : ℕ). unlessSame x (cost q * fourAt C (at + 2)) (fault 30) noFault) (cost-left cost)
+    pub cost-decided : (cost : ℕ → ℕ) → costBreak (costLeft A C q t at cost) (costRight A C q t at cost) ≡ costEquationFault cost A q (flowAt C at)
+    unfolding costBreak costRight costEquationFault costEquation flowAt
+    cost-decided cost = ap (λ (x : ℕ). unlessSame x (cost q * fourAt C (at + 2)) (fault 30) noFault) (cost-left cost)
 
--- without costs the cost equation does not break
-free-passes : (A : Automaton) (q : ℕ) (f : Flow) → costEquationFault free A q f ≡ noFault
-unfolding costEquationFault
-free-passes A q f = sym (same _ (freeEquation A f q .equal) refl)
+  -- without costs the cost equation does not break
+  pub free-decided : costBreak (costLeft A C q t at free) (costRight A C q t at free) ≡ noFault
+  unfolding costBreak costLeft costRight kEntries
+  free-decided = sym (same _ (nothing ks (costOfK free A) (λ at e. omega arith) (kCountAt C at) (at + 8) 0 noK ∙ omega arith) refl)
 
--- for each step rule
-pub decided : (kind : Kind) (s : List ℕ) → DecidesEquations (ruleOf kind s) (costIn kind s) (hasMove kind)
-unfolding costEquationsFault inQuestionBy
-decided Plain s A C R q t at noK noW =
-    let e = ap (firstOf (targetBreak A C q t at)) (cost-decided (tests-of Plain s) A C R q t at noK noW free ∙ free-passes A q (flowAt C at)) ∙ break-alone A 21 _ (omega arith) in
-    record {
-      is = ap (λ (f : Fault). firstOf (beforeBreak A C q t at (hasMove Plain (A .action q))) (firstOf (afterBreak A C q t at (hasMove Plain (A .action q))) f)) e ∙ plain-decided (tests-of Plain s) A C R q t at noK noW Plain;
-    }
-decided Costs s A C R q t at noK noW =
-    let cost = costIn Costs s in
-    let moves = hasMove Costs (A .action q) in
-    record {
-      is =
-          ap (firstOf (beforeBreak A C q t at moves)) (first-again (afterBreak A C q t at moves) (targetBreak A C q t at) _)
-          ∙ first-again (beforeBreak A C q t at moves) _ _
-          ∙ ap₂ firstOf (plain-decided (tests-of Costs s) A C R q t at noK noW Costs) (cost-decided (tests-of Costs s) A C R q t at noK noW cost);
-    }
+  pub free-targets : firstOf (targetBreak A C q t at) (costBreak (costLeft A C q t at free) (costRight A C q t at free)) ≡ targetBreak A C q t at
+  free-targets = ap (firstOf (targetBreak A C q t at)) free-decided ∙ break-alone A 21 _ (omega arith)
+
+-- a k that the rule does not allow is 0
+pub absent-k : (rule : FileRule) (A : Automaton) (C : List ℕ) (q t layer r : ℕ) → (rule .inQuestion A q t layer r ≡ true → ⊥) → (left at lowest : ℕ) → Passes (kFault rule A C q t left at lowest) → kOf C left at layer r ≡ 0
+unfolding kOf
+absent-k rule A C q t layer r n zero at lowest e = refl
+absent-k rule A C q t layer r n (suc left) at lowest e =
+    let p = passed-k rule A C q t left at lowest e in
+    pair-passed (byteAt C at) (twoAt C (at + 1)) layer r (fourAt C (at + 3)) (kOf C left (at + 7) layer r)
+    (λ x y. n (ap₂ (λ (l i : ℕ). rule .inQuestion A q t l i) (sym x) (sym y) ∙ p .allowed))
+    ∙ absent-k rule A C q t layer r n left (at + 7) _ (p .rest)

@@ -39,7 +39,7 @@ use Rattle.entries_k.specs.declared.Taken.{Taken}
 use Rattle.entries_w.specs.Matching.{tookVs, tookUs, mostWs, CanTakeWs, TookWs}
 use Rattle.entries_w.specs.declared.Matched.{Matched}
 use Rattle.equations.specs.Differences.{costLeft, costRight, verdictOf}
-use Rattle.equations.specs.RuleEquations.{decided}
+use Rattle.equations.specs.Decided.{decided}
 use Rattle.equations.specs.EquationsLaws.{Ended, ended, verdict-is, verdict-zeros}
 use Rattle.flow.specs.FlowJudged.{flowChanges, CanJudge, FlowJudged}
 use Rattle.flow.specs.FlowLaws.{head-ends, k-refused, count-missing, ws-missing, w-refused, past-ws, refused-with}
@@ -106,7 +106,7 @@ pub record KsTaken (kind : Kind) (s C : List ℕ) (n q t at : ℕ) (head : Head)
   pub given : List ℤ
   pub made : ℕ
   pub gave : Became (added remainders t 1 (pos (head .d))) given made
-  pub took : TookKs (ruleOf kind s) (costIn kind s) s C (f .action) (head .first .at) (head .entries) given after k
+  pub took : TookKs (ruleOf kind s) (costIn kind s) s C (f .action) t (head .first .at) (head .entries) given after k
 
 -- and once the w count is read
 pub record CountRead (kind : Kind) (s C : List ℕ) (n q t at : ℕ) (head : Head) (target : List ℤ) (f : Fields) (after : List ℤ) (k : Taken) (w : Field) : Type 0 where
@@ -132,11 +132,11 @@ module _ {kind : Kind} {s C : List ℕ} {n q t at : ℕ} {head : Head} {target :
 
     pub ks-stop : {rows : List ℕ} {rest aim : List ℤ} {r : Met} → Placed (fault 19) at (r .fault) → k .good ≡ false → FlowJudged (ruleOf kind s) s C n rows q t at rest aim r
     ks-stop p bad =
-        refused-with 19 p (omega arith) (λ R h. k-refused (ruleOf kind s) (automatonIn s) R q t (g .can .stands) (all-ks (g .took .refused bad q t (g .fields .action))) (λ z. omega arith))
+        refused-with 19 p (omega arith) (λ R h. k-refused (ruleOf kind s) (automatonIn s) R q t (g .can .stands) (all-ks (g .took .refused bad q (g .fields .action))) (λ z. omega arith))
 
     module _ (good : k .good ≡ true) where
       passed : Passes (kFault (ruleOf kind s) (automatonIn s) C q t (kCountAt C at) (at + 8) 0)
-      passed = pass-on (all-ks refl) (g .took .passed good q t (g .fields .action))
+      passed = pass-on (all-ks refl) (g .took .passed good q (g .fields .action))
 
       middle : k .next .at ≡ afterK C at
       middle = g .took .next good ∙ head-ends (g .can .read)
@@ -173,7 +173,7 @@ module _ {kind : Kind} {s C : List ℕ} {n q t at : ℕ} {head : Head} {target :
       abbrev j : CanJudge kind s C n (g .count .ks .count) (g .count .ks .places) q t at head (g .count .ks .remainders) target
       j = g .count .ks .can
 
-      abbrev ks : TookKs (ruleOf kind s) (costIn kind s) s C (f .action) (head .first .at) (head .entries) (g .count .ks .given) after k
+      abbrev ks : TookKs (ruleOf kind s) (costIn kind s) s C (f .action) t (head .first .at) (head .entries) (g .count .ks .given) after k
       ks = g .count .ks .took
 
       pub can-take-ws : CanTakeWs C (w .next .at) (w .value) n (f .denominator) first after (k .nonzero) asked wanted
@@ -252,7 +252,7 @@ module _ {kind : Kind} {s C : List ℕ} {n q t at : ℕ} {head : Head} {target :
                     let here = subst₂ (Ended (hasMove kind (automatonIn s .action q)) (automatonIn s) C n q t at) (sym rest-is) (sym aim-is) all in
                     p .is
                     ∙ past-ws (ruleOf kind s) (automatonIn s) R q t (j .stands) noK (count-there (g .count)) flow-whole noW
-                    (e ∙ verdict-is (known-states (j .known)) (few-states (j .known)) here (decided kind s (automatonIn s) C R q t at noK noW) (ws .became fine .counted) (ws .targetBecame fine .counted) paid-is (owed-is c));
+                    (e ∙ verdict-is (known-states (j .known)) (few-states (j .known)) here (decided kind s (automatonIn s) C R q t at (omega (arith, j .defender, known-states (j .known))) noK noW) (ws .became fine .counted) (ws .targetBecame fine .counted) paid-is (owed-is c));
                 place = p .at;
                 next = λ z. onward ∙ ws .next fine ∙ ws-end (g .count);
                 inside = λ z. flow-whole;

@@ -85,6 +85,7 @@ fn judge_entries(
         count,
         places,
         challenger.action,
+        t,
         cert,
         head.first,
         head.entries,

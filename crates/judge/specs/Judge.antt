@@ -8,9 +8,10 @@ use Rattle.rules.specs.definitions.Answers.{writesBlocks, JudgeNumber}
 use Rattle.rules.specs.definitions.Demands.{PairDemands, outcomeBy, Demands}
 use Rattle.cost_files.specs.definitions.CostAnswer.{CostJudgeDemands}
 use Rattle.limits.specs.TermsBy.{currentTerms}
+use Rattle.strong_files.specs.definitions.StrongAnswer.{StrongDemands}
 use Rattle.rule_kind.specs.Kinds.{pairsBy}
 use Rattle.rule_kind.specs.declared.Kind.{Kind}
-use Rattle.rule_kind.specs.declared.Kind.the-variants.{Plain, Costs}
+use Rattle.rule_kind.specs.declared.Kind.the-variants.{Plain, Costs, Strong}
 use Rattle.answer.specs.declared.Answer.{Answer}
 use Rattle.answer.specs.Handing.{CallHandedBack}
 use Rattle.judgement.specs.Verdicts.{PairAnswered}
@@ -19,6 +20,7 @@ use Rattle.judgement.specs.Verdicts.{PairAnswered}
 abbrev pub judgeDemands : Kind → PairDemands
 judgeDemands Plain = Demands plainPairs writesBlocks (JudgeNumber (current .terms))
 judgeDemands Costs = CostJudgeDemands
+judgeDemands Strong = StrongDemands
 
 -- a pair judged by the step rule, the blocks written into the lent block buffer
 abbrev pub JudgeAnswered : Kind → (model certificate before after : List ℕ) → Answer → Type 0

@@ -15,9 +15,10 @@ use Rattle.rules.specs.argument.PlainRules.{plainRules}
 use Rattle.rules.specs.argument.DemandsHold.{demands-hold, blocks-follow, judge-numbered}
 use Rattle.cost_files.specs.argument.CostAnswerLaws.{cost-demands-hold}
 use Rattle.limits.specs.TermsBy.{currentTerms}
+use Rattle.strong_files.specs.argument.StrongAnswerLaws.{strong-demands}
 use Rattle.rule_kind.specs.Kinds.{pairsBy}
 use Rattle.rule_kind.specs.declared.Kind.{Kind}
-use Rattle.rule_kind.specs.declared.Kind.the-variants.{Plain, Costs}
+use Rattle.rule_kind.specs.declared.Kind.the-variants.{Plain, Costs, Strong}
 use Rattle.answer.specs.declared.Answer.{Answer}
 use Rattle.answer.specs.Answered.{Says, Gives, OutcomeIs}
 use Rattle.answer.specs.AnsweredLaws.{gives-filled, gives-as, without-stretch}
@@ -44,6 +45,7 @@ module _ (kind : Kind) {M C : List ℕ} (b : Bytes M) (c : Bytes C) (before : Li
           let e = ap (λ (x : rules.Answer). x .number) (o .gives .answer) in
           demands-hold plainRules writesBlocks blocks-follow M C (before ∷ []) (after ∷ []) (r .number) b c e (o .gives .buffers) (JudgeNumber (current .terms)) (subst (JudgeNumber (current .terms)) (sym e) (judge-numbered M C (before ∷ [])))
       go Costs o = cost-demands-hold M C (before ∷ []) (after ∷ []) (r .number) b c (ap (λ (x : rules.Answer). x .number) (o .gives .answer)) (o .gives .buffers)
+      go Strong o = strong-demands M C (before ∷ []) (after ∷ []) (r .number) b c (ap (λ (x : rules.Answer). x .number) (o .gives .answer)) (o .gives .buffers)
 
   pub pair-refused : {r : Answer} → RefusedAs kind currentTerms M C (length before) r → JudgeAnswered kind M C before before r
   pair-refused a = with-demands (a .refuses writesBlocks (before ∷ []) (room before))

@@ -7,7 +7,7 @@ ghost use denote.Ref.{ptr};
 ghost use Rattle.rules.specs.definitions.Limits.{limits};
 ghost use Rattle.rules.specs.definitions.Reading.{headFault};
 ghost use Rattle.rules.specs.definitions.Answers.{filled};
-ghost use Rattle.rule_kind.specs.declared.Kind.the-variants.{Plain, Costs};
+ghost use Rattle.rule_kind.specs.declared.Kind.the-variants.{Plain, Costs, Strong};
 ghost use Rattle.answer.specs.Answered.{Gives};
 ghost use Rattle.judge.specs.Judge.{JudgeAnswered, JudgeHandedBack};
 use answer::Answer;
@@ -61,6 +61,17 @@ pub fn judge_costs_answer(model: &[u8], certificate: &[u8], blocks: &mut [u8]) -
         return head;
     }
     judge_headed(Kind::Costs, model, certificate, blocks)
+}
+
+// The same by the strong rule.
+pub fn judge_strong_answer(model: &[u8], certificate: &[u8], blocks: &mut [u8]) -> Answer
+    ensures { λ r. ⌜ JudgeAnswered Strong (now (model .entry)) (now (certificate .entry)) (now (blocks .entry)) (now (blocks .exit)) r ⌝ }
+{
+    let head = judgement::head_answer(model);
+    if head.number != 0 {
+        return head;
+    }
+    judge_headed(Kind::Strong, model, certificate, blocks)
 }
 
 // The same as `judge_answer`, with the stretch as a slice: the tail of the file that holds the record at fault, empty where none does. Its numbers

@@ -1,9 +1,11 @@
 -- What the scan of a model file tells, by the kind of its pair.
 use Prim.Native.Nat.{ℕ, _+_, _≤_, _<_}
 use mathlib.Core.Path.{_≡_, refl, sym, _∙_, ap, subst}
+use mathlib.Core.Bool.{true, false}
 use mathlib.Core.List.{List}
 use lib.ListN.{length}
 use native.Mathlib.Omega.{arith}
+use Rattle.bisimulation.specs.argument.ChoiceLaws.{false-not}
 use Rattle.rules.specs.definitions.Limits.{limits}
 use Rattle.rules.specs.definitions.Bytes.{byteAt}
 use Rattle.rules.specs.definitions.Faults as rules-faults
@@ -25,9 +27,9 @@ use Rattle.transition.specs.KnownLaws.{known-told}
 use Rattle.cost_files.specs.definitions.CostModel.{highestCost, transitionsEnd}
 use Rattle.cost_files.specs.definitions.CostReading.{scanCostModel, readCosts}
 use Rattle.cost_files.specs.argument.CostReadingLaws.{cost-scan, scan-told, scan-sound, scan-low, cost-refusal-told, cost-head-stops}
-use Rattle.rule_kind.specs.Kinds.{pairsBy, CostsThere}
+use Rattle.rule_kind.specs.Kinds.{hasCosts, pairsBy, CostsThere}
 use Rattle.rule_kind.specs.declared.Kind.{Kind}
-use Rattle.rule_kind.specs.declared.Kind.the-variants.{Plain, Costs}
+use Rattle.rule_kind.specs.declared.Kind.the-variants.{Plain, Costs, Strong}
 use Rattle.judgement.specs.Verdicts.{scanBy, ReadsBy}
 
 -- reading is what the scan says
@@ -35,10 +37,18 @@ read-by : (kind : Kind) (terms : Terms) (M : List ℕ) → readingOf M (scanBy k
 unfolding readWhole readCosts
 read-by Plain terms M = refl
 read-by Costs terms M = refl
+read-by Strong terms M = refl
 
--- the scan of a kind that is known
-pub scans-by : (kind known : Kind) (terms : Terms) {M table : List ℕ} {r : Scanned} → kind ≡ known → Scans M (scanBy known terms M) r table → Scans M (scanBy kind terms M) r table
-scans-by kind known terms {M} {table} {r} e h = subst (λ (k : Kind). Scans M (scanBy k terms M) r table) (sym e) h
+-- the scan of a kind, with costs and without
+pub scans-costs : (kind : Kind) (terms : Terms) {M table : List ℕ} {r : Scanned} → hasCosts kind ≡ true → Scans M (scanCostModel (limitsBy terms) M) r table → Scans M (scanBy kind terms M) r table
+scans-costs Plain terms e h = absurd (false-not e)
+scans-costs Costs terms e h = h
+scans-costs Strong terms e h = absurd (false-not e)
+
+pub scans-whole : (kind : Kind) (terms : Terms) {M table : List ℕ} {r : Scanned} → hasCosts kind ≡ false → Scans M (scanWhole (limitsBy terms) M) r table → Scans M (scanBy kind terms M) r table
+scans-whole Plain terms e h = h
+scans-whole Costs terms e h = absurd (false-not (sym e))
+scans-whole Strong terms e h = h
 
 -- a sound model
 module _ (terms : Terms) (M : List ℕ) {table : List ℕ} {m : Model} where
@@ -64,11 +74,13 @@ module _ (terms : Terms) (M : List ℕ) {table : List ℕ} {m : Model} where
       go : (k : Kind) → Scans M (scanBy k terms M) (Sound m) table → pairsBy k terms .read M ≡ readingOf M (scanOf (Sound m)) → Known M (m .states) (m .transitions) table × ReadsBy k terms M
       go Plain told q = (sound-known terms M told refl b .0, record { end = m .end; reads = q; stands = tt })
       go Costs told q = let k = costs-known b told in (k .0, record { end = m .end; reads = q; stands = k .1 })
+      go Strong told q = (sound-known terms M told refl b .0, record { end = m .end; reads = q; stands = tt })
 
 -- a model refused, at a place of the file
 module _ (terms : Terms) (M : List ℕ) (f : Fault) where
   inside-by : (kind : Kind) → pairsBy kind terms .read M ≡ noModel (faultOf f) (f .place) → refused (faultOf f) (f .place) ≡ scanBy kind terms M → f .place ≤ length M
   inside-by Plain q e = subst (Tells (limitsBy terms) M) (sym e) (whole-tells (limitsBy terms) M) .inside
+  inside-by Strong q e = subst (Tells (limitsBy terms) M) (sym e) (whole-tells (limitsBy terms) M) .inside
   inside-by Costs q e = cost-refusal-told (limitsBy terms) M (faultOf f) (f .place) q .2
 
   scan-told-by : (kind : Kind) → refused (faultOf f) (f .place) ≡ scanBy kind terms M → (pairsBy kind terms .read M ≡ noModel (faultOf f) (f .place)) × (f .place ≤ length M)
@@ -90,6 +102,7 @@ module _ (terms : Terms) (M : List ℕ) (f : Fault) where
       go : (k : Kind) → refused (faultOf f) 0 ≡ scanBy k terms M
       go Plain = head-stops (limitsBy terms) M headed n
       go Costs = cost-head-stops (limitsBy terms) M headed n
+      go Strong = head-stops (limitsBy terms) M headed n
 
 -- and it is good
 pub head-passed : (M : List ℕ) (f : Fault) → Placed (headFault limits M) 0 f → f .number ≡ 0 → headFault limits M .number ≡ 0

@@ -34,9 +34,10 @@ use Rattle.flows.specs.declared.Judged.the-variants.{Accepted, Refused}
 use Rattle.answer.specs.declared.Answer.{Answer}
 use Rattle.answer.specs.Answered.{Says}
 use Rattle.answer.specs.AnsweredLaws.{gives-unwritten, without-stretch, with-stretch}
+use Rattle.strong_files.specs.argument.StrongRules.{strongRulesAt}
 use Rattle.rule_kind.specs.Kinds.{pairsBy, ruleOf}
 use Rattle.rule_kind.specs.declared.Kind.{Kind}
-use Rattle.rule_kind.specs.declared.Kind.the-variants.{Plain, Costs}
+use Rattle.rule_kind.specs.declared.Kind.the-variants.{Plain, Costs, Strong}
 use Rattle.judgement.specs.declared.Verdict.{Verdict}
 use Rattle.judgement.specs.declared.Verdict.the-variants as verdicts
 use Rattle.judgement.specs.KindsRead.{head-by}
@@ -58,9 +59,13 @@ fits terms = with-fits (termsOf terms) limits limits-fit
 unread-some : (kind : Kind) (terms : Terms) (M : List ℕ) (f : Fault) → pairsBy kind terms .read M ≡ noModel (faultOf f) (f .place) → f .number ≡ 0 → ⊥
 unread-some Plain terms M f e = unread-number (plainRulesAt (limitsBy terms) (fits terms) (omega arith)) M (faultOf f) (f .place) e .some
 unread-some Costs terms M f e = unread-number (costRulesAt (limitsBy terms) (fits terms) (omega arith)) M (faultOf f) (f .place) e .some
+unread-some Strong terms M f e = unread-number (strongRulesAt (limitsBy terms) (fits terms) (omega arith)) M (faultOf f) (f .place) e .some
 
 unaccepted-some : (kind : Kind) (M C : List ℕ) (f : Fault) → refusedIn (faultOf f) 2 (f .place) ≡ judgeCertificate limits (ruleOf kind M) (automatonIn M) C → f .number ≡ 0 → ⊥
 unaccepted-some Plain M C f e = subst (JudgementNumber storedRules) (sym e) (certificate-numbered storedRules M (automatonIn M) C) .some
+unaccepted-some Strong M C f e =
+    let by = strongRulesAt limits limits-fit (omega arith) in
+    subst (JudgementNumber by) (sym e) (certificate-numbered by M (automatonIn M) C) .some
 unaccepted-some Costs M C f e = subst (JudgementNumber storedCostRules) (sym e) (certificate-numbered storedCostRules M (automatonIn M) C) .some
 
 -- its fault's

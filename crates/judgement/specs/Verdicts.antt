@@ -18,7 +18,7 @@ use Rattle.limits.specs.TermsBy.{limitsBy}
 use Rattle.limits.specs.declared.Terms.{Terms}
 use Rattle.rule_kind.specs.Kinds.{ruleOf, pairsBy, KindStands}
 use Rattle.rule_kind.specs.declared.Kind.{Kind}
-use Rattle.rule_kind.specs.declared.Kind.the-variants.{Plain, Costs}
+use Rattle.rule_kind.specs.declared.Kind.the-variants.{Plain, Costs, Strong}
 use Rattle.answer.specs.declared.Answer.{Answer}
 use Rattle.judgement.specs.declared.Verdict.{Verdict}
 use Rattle.judgement.specs.declared.Verdict.the-variants.{Accepted, Refused}
@@ -28,6 +28,7 @@ use Rattle.answer.specs.Answered.{answered, OutcomeIs, CallAnswered}
 abbrev pub scanBy : Kind → Terms → List ℕ → Scan
 scanBy Plain terms = scanWhole (limitsBy terms)
 scanBy Costs terms = scanCostModel (limitsBy terms)
+scanBy Strong terms = scanWhole (limitsBy terms)
 
 -- the model file is read as sound, and has what the rule asks of it
 pub record ReadsBy (kind : Kind) (terms : Terms) (M : List ℕ) : Type 0 where

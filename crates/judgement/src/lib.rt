@@ -57,10 +57,10 @@ fn scan(kind: Kind, terms: Terms, model: &[u8], places: &mut Places) -> Scanned
     requires { ⌜ (length (now places) ≡ sizes.places) × (headFault limits (now model) .number ≡ 0) ⌝ }
     ensures { λ r. ⌜ Scans (now (model .entry)) (scanBy kind terms (now (model .entry))) r (now (places .exit)) ⌝ }
 {
-    match kind {
-        Kind::Plain => model::scan_whole(model, terms, places),
-        Kind::Costs => cost_model::scan_cost_model(model, terms, places),
+    if rule_kind::has_costs(kind) {
+        return cost_model::scan_cost_model(model, terms, places);
     }
+    model::scan_whole(model, terms, places)
 }
 
 // What a call that judges answers where the head of its model is refused; number 0 where it is good. A call looks at the head first, and goes on

@@ -15,10 +15,13 @@ use native.Mathlib.Decide.{ℕ-discrete}
 use native.Mathlib.Omega.{arith}
 use Rattle.bisimulation.specs.definitions.Prices.{priceOfTargets}
 use Rattle.rules.specs.definitions.Limits.{limits}
+use Rattle.rules.specs.definitions.Bytes.{signedAt}
 use Rattle.rules.specs.definitions.Model.{Entry}
 use Rattle.rules.specs.definitions.Reading.{statesOf, entriesAt}
 use Rattle.rules.specs.definitions.SoundModel.{Each, sumOver}
 use Rattle.rules.specs.argument.EntryPrices.{priceOfEntries}
+use Rattle.field.specs.declared.Price.{Price}
+use Rattle.field.specs.Taken.{Priced}
 use Rattle.transition_record.specs.declared.Fields.{Fields}
 use Rattle.transition.specs.declared.Entry as read
 use Rattle.transition.specs.Known.{automatonIn, KnownTransition, FieldsOf, entriesOf, EntriesKnown}
@@ -33,7 +36,7 @@ pub none-held : (X : ℕ → ℤ) (table : List ℤ) → length table ≡ limits
 none-held X table e = record { size = e; held = λ i h. absurd (omega arith); small = λ i h. absurd (omega arith) }
 
 -- one more price
-pub one-more-held : (X : ℕ → ℤ) (table : List ℤ) (n : ℕ) (z : ℤ) → HoldsPrices n X table → n < limits .states → z ≡ X n → mag z < 2 ^ 31 → HoldsPrices (n + 1) X (set table n z)
+one-more-held : (X : ℕ → ℤ) (table : List ℤ) (n : ℕ) (z : ℤ) → HoldsPrices n X table → n < limits .states → z ≡ X n → mag z < 2 ^ 31 → HoldsPrices (n + 1) X (set table n z)
 one-more-held X table n z h room e small =
     record {
       size = length-set table n z ∙ h .size;
@@ -72,6 +75,16 @@ price-read p h = ap (λ (z : ℤ). toZ w64 (ofZ w64 z)) (p .is h) ∙ price-back
 -- and so is a sum
 pub sum-back : {es : List Entry} {table : List ℤ} {z : ℤ} → IsSum es table z → toZ w64 (ofZ w64 z) ≡ z
 sum-back {z = z} h = toZ-ofZ (record { sfits = omega (arith, h .small, mag-abs z) })
+
+-- a price that was read from a file, as it goes into a table
+module _ {s : List ℕ} {at : ℕ} {p : Price} (read : Priced s at p) where
+  pub read-fits : SFits w32 (toZ w64 (ofZ w64 (p .value)))
+  read-fits = rw (price-back (p .value) (read .small)) (record { sfits = omega (arith, read .small) })
+
+  pub read-held : {X : ℕ → ℤ} {table : List ℤ} {n : ℕ} → HoldsPrices n X table → n < limits .states → signedAt s at ≡ X n → HoldsPrices (n + 1) X (set table n (toZ w32 (ofZ w32 (toZ w64 (ofZ w64 (p .value))))))
+  read-held {X} {table} {n} h room e =
+      rw (toZ-ofZ read-fits, price-back (p .value) (read .small))
+      (one-more-held X table n (p .value) h room (read .value ∙ e) (read .small))
 
 -- d times a price, as the machine multiplies them, fits
 module _ {table : List ℤ} {v : ℕ} {price : ℤ} (d : ℕ) (p : IsPrice table v price) (light : d < 65536) (small : mag (priceIn table v) < 2 ^ 31) where

@@ -33,6 +33,20 @@ pub fn prices_at(s: &[u8], at: usize, n: usize, out: &mut Prices)
     }
 }
 
+// The one price at a place, into a table for each of n states.
+pub fn same_price(s: &[u8], at: usize, n: usize, out: &mut Prices)
+    requires { ⌜ (n ≤ limits .states) × (at + 4 ≤ length (now s)) × (length (now out) ≡ limits .states) ⌝ }
+    ensures { λ r. ⌜ HoldsPrices n (λ i. signedAt (now (s .entry)) at) (now (out .exit)) ⌝ }
+{
+    let field = Cursor::new(at).price(s);
+    let price = field.value as i32;
+    let mut v = 0;
+    while v < n {
+        out[v] = price;
+        v += 1;
+    }
+}
+
 // The price of a state in a table.
 pub fn price_of(prices: &Prices, v: usize) -> i64
     requires { ⌜ v < limits .states ⌝ }

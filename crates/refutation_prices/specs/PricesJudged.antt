@@ -10,6 +10,7 @@ use Rattle.rules.specs.definitions.Bytes.{signedAt}
 use Rattle.rules.specs.definitions.Faults as rules
 use Rattle.rules.specs.definitions.Certificate.{FileRule}
 use Rattle.rule_kind.specs.declared.Kind.{Kind}
+use Rattle.rule_kind.specs.declared.Kind.the-variants.{Plain, Costs, Strong}
 use Rattle.rule_kind.specs.Kinds.{KindStands}
 use Rattle.fault.specs.Faults.{faultOf}
 use Rattle.fault.specs.declared.Fault.{Fault}
@@ -28,6 +29,12 @@ pub record Asked (kind : Kind) (s : List ℕ) (n count : ℕ) (places : List ℕ
   pub challenger : q < count
   pub defender : t < n
   pub stands : KindStands kind s
+
+-- which of the prices is A of a state: 'A for n states', or K14, 'one price A for t'
+unfoldable pub indexOfA : Kind → ℕ → ℕ
+indexOfA Plain v = v
+indexOfA Costs v = v
+indexOfA Strong v = 0
 
 -- the fault is F of the pairs that the rows hold
 pub record FaultIs (n : ℕ) (rows : List ℕ) (F : Pairs → rules.Fault) (r : Fault) : Type 0 where

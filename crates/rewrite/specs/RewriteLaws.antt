@@ -1,10 +1,11 @@
 -- What a call that rewrites finds, as its promise.
 use Prim.Native.Nat.{ℕ, _+_, _≤_, _<_}
 use mathlib.Core.Path.{_≡_, refl, sym, _∙_, ap, ap₂, subst}
+use mathlib.Core.Bool.{false}
 use mathlib.Core.List.{List, [], _∷_, _++_}
 use lib.ListN.{length, take, drop}
 use native.Mathlib.Omega.{arith}
-use Rattle.bisimulation.specs.argument.ChoiceLaws.{notLess, eitherLess}
+use Rattle.bisimulation.specs.argument.ChoiceLaws.{notLess, eitherLess, false-not}
 use Rattle.rules.specs.definitions.Limits.{limits}
 use Rattle.rules.specs.definitions.Model.{modelBytes}
 use Rattle.rules.specs.definitions.SoundModel.{Bytes}
@@ -31,9 +32,9 @@ use Rattle.rewriting.specs.argument.RewrittenFiles.{rewritten-certificate-lengt
 use Rattle.rewriting.specs.argument.RewrittenPairs.{plain-rewritten, cost-rewritten}
 use Rattle.rewriting.specs.argument.RewriteHolds.{plain-rewrite-demands, cost-rewrite-demands}
 use Rattle.limits.specs.declared.Terms.the-variants.{Any}
-use Rattle.rule_kind.specs.Kinds.{ruleOf, pairsBy}
+use Rattle.rule_kind.specs.Kinds.{isStrong, ruleOf, pairsBy}
 use Rattle.rule_kind.specs.declared.Kind.{Kind}
-use Rattle.rule_kind.specs.declared.Kind.the-variants.{Plain, Costs}
+use Rattle.rule_kind.specs.declared.Kind.the-variants.{Plain, Costs, Strong}
 use Rattle.fault.specs.Faults.{faultOf, Placed}
 use Rattle.fault.specs.declared.Fault.{Fault}
 use Rattle.transition.specs.Known.{automatonIn, Known}
@@ -56,6 +57,7 @@ use Rattle.rewrite.specs.Rewrite.{rewritesBy, rewriteDemands, RewriteAns
 room : (kind : Kind) (M C : List ℕ) (before : List (List ℕ)) → RoomFor (rewritesBy kind M C) before (limits .states)
 room Plain M C before N few = (λ h. absurd (omega arith), λ h. absurd (omega arith))
 room Costs M C before N few = (λ h. absurd (omega arith), λ h. absurd (omega arith))
+room Strong M C before N few = (λ h. absurd (omega arith), λ h. absurd (omega arith))
 
 -- a call that does nothing after acceptance
 abbrev judgesOnly : Follows
@@ -77,6 +79,7 @@ unaccepted follows M C before P h (model N end) (accepted blocks) some =
 
 -- what an accepted pair comes to: its flows, so many from a place on, and the two files
 pub record Ready (kind : Kind) (M C table : List ℕ) (at : ℕ) : Type 0 where
+  pub weak : isStrong kind ≡ false
   pub isModel : Bytes M
   pub isCertificate : Bytes C
   pub many : ℕ
@@ -93,12 +96,13 @@ module _ (by : PairRules) {M C blocks table : List ℕ} {count : ℕ} (b : Bytes
   stands : CertificateStands (by .limits) (by .rule M .file) (by .rule M .says) (by .rule M .decides) (automatonIn M) (narrow-model (by .limits) (modelAt M) (by .widths) (by .models .sound M (modelAt M) file)) C blocks
   stands = accepted-stands by M C blocks b c (modelAt M) file a
 
-  ready : (kind : Kind) (written : List ℕ) → lowestFile M ≡ written → length written ≡ length M
+  ready : (kind : Kind) → isStrong kind ≡ false → (written : List ℕ) → lowestFile M ≡ written → length written ≡ length M
       → ((before : List (List ℕ)) → rewrites (λ N. written) (by .rule M .file) C .outcome (modelAt M) blocks before ≡ outcomeBy (pairsBy kind Any) (rewritesBy kind M C) M C before)
       → Ready kind M C table (flowsPlace (by .rule M .file) (automatonIn M) C)
-  ready kind written e long follow =
+  ready kind w written e long follow =
       let same = accepted-file stands d counted in
       record {
+        weak = w;
         isModel = b;
         isCertificate = c;
         many = length (questions (automatonIn M) blocks);
@@ -124,34 +128,36 @@ module _ {M C table places : List ℕ} {n count : ℕ} (k : Known M n count plac
   follow kind a before =
       ap (λ (l : List ℕ). rewritesBy kind M C .outcome (modelAt M) l before) (sym (part-is a)) ∙ part-follows a (rewritesBy kind M C) before (room kind M C before)
 
-  by-kind : Bytes M → Bytes C → (kind : Kind) {at : ℕ} → AcceptedAt kind Any M C (limits .states) n count at → Ready kind M C table (flowsPlace (ruleOf kind M) (automatonIn M) C)
-  by-kind b c Plain a =
+  by-kind : Bytes M → Bytes C → (kind : Kind) → isStrong kind ≡ false → {at : ℕ} → AcceptedAt kind Any M C (limits .states) n count at → Ready kind M C table (flowsPlace (ruleOf kind M) (automatonIn M) C)
+  by-kind b c Plain w a =
       let file = is-file storedRules b (a .model .reads) in
-      ready storedRules b c file (a .judged) d (known-transitions k) Plain (modelBytes (rewrittenModel (modelAt M)))
+      ready storedRules b c file (a .judged) d (known-transitions k) Plain refl (modelBytes (rewrittenModel (modelAt M)))
       (lowest-model k (file .encoded)) (plain-rewritten limits limits-fit (omega arith) M (modelAt M) file .long) (follow Plain a)
-  by-kind b c Costs a =
+  by-kind b c Costs w a =
       let file = is-file storedCostRules b (a .model .reads) in
-      ready storedCostRules b c file (a .judged) d (known-transitions k) Costs (costModelBytes (rewrittenModel (modelAt M)) (costsIn M))
+      ready storedCostRules b c file (a .judged) d (known-transitions k) Costs refl (costModelBytes (rewrittenModel (modelAt M)) (costsIn M))
       (lowest-cost-file k limits limits-fit file) (cost-rewritten limits limits-fit (omega arith) M (modelAt M) file .long) (follow Costs a)
+  by-kind b c Strong w a = absurd (false-not (sym w))
 
   pub pair-ready : {kind : Kind} {flows : ℕ} → CanRewrite kind M n count C flows → Ready kind M C table flows
   unfolding flowsPlace
   pair-ready {kind} {flows} h =
       let place : flowsPlace (ruleOf kind M) (automatonIn M) C ≡ flows = omega (arith, h .place, h .accepted .stands, known-states k) in
-      subst (Ready kind M C table) place (by-kind (h .isModel) (h .isCertificate) kind (h .accepted))
+      subst (Ready kind M C table) place (by-kind (h .isModel) (h .isCertificate) kind (h .weak) (h .accepted))
 
 -- what the call answers
 abbrev answerOf : Kind → (M C one two : List ℕ) → Outcome
 answerOf kind M C one two = outcomeBy (pairsBy kind Any) (rewritesBy kind M C) M C (one ∷ two ∷ [])
 
-module _ (kind : Kind) {M C : List ℕ} (b : Bytes M) (c : Bytes C) (one two : List ℕ) where
+module _ (kind : Kind) (w : isStrong kind ≡ false) {M C : List ℕ} (b : Bytes M) (c : Bytes C) (one two : List ℕ) where
   -- the outcome, with its demands
   with-demands : {oneAfter twoAfter : List ℕ} {r : PairAnswer} → OutcomeIs (answerOf kind M C one two) (M ∷ C ∷ []) (oneAfter ∷ twoAfter ∷ []) (r .answer) → r .«certificate_written» ≡ secondWritten (answerOf kind M C one two) → RewriteAnswered kind M C one two oneAfter twoAfter r
-  with-demands {oneAfter} {twoAfter} {r} o e = record { answers = record { outcome = o; demands = go kind o }; second = e }
+  with-demands {oneAfter} {twoAfter} {r} o e = record { answers = record { outcome = o; demands = go kind w o }; second = e }
     where
-      go : (kind : Kind) → OutcomeIs (answerOf kind M C one two) (M ∷ C ∷ []) (oneAfter ∷ twoAfter ∷ []) (r .answer) → rewriteDemands kind M C (one ∷ two ∷ []) (oneAfter ∷ twoAfter ∷ []) (r .answer .number)
-      go Plain o = plain-rewrite-demands limits limits-fit (omega arith) M C (one ∷ two ∷ []) (oneAfter ∷ twoAfter ∷ []) (r .answer .number) b c (ap (λ (x : rules.Answer). x .number) (o .gives .answer)) (o .gives .buffers)
-      go Costs o = cost-rewrite-demands limits limits-fit (omega arith) M C (one ∷ two ∷ []) (oneAfter ∷ twoAfter ∷ []) (r .answer .number) b c (ap (λ (x : rules.Answer). x .number) (o .gives .answer)) (o .gives .buffers)
+      go : (kind : Kind) → isStrong kind ≡ false → OutcomeIs (answerOf kind M C one two) (M ∷ C ∷ []) (oneAfter ∷ twoAfter ∷ []) (r .answer) → rewriteDemands kind M C (one ∷ two ∷ []) (oneAfter ∷ twoAfter ∷ []) (r .answer .number)
+      go Plain w o = plain-rewrite-demands limits limits-fit (omega arith) M C (one ∷ two ∷ []) (oneAfter ∷ twoAfter ∷ []) (r .answer .number) b c (ap (λ (x : rules.Answer). x .number) (o .gives .answer)) (o .gives .buffers)
+      go Strong w o = absurd (false-not (sym w))
+      go Costs w o = cost-rewrite-demands limits limits-fit (omega arith) M C (one ∷ two ∷ []) (oneAfter ∷ twoAfter ∷ []) (r .answer .number) b c (ap (λ (x : rules.Answer). x .number) (o .gives .answer)) (o .gives .buffers)
 
   -- nothing is written
   refused : {a : Answer} {r : PairAnswer} → OutcomeIs (answerOf kind M C one two) (M ∷ C ∷ []) (one ∷ two ∷ []) a → secondWritten (answerOf kind M C one two) ≡ 0 → Unwritten a r → RewriteAnswered kind M C one two one two r
@@ -175,7 +181,7 @@ module _ {kind : Kind} {M C table : List ℕ} {at : ℕ} (one two : List ℕ) (p
       sym (found .large below (p .many) (p .left) (modelAt M) (p .held) (one ∷ two ∷ []) _) ∙ p .outcome (one ∷ two ∷ []) in
       let same : refusalIn (faultOf f) 2 (f .place) (length C) ≡ refusalIn (fault 35) 2 place (length C) =
       ap₂ (λ (x : rules-faults.Fault) (y : ℕ). refusalIn x 2 y (length C)) (placed .is ∙ is) (placed .at) in
-      refused kind (p .isModel) (p .isCertificate) one two (with-stretch (M ∷ C ∷ []) (one ∷ two ∷ []) (fault 35) 2 place (subst (λ (x : rules.Answer). Says x 0 a) same s) e (omega arith) (omega arith))
+      refused kind (p .weak) (p .isModel) (p .isCertificate) one two (with-stretch (M ∷ C ∷ []) (one ∷ two ∷ []) (fault 35) 2 place (subst (λ (x : rules.Answer). Says x 0 a) same s) e (omega arith) (omega arith))
       (ap secondWritten (sym e) ∙ none-second _ (one ∷ two ∷ [])) u
 
   module _ (none : length C ≤ place) where
@@ -184,7 +190,7 @@ module _ {kind : Kind} {M C table : List ℕ} {at : ℕ} (one two : List ℕ) (p
 
     -- 36
     short : {a : Answer} {r : PairAnswer} → unwritten (answerWithoutPlace 36) (one ∷ two ∷ []) ≡ answerOf kind M C one two → Says (answerWithoutPlace 36) 0 a → Unwritten a r → RewriteAnswered kind M C one two one two r
-    short e s u = refused kind (p .isModel) (p .isCertificate) one two (without-stretch 36 (s .answer) (gives-unwritten (one ∷ two ∷ []) _ s e)) (ap secondWritten (sym e) ∙ none-second _ (one ∷ two ∷ [])) u
+    short e s u = refused kind (p .weak) (p .isModel) (p .isCertificate) one two (without-stretch 36 (s .answer) (gives-unwritten (one ∷ two ∷ []) _ s e)) (ap secondWritten (sym e) ∙ none-second _ (one ∷ two ∷ [])) u
 
     pub model-short : {a : Answer} {r : PairAnswer} → length one < length M → Says (answerWithoutPlace 36) 0 a → Unwritten a r → RewriteAnswered kind M C one two one two r
     model-short h s u = short (first-short 36 _ _ one two (omega (arith, h, p .modelSize)) ∙ past) s u
@@ -197,7 +203,7 @@ module _ {kind : Kind} {M C table : List ℕ} {at : ℕ} (one two : List ℕ) (p
     pair-written g h wrote flows s e =
         let second = flowsFile table C (p .many) at in
         let filled-is = both-fit 36 (lowestFile M) second one two (omega (arith, g, p .modelSize)) (omega (arith, h, p .certificateSize)) ∙ past in
-        with-demands kind (p .isModel) (p .isCertificate) one two
+        with-demands kind (p .weak) (p .isModel) (p .isCertificate) one two
         (without-stretch 0 (s .answer)
         (gives-both (lowestFile M) second one two filled-is (without-as 0 (length (lowestFile M)) s refl (sym (p .modelSize)))
         (wrote ∙ ap (λ (n : ℕ). lowestFile M ++ drop n one) (sym (p .modelSize)))

@@ -1,7 +1,9 @@
 // The calls that rewrite a stored pair in lowest terms (document 02, K10): it is judged by the rules without 34, and both files are written.
 ghost use mathlib.Core.Path.{_≡_};
+ghost use mathlib.Core.Bool.{false};
 ghost use Rattle.rules.specs.definitions.Limits.{limits};
 ghost use Rattle.rules.specs.definitions.Reading.{headFault};
+ghost use Rattle.rule_kind.specs.Kinds.{isStrong};
 ghost use Rattle.rule_kind.specs.declared.Kind.the-variants.{Plain, Costs};
 ghost use Rattle.rewrite.specs.Rewrite.{CanRewrite, RewriteAnswered};
 use answer::PairAnswer;
@@ -56,7 +58,7 @@ fn rewrite_headed(
     model_out: &mut [u8],
     certificate_out: &mut [u8],
 ) -> PairAnswer
-    requires { ⌜ headFault limits (now model) .number ≡ 0 ⌝ }
+    requires { ⌜ (headFault limits (now model) .number ≡ 0) × (isStrong kind ≡ false) ⌝ }
     ensures { λ r. ⌜ RewriteAnswered kind (now (model .entry)) (now (certificate .entry)) (now («model_out» .entry)) (now («certificate_out» .entry)) (now («model_out» .exit)) (now («certificate_out» .exit)) r ⌝ }
 {
     let found = judgement::judge_files(kind, Terms::Any, model, certificate, STATES);

@@ -10,24 +10,22 @@ use Rattle.cost_files.specs.definitions.CostModel.{transitionsEnd}
 use Rattle.cost_files.specs.argument.CostReadingLaws.{cost-at}
 use Rattle.transition.specs.KnownLaws.{few-transitions}
 use Rattle.rule_kind.specs.declared.Kind.{Kind}
-use Rattle.rule_kind.specs.declared.Kind.the-variants.{Plain, Costs}
+use Rattle.rule_kind.specs.declared.Kind.the-variants.{Plain, Costs, Strong}
 use Rattle.rule_kind.specs.Kinds.{ruleOf, markOf, costIn, KindStands, CostsThere, CostAsked, CostIs}
 
 -- the rule's mark
 pub mark-of : (kind : Kind) (s : List ℕ) → markOf kind ≡ ruleOf kind s .mark
 mark-of Plain s = refl
 mark-of Costs s = refl
+mark-of Strong s = refl
 
--- what each answer of a function by kinds is
-pub by-plain : {X : Type 0} (f : Kind → X) {kind : Kind} {x : X} → kind ≡ Plain → x ≡ f Plain → x ≡ f kind
-by-plain f e h = h ∙ ap f (sym e)
-
-pub by-costs : {X : Type 0} (f : Kind → X) {kind : Kind} {x : X} → kind ≡ Costs → x ≡ f Costs → x ≡ f kind
-by-costs f e h = h ∙ ap f (sym e)
+-- what an answer of a function by kinds is
+pub by-kind : {X : Type 0} (f : Kind → X) {kind other : Kind} {x : X} → kind ≡ other → x ≡ f other → x ≡ f kind
+by-kind f e h = h ∙ ap f (sym e)
 
 -- a rule without costs
-pub no-cost : {kind : Kind} {s : List ℕ} {r cost : ℕ} → kind ≡ Plain → cost ≡ 0 → CostIs kind s r cost
-no-cost {s = s} {r} e z = record { is = by-plain (λ (k : Kind). costIn k s r) e z; low = omega arith }
+pub no-cost : (other : Kind) {kind : Kind} {s : List ℕ} {r cost : ℕ} → ((s : List ℕ) (r : ℕ) → costIn other s r ≡ 0) → kind ≡ other → cost ≡ 0 → CostIs kind s r cost
+no-cost other {s = s} {r} none e z = record { is = by-kind (λ (k : Kind). costIn k s r) e (z ∙ sym (none s r)); low = omega arith }
 
 -- the byte of a cost
 module _ {kind : Kind} {s places : List ℕ} {count r : ℕ} (a : CostAsked kind s count places r) (e : kind ≡ Costs) where
@@ -48,4 +46,4 @@ module _ {kind : Kind} {s places : List ℕ} {count r : ℕ} (a : CostAsked kind
   cost-is {cost} h =
       let below : r < countOf s = omega (arith, a .below, a .known .transitions) in
       let here : cost ≡ byteAt s (transitionsEnd s + 2 + r) = h ∙ ap (λ (p : ℕ). byteAt s (p + 2 + r)) end-is in
-      record { is = by-costs (λ (k : Kind). costIn k s r) e (here ∙ sym (cost-at s r below)); low = omega (arith, here, there .low r below) }
+      record { is = by-kind (λ (k : Kind). costIn k s r) e (here ∙ sym (cost-at s r below)); low = omega (arith, here, there .low r below) }

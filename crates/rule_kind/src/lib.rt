@@ -3,8 +3,8 @@ ghost use Prim.Native.Nat.{_+_, _*_, _≤_};
 ghost use lib.ListN.{length};
 ghost use mathlib.Core.Path.{_≡_};
 ghost use Rattle.rules.specs.definitions.Limits.{limits};
-ghost use Rattle.rule_kind.specs.Kinds.{markOf, CostAsked, CostIs};
-ghost use Rattle.rule_kind.specs.Steps.{TellsLayer, inQuestionBy, arrivalOf, departureOf, hasMove, wDepartureOf, furtherPrices, pricesBy, IsFurther, weakCondition, conditionBy};
+ghost use Rattle.rule_kind.specs.Kinds.{isStrong, hasCosts, markOf, CostAsked, CostIs};
+ghost use Rattle.rule_kind.specs.Steps.{TellsLayer, ownTransition, strongQuestion, inQuestionBy, arrivalOf, departureOf, hasMove, wDepartureOf, furtherPrices, firstPrices, pricesBy, IsFurther, weakCondition, strongCondition, conditionBy};
 use field::Cursor;
 use limits::STATES;
 use model::Places;
@@ -14,6 +14,30 @@ pub enum Kind {
     Plain,
     // The rule with costs (document 02, K6). They stand behind the transitions of the model.
     Costs,
+    // The strong rule (document 02, K14): no internal step is skipped.
+    Strong,
+}
+
+// Whether no internal step is skipped.
+fn is_strong(kind: Kind) -> bool
+    ensures { λ r. ⌜ r ≡ isStrong kind ⌝ }
+{
+    match kind {
+        Kind::Plain => false,
+        Kind::Costs => false,
+        Kind::Strong => true,
+    }
+}
+
+// Whether transitions have costs.
+pub fn has_costs(kind: Kind) -> bool
+    ensures { λ r. ⌜ r ≡ hasCosts kind ⌝ }
+{
+    match kind {
+        Kind::Plain => false,
+        Kind::Costs => true,
+        Kind::Strong => false,
+    }
 }
 
 // The mark of a certificate's head.
@@ -23,6 +47,7 @@ pub fn mark(kind: Kind) -> usize
     match kind {
         Kind::Plain => 0x4354,
         Kind::Costs => 0x4343,
+        Kind::Strong => 0x4353,
     }
 }
 
@@ -50,13 +75,47 @@ fn in_weak_question(challenger: usize, layer: usize, action: usize) -> bool
     }
 }
 
-// Whether an entry of a layer may have a transition with this action.
-pub fn in_question(kind: Kind, challenger: usize, layer: usize, action: usize) -> bool
-    ensures { λ r. ⌜ r ≡ inQuestionBy kind challenger layer action ⌝ }
+// Document 02, K14: 'transitions of t itself with the challenger's action, internal included'.
+fn is_own(challenger: usize, t: usize, source: usize, action: usize) -> bool
+    ensures { λ r. ⌜ r ≡ ownTransition challenger t source action ⌝ }
 {
-    match kind {
-        Kind::Plain | Kind::Costs => in_weak_question(challenger, layer, action),
+    if source != t {
+        return false;
     }
+    action == challenger
+}
+
+// 'Flows have entries of layer 1 only, over' those.
+fn in_strong_question(
+    challenger: usize,
+    t: usize,
+    layer: usize,
+    source: usize,
+    action: usize,
+) -> bool
+    ensures { λ r. ⌜ r ≡ strongQuestion challenger t layer source action ⌝ }
+{
+    if layer != 1 {
+        return false;
+    }
+    is_own(challenger, t, source, action)
+}
+
+// Whether an entry of a layer may have a transition with this source and action, against the defender t.
+pub fn in_question(
+    kind: Kind,
+    challenger: usize,
+    t: usize,
+    layer: usize,
+    source: usize,
+    action: usize,
+) -> bool
+    ensures { λ r. ⌜ r ≡ inQuestionBy kind challenger t layer source action ⌝ }
+{
+    if is_strong(kind) {
+        return in_strong_question(challenger, t, layer, source, action);
+    }
+    in_weak_question(challenger, layer, action)
 }
 
 // Where the remainders of a flow's equations begin: those before the move, or of a challenger without one, and those after it.
@@ -84,13 +143,14 @@ pub fn departure(layer: usize) -> usize
     BEFORE_MOVE
 }
 
-// Whether there is a move: an internal challenger has none.
+// Whether there is a move: an internal challenger has none, but where no step is skipped.
 pub fn has_move(kind: Kind, challenger: usize) -> bool
     ensures { λ r. ⌜ r ≡ hasMove kind challenger ⌝ }
 {
-    match kind {
-        Kind::Plain | Kind::Costs => challenger != 0,
+    if is_strong(kind) {
+        return true;
     }
+    challenger != 0
 }
 
 // Where the remainders begin that w leaves: after the move, where there is one.
@@ -110,19 +170,31 @@ fn further_prices(kind: Kind) -> usize
     match kind {
         Kind::Plain => 0,
         Kind::Costs => 1,
+        Kind::Strong => 0,
     }
 }
 
-// How many prices a refutation has: A for each state, B if there is a move, G, and those behind them.
+// How many prices A there are: one for each state, or for t alone.
+pub fn first_prices(kind: Kind, n: usize) -> usize
+    ensures { λ r. ⌜ r ≡ firstPrices kind n ⌝ }
+{
+    if is_strong(kind) {
+        return 1;
+    }
+    n
+}
+
+// How many prices a refutation has: A, B for each state if there is a move, G for each state, and those behind them.
 pub fn price_count(kind: Kind, n: usize, challenger: usize) -> usize
     requires { ⌜ n ≤ limits .states ⌝ }
     ensures { λ r. ⌜ r ≡ pricesBy kind n challenger ⌝ }
 {
+    let first = first_prices(kind, n);
     let further = further_prices(kind);
     if has_move(kind, challenger) {
-        return 3 * n + further;
+        return first + 2 * n + further;
     }
-    2 * n + further
+    first + n + further
 }
 
 // The price L at a place, 0 where the rule has none.
@@ -133,6 +205,7 @@ pub fn further_price(kind: Kind, cert: &[u8], at: usize) -> i64
     match kind {
         Kind::Plain => 0,
         Kind::Costs => Cursor::new(at).price(cert).value,
+        Kind::Strong => 0,
     }
 }
 
@@ -159,13 +232,30 @@ fn weak_condition(challenger: usize, action: usize) -> Condition
     Condition::Unasked
 }
 
-// That of a transition with this action.
-pub fn condition_of(kind: Kind, challenger: usize, action: usize) -> Condition
-    ensures { λ r. ⌜ r ≡ conditionBy kind challenger action ⌝ }
+// Document 02, K14: 'for each such transition', 'and no other price condition'.
+fn strong_condition(challenger: usize, t: usize, source: usize, action: usize) -> Condition
+    ensures { λ r. ⌜ r ≡ strongCondition challenger t source action ⌝ }
 {
-    match kind {
-        Kind::Plain | Kind::Costs => weak_condition(challenger, action),
+    if is_own(challenger, t, source, action) {
+        return Condition::Across;
     }
+    Condition::Unasked
+}
+
+// That of a transition with this source and action, against the defender t.
+pub fn condition_of(
+    kind: Kind,
+    challenger: usize,
+    t: usize,
+    source: usize,
+    action: usize,
+) -> Condition
+    ensures { λ r. ⌜ r ≡ conditionBy kind challenger t source action ⌝ }
+{
+    if is_strong(kind) {
+        return strong_condition(challenger, t, source, action);
+    }
+    weak_condition(challenger, action)
 }
 
 // The cost of the transition r, 0 where the rule has none.
@@ -179,5 +269,6 @@ pub fn cost_of(kind: Kind, s: &[u8], count: usize, places: &Places, r: usize) ->
             let end = places[count];
             Cursor::new(end + 2 + r).byte(s).value
         }
+        Kind::Strong => 0,
     }
 }

@@ -1,6 +1,6 @@
 // The product: the calls for C and Rust, over byte slices and plain numbers; a stretch by where it starts in its file and how long it is.
 // No public entry has a `requires`.
-ghost use Rattle.rule_kind.specs.declared.Kind.the-variants.{Plain, Costs};
+ghost use Rattle.rule_kind.specs.declared.Kind.the-variants.{Plain, Costs, Strong};
 ghost use Rattle.fetch.specs.Fetched.{FetchAnswered};
 ghost use Rattle.judge.specs.Judge.{JudgeAnswered};
 ghost use Rattle.reduce.specs.Reduce.{ReduceAnswered};
@@ -52,6 +52,18 @@ pub extern "C" fn zolkirta_judge_costs(
     ensures { λ r. ⌜ JudgeAnswered Costs (now (model .entry)) (now (certificate .entry)) (now (blocks .entry)) (now (blocks .exit)) r ⌝ }
 {
     judge::judge_costs_answer(model, certificate, blocks)
+}
+
+// Judges a certificate for a model by the strong rule. Acceptance writes the blocks, one byte a state.
+#[no_mangle]
+pub extern "C" fn zolkirta_judge_strong(
+    model: &[u8],
+    certificate: &[u8],
+    blocks: &mut [u8],
+) -> Answer
+    ensures { λ r. ⌜ JudgeAnswered Strong (now (model .entry)) (now (certificate .entry)) (now (blocks .entry)) (now (blocks .exit)) r ⌝ }
+{
+    judge::judge_strong_answer(model, certificate, blocks)
 }
 
 // Judges a certificate for a model and writes the sheet of its blocks.

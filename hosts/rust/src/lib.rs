@@ -1,14 +1,14 @@
-//! Judges certificates of weak bisimulation for probabilistic automata: safe calls of the proved library.
+//! Judges certificates of weak and of strong bisimulation for probabilistic automata: safe calls of the proved library.
 //!
 //! A model file holds an automaton, a certificate file the reasons for which of its states are weakly bisimilar. [`judge`] accepts
 //! the certificate and names the block of each state, [`reduce`] writes the model with each block merged into one state, [`fetch`]
 //! finds the transitions that leave a state. [`sheet`] writes the blocks as text for paper. [`join`] writes two models as one, and
-//! [`alike`] says whether a state of the one behaves as a state of the other. [`judge_costs`] judges where each transition has a cost.
-//! [`read_prism`] makes a model of PRISM's transition file. [`rewrite`] and [`rewrite_costs`] take a stored pair whose fractions are not in
-//! lowest terms, which every other call refuses, and write it in lowest terms. [`compose`] writes two models that work side by side, and
-//! [`hide`] a model with some of its actions made internal. [`largest`] writes a pair with as many flow records as any accepted one has. What is
-//! not accepted gets one numbered [`Refusal`], which says itself in the words of [`sentence`]. The tool `zolkirta` makes these calls by file name:
-//! `zolkirta --help` tells how.
+//! [`alike`] says whether a state of the one behaves as a state of the other. [`judge_costs`] judges where each transition has a cost, and
+//! [`judge_strong`] by strong bisimulation, where internal steps may not be skipped. [`read_prism`] makes a model of PRISM's transition file.
+//! [`rewrite`] and [`rewrite_costs`] take a stored pair whose fractions are not in lowest terms, which every other call refuses, and write it in
+//! lowest terms. [`compose`] writes two models that work side by side, and [`hide`] a model with some of its actions made internal. [`largest`]
+//! writes a pair with as many flow records as any accepted one has. What is not accepted gets one numbered [`Refusal`], which says itself in the
+//! words of [`sentence`]. The tool `zolkirta` makes these calls by file name: `zolkirta --help` tells how.
 //!
 //! The small pair S of document 01: state 0 moves to state 2 by action 1, state 1 moves to state 0 internally.
 //!
@@ -54,9 +54,9 @@ pub const SHEET: usize = 9344;
 /// A sentence buffer of this length is always long enough.
 pub const SENTENCE: usize = 201;
 
-/// How many flow records there are at most: no accepted certificate without costs for a model of so many states and transitions has more, and the
-/// one that [`largest`] writes has as many. This bounds no length of a certificate: a flow record has 10 bytes, 7 for each of up to twice
-/// `transitions` less 1 k entries and 6 for each of up to `states` times `states` w entries, and refutations stand before the flows.
+/// How many flow records there are at most: no accepted certificate without costs, weak or strong, for a model of so many states and transitions has
+/// more, and the one that [`largest`] writes has as many. This bounds no length of a certificate: a flow record has 10 bytes, 7 for each of up to
+/// twice `transitions` less 1 k entries and 6 for each of up to `states` times `states` w entries, and refutations stand before the flows.
 pub const fn flows(states: usize, transitions: usize) -> usize {
     transitions.saturating_mul(states.saturating_sub(1))
 }
@@ -104,7 +104,8 @@ impl File {
 /// be lessened or the right one raised by the remainder, for a price condition by one more; the other way where it is negative.
 #[derive(Clone, Copy, Debug, PartialEq, Eq, Hash)]
 pub struct Difference {
-    /// For 16 the refutation's defender t; for 20 the first v where an equation breaks, those before the move first; for 21 the first u.
+    /// For 16 the refutation's defender t; for 20 the first v where an equation breaks, those before the move first, in a strong pair t first, for
+    /// the equation of D; for 21 the first u.
     pub state: u32,
     /// The left side less the right one: 0 or more for 16, never 0 for 20 and 21.
     pub remainder: i64,
@@ -335,6 +336,38 @@ pub fn judge_costs<'a, 'b>(model: &'a [u8], certificate: &'a [u8], buffer: &'b m
     lend(raw::zolkirta_judge_costs, [(File::Model, model), (File::Certificate, certificate)], buffer)
 }
 
+/// Judges a certificate for a model by strong bisimulation: internal steps count as every other action does. The defender answers a challenger by
+/// its own transitions with the challenger's action alone, each used as often as it likes. On acceptance the first bytes of `buffer`, one for each
+/// state, are the states' blocks, and they are what is handed back; the buffer's later bytes stay. Each block lies inside one that [`judge`] gives
+/// for the same model.
+///
+/// Refusals: those of [`judge`]. For 20 the equation of D comes first, with the defender as its state. The certificate begins with `CS`; every other
+/// call that takes one refuses it with 12. No merged model is written for strong pairs.
+///
+/// The small model S, whose states 0 and 1 are weakly bisimilar. State 1 has no transition with action 1 of its own, and so no answer to transition
+/// 0: each refutation has one price A, here 0, then B and G for every state.
+///
+/// ```
+/// let model = b"PA\x03\x02\0\x02LB\0\0\0\
+///     TR\0\x01\0\x01\x01\x02\0\x01\
+///     TR\x01\0\0\x01\x01\0\0\x01";
+/// let refuted = |challenger: u8, defender: u8| [&[b'P', b'X', 0, challenger, defender][..], &[0; 4], &[0, 0, 0, 1].repeat(6)].concat();
+/// let certificate = [b"CS\0\x03".to_vec(), refuted(0, 1), refuted(0, 2), refuted(1, 2), b"BK\0\x01\x02".to_vec()].concat();
+/// assert_eq!(certificate.len(), 108);
+/// let mut buffer = [0; zolkirta::STATES];
+/// assert_eq!(zolkirta::judge_strong(model, &certificate, &mut buffer).unwrap(), [0, 1, 2]);
+/// assert_eq!(zolkirta::judge(model, &certificate, &mut buffer).unwrap_err().number, 12);
+///
+/// // Two states that each move to themselves internally: staying put is no answer, and all of D is missing.
+/// let model = b"PA\x02\x01\0\x02LB\0\0TR\0\0\0\x01\x01\0\0\x01TR\x01\0\0\x01\x01\x01\0\x01";
+/// let refusal = zolkirta::judge_strong(model, b"CS\0\0BK\0\0FL\0\0\0\x01\0\0\0\x01\x01\0\0\0\0\x01", &mut buffer).unwrap_err();
+/// assert_eq!((refusal.number, refusal.place), (20, 8));
+/// assert_eq!(refusal.difference, Some(zolkirta::Difference { state: 1, remainder: 1 }));
+/// ```
+pub fn judge_strong<'a, 'b>(model: &'a [u8], certificate: &'a [u8], buffer: &'b mut [u8]) -> Result<&'b [u8], Refusal<'a>> {
+    lend(raw::zolkirta_judge_strong, [(File::Model, model), (File::Certificate, certificate)], buffer)
+}
+
 /// Judges a certificate for a model and writes the merged model: each block is one state. On acceptance the first bytes of `buffer`
 /// are the merged model's file, and they are what is handed back; the buffer's later bytes stay. Of the transitions of a block with one
 /// action and the same probabilities the first is kept. All are written in lowest terms: weights are added up by block, then divided.
@@ -519,7 +552,7 @@ pub fn read_prism<'a, 'b>(text: &'a [u8], buffer: &'b mut [u8]) -> Result<&'b [u
 /// Judges a stored pair by the rules from before lowest terms were asked for, without 34, and writes it in lowest terms: weights and d of each
 /// transition are divided by their greatest common divisor, and each k of a flow for that transition is multiplied by it; all else stays. On
 /// acceptance the first bytes of each buffer are the rewritten file, as long as the stored one, and they are what is handed back, the model
-/// first; later bytes stay. The rewritten pair is accepted, with the same blocks, by [`judge`] and by every other call.
+/// first; later bytes stay. The rewritten pair is accepted, with the same blocks, by [`judge`] and by every other call that takes a weak pair.
 ///
 /// Refusals: 1 to 9 in the model, 11 to 22 in the certificate; then 35 in the certificate, at the first flow in which a k times its
 /// transition's divisor is above 4,294,967,295; then 36, where a buffer is shorter than its file.

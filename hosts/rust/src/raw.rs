@@ -87,6 +87,15 @@ extern "C" {
         blocks: *mut u8,
         blocks_length: usize,
     ) -> Answer;
+    /// [`judge_strong`](crate::judge_strong)
+    pub fn zolkirta_judge_strong(
+        model: *const u8,
+        model_length: usize,
+        certificate: *const u8,
+        certificate_length: usize,
+        blocks: *mut u8,
+        blocks_length: usize,
+    ) -> Answer;
     /// [`reduce`](crate::reduce)
     pub fn zolkirta_reduce(
         model: *const u8,

@@ -3,14 +3,14 @@ mod compare;
 mod maker;
 mod plain;
 
-use compare::{accepted, accepted_costs, accepted_texts, alike, compose, fetch, hide, join, judge, judge_costs, lines, read_prism, reduce};
-use compare::{rewrite_by, sentence, sheet, Answering, Both, Counts, Lent};
-use maker::families::{bytes, flow_heavy, half, largest, parts, refutation_heavy, still};
+use compare::{accepted, accepted_costs, accepted_strong, accepted_texts, alike, compose, fetch, hide, join, judge, judge_costs, judge_strong};
+use compare::{lines, read_prism, reduce, rewrite_by, sentence, sheet, Answering, Both, Counts, Lent};
+use maker::families::{bytes, flow_heavy, half, largest, parts, refutation_heavy, still, strong_chain, strong_loops};
 use plain::Answer;
 use std::ptr::{null, null_mut};
 use zolkirta::raw::{zolkirta_alike, zolkirta_compose, zolkirta_fetch, zolkirta_hide, zolkirta_join, zolkirta_judge, zolkirta_judge_costs};
 use zolkirta::raw::{zolkirta_read_prism, zolkirta_reduce, zolkirta_rewrite, zolkirta_rewrite_costs, zolkirta_sentence, zolkirta_sheet};
-use zolkirta::raw::{zolkirta_largest, Lending, LendingTwo};
+use zolkirta::raw::{zolkirta_judge_strong, zolkirta_largest, Lending, LendingTwo};
 use zolkirta::{largest_certificate, largest_model, MODEL, SENTENCE, SHEET, STATES, TRANSITIONS};
 
 /// Makes a call with buffers from none to one byte longer than what it writes, and with these: a shorter one is refused with a number.
@@ -34,9 +34,11 @@ fn buffers_of_every_length() {
         assert_eq!(hide(model, &[1, 2], MODEL).1.len(), model.len());
         every_length(|length| hide(model, &[1, 2], length), 38, &[MODEL, MODEL + 1]);
     }
-    for (model, certificate) in &accepted_costs() {
-        assert_eq!(judge_costs(model, certificate, STATES).1.len(), usize::from(model[2]));
-        every_length(|length| judge_costs(model, certificate, length), 10, &[STATES, STATES + 1, 255, 256, 257]);
+    for (pairs, call) in [(accepted_costs(), judge_costs as Lent), (accepted_strong(), judge_strong)] {
+        for (model, certificate) in &pairs {
+            assert_eq!(call(model, certificate, STATES).1.len(), usize::from(model[2]));
+            every_length(|length| call(model, certificate, length), 10, &[STATES, STATES + 1, 255, 256, 257]);
+        }
     }
     let half = half().0.bytes();
     let small = || pairs.iter().map(|(model, _)| model).filter(|model| model[2] <= 64 && model.len() < 1000);
@@ -76,16 +78,16 @@ fn a_refusal_writes_nothing_whatever_the_length() {
     }
     assert!(refused > 10_000);
     let mut refused = 0;
-    for v in said(&["judge_costs"], 1) {
+    for v in said(&["judge_costs", "judge_strong"], 1) {
         for length in (0..=66).chain(126..=130) {
-            let number = judge_costs(&v.files[0], &v.files[1], length).0.number;
+            let number = Both.lent(&v.call, &v.files[0], &v.files[1], length).0.number;
             // 10 comes between the model's faults and the certificate's.
             let short = v.said.0.file == 2 && length < usize::from(v.files[0][2]);
             assert_eq!(number, if short { 10 } else { v.number() });
             refused += 1;
         }
     }
-    assert!(refused > 10_000);
+    assert!(refused > 40_000);
     let mut refused = 0;
     for v in said(&["join", "compose", "hide"], 0).filter(|v| !matches!(v.number(), 0 | 26 | 38)) {
         for length in (0..=66).chain(126..=130) {
@@ -108,14 +110,16 @@ fn a_refusal_writes_nothing_whatever_the_length() {
 fn null_pointers_at_length_0() {
     let (model, certificate) = &accepted()[0];
     let (costly, its_certificate) = &accepted_costs()[0];
+    let (strong, strong_certificate) = &accepted_strong()[0];
     let text = b"1 0 0\n";
     let (m, m_length, c, c_length) = (model.as_ptr(), model.len(), certificate.as_ptr(), certificate.len());
     let mut blocks = [7; STATES];
     let b = blocks.as_mut_ptr();
     // The same call with an empty slice for every null pointer.
-    let lending: [(Lending, Lent, &[u8], &[u8]); 6] = [
+    let lending: [(Lending, Lent, &[u8], &[u8]); 7] = [
         (zolkirta_judge, judge, model, certificate),
         (zolkirta_judge_costs, judge_costs, costly, its_certificate),
+        (zolkirta_judge_strong, judge_strong, strong, strong_certificate),
         (zolkirta_reduce, reduce, model, certificate),
         (zolkirta_sheet, sheet, model, certificate),
         (zolkirta_join, join, model, model),
@@ -169,6 +173,9 @@ fn null_pointers_at_length_0() {
     let with_costs = [(costly, its_certificate, 0), (costly, &Vec::new(), STATES), (model, certificate, STATES)];
     let with_costs = with_costs.map(|(model, certificate, length)| judge_costs(model, certificate, length).0);
     assert_eq!(with_costs.map(|answer| (answer.number, answer.file)), [(10, 0), (11, 2), (1, 1)]);
+    let strongly = [(strong, strong_certificate, 0), (strong, &Vec::new(), STATES), (model, certificate, STATES)];
+    let strongly = strongly.map(|(model, certificate, length)| judge_strong(model, certificate, length).0);
+    assert_eq!(strongly.map(|answer| (answer.number, answer.file)), [(10, 0), (11, 2), (12, 2)]);
     let texts = [read_prism(text, 0).0, read_prism(&[], STATES).0];
     assert_eq!(texts.map(|answer| (answer.number, answer.file)), [(33, 0), (31, 1)]);
     for (call, shorter) in [(join as Lent, 26), (compose, 38)] {
@@ -246,18 +253,18 @@ fn counts_of_every_size() {
 }
 
 /// Truncations of a long certificate, bytes added to it, and changes of so many bytes along it and of these at its end.
-fn long_certificate(counts: &mut Counts, (model, certificate): (Vec<u8>, Vec<u8>), along: usize, last: Vec<usize>) {
+fn long_certificate(mut judged: impl FnMut(&[u8]) -> Answer, certificate: &[u8], along: usize, last: Vec<usize>) {
     let size = certificate.len();
-    assert!(size > 300_000 && counts.pair(&model, &certificate).number == 0);
+    assert!(size > 300_000 && judged(certificate).number == 0);
     for end in [65_534, 65_535, 65_536, 65_537, 262_143, 262_144, 262_145, size - 1] {
-        counts.pair(&model, &certificate[..end]);
+        judged(&certificate[..end]);
     }
-    let longer = [&certificate[..], &[0; 70_000]].concat();
-    assert_eq!(counts.pair(&model, &longer).place, size);
-    let mut damaged = certificate.clone();
+    let longer = [certificate, &[0; 70_000]].concat();
+    assert_eq!(judged(&longer).place, size);
+    let mut damaged = certificate.to_vec();
     for at in (1 << 18..size).step_by(size / along).chain(last) {
         damaged[at] ^= 1;
-        let answer = counts.pair(&model, &damaged);
+        let answer = judged(&damaged);
         assert!(answer.number == 0 || answer.file == 2 && answer.place > 1 << 17);
         damaged[at] = certificate[at];
     }
@@ -276,11 +283,23 @@ fn long_certificates() {
         let (along, step) = if n == 64 { (30, 1) } else { (4, 48) };
         let prices = (start + 8..blocks).step_by(8 * step);
         let last_refutation = (start..start + 5).step_by(step).chain(prices).chain((blocks..blocks + 2 + n).step_by(step)).collect();
-        long_certificate(&mut counts, flows, 30, last_flow);
-        long_certificate(&mut counts, refutations, along, last_refutation);
+        long_certificate(|certificate| counts.pair(&flows.0, certificate), &flows.1, 30, last_flow);
+        long_certificate(|certificate| counts.pair(&refutations.0, certificate), &refutations.1, along, last_refutation);
     }
     println!("long certificates: {counts}");
     for number in [0, 11, 12, 14, 15, 16, 17, 18, 19, 20, 21, 22] {
+        assert!(counts.answers[number] > 0, "no long certificate was answered with {number}");
+    }
+}
+
+#[test]
+fn long_strong_certificates() {
+    let mut counts = Counts::default();
+    for (model, certificate) in [strong_loops(64, 0), strong_chain(64, 1)].map(bytes) {
+        let last = (certificate.len() - 29..certificate.len()).collect();
+        long_certificate(|certificate| counts.count(judge_strong(&model, certificate, STATES).0), &certificate, 20, last);
+    }
+    for number in [0, 11, 12, 15, 17, 18, 19, 20, 22] {
         assert!(counts.answers[number] > 0, "no long certificate was answered with {number}");
     }
 }

@@ -5,10 +5,11 @@ mod maker;
 mod plain;
 mod records;
 
-use compare::{compose, fetch, hide, join, judge, lines, reduce, rounds, Numbers};
+use compare::{compose, fetch, hide, join, judge, judge_strong, lines, reduce, rounds, Numbers};
 use maker::files::{Certificate, Model, Transition};
 use maker::random::random_model;
 use maker::{certificate, shuffle};
+use plain::Rule;
 use records::{damaged_models, each_damaged, pairs_of_models, small_damage_of_models};
 use std::collections::{BTreeMap, BTreeSet};
 use zolkirta::{MODEL, STATES};
@@ -183,10 +184,11 @@ fn every_member_of_a_set() {
     assert_eq!(hidden(&model, &all.repeat(1_000)), hidden(&model, &all));
 }
 
-/// A certificate that the maker finds for the model, and that both accept.
+/// A certificate that the maker finds for the model by its rule, and that both accept.
 fn certified(model: &Model, numbers: &mut Numbers) -> Option<Certificate> {
     let own = certificate(model, numbers)?;
-    assert_eq!(judge(&model.bytes(), &own.bytes(), STATES).1, own.blocks, "{model:?}");
+    let call = if model.rule == Rule::Strong { judge_strong } else { judge };
+    assert_eq!(call(&model.bytes(), &own.bytes(), STATES).1, own.blocks, "{model:?}");
     Some(own)
 }
 
@@ -198,12 +200,21 @@ fn linked(blocks: &[u8]) -> impl Iterator<Item = (usize, usize)> + '_ {
 /// Document 02, K11: for linked s and t of the left, (s,e) and (t,e) are linked in the composition.
 #[test]
 fn states_that_are_alike_stay_so_side_by_side() {
-    let mut numbers = Numbers::new(63);
+    linked_side_by_side(Numbers::new(63), |model| model.clone());
+}
+
+/// K14: those that are strongly alike stay so strongly.
+#[test]
+fn states_that_are_strongly_alike_stay_so_side_by_side() {
+    linked_side_by_side(Numbers::new(148), Model::strong);
+}
+
+fn linked_side_by_side(mut numbers: Numbers, by_rule: fn(&Model) -> Model) {
     let (mut links, mut apart, mut shared) = (0, 0, 0);
     for _ in 0..rounds(1_000) {
         let (left, right) = (busy_model(&mut numbers, 5), busy_model(&mut numbers, 3));
         let Some(both) = composed(&left, &right) else { continue };
-        let Some((own, told)) = certified(&left, &mut numbers).zip(certified(&both, &mut numbers)) else { continue };
+        let Some((own, told)) = certified(&by_rule(&left), &mut numbers).zip(certified(&by_rule(&both), &mut numbers)) else { continue };
         for ((s, t), e) in linked(&own.blocks).flat_map(|pair| (0..right.n()).map(move |e| (pair, e))) {
             let [v, u] = [s, t].map(|state| told.blocks[state * right.n() + e]);
             assert_eq!(v, u, "{left:?} {right:?} {s} {t} {e}");
@@ -242,7 +253,15 @@ fn a_reduced_part_stands_for_the_part() {
 /// Document 02, K11: linked states stay linked with actions hidden; others may become so.
 #[test]
 fn states_that_are_alike_stay_so_with_actions_hidden() {
-    let mut numbers = Numbers::new(64);
+    linked_with_actions_hidden(Numbers::new(64), |model| model.clone());
+}
+
+#[test]
+fn states_that_are_strongly_alike_stay_so_with_actions_hidden() {
+    linked_with_actions_hidden(Numbers::new(149), Model::strong);
+}
+
+fn linked_with_actions_hidden(mut numbers: Numbers, by_rule: fn(&Model) -> Model) {
     let (mut links, mut more, mut apart) = (0, 0, 0);
     for _ in 0..rounds(1_000) {
         let model = busy_model(&mut numbers, 8);
@@ -250,7 +269,7 @@ fn states_that_are_alike_stay_so_with_actions_hidden() {
         if without == model {
             continue;
         }
-        let Some((own, told)) = certified(&model, &mut numbers).zip(certified(&without, &mut numbers)) else { continue };
+        let Some((own, told)) = certified(&by_rule(&model), &mut numbers).zip(certified(&by_rule(&without), &mut numbers)) else { continue };
         for (s, t) in linked(&own.blocks) {
             assert_eq!(told.blocks[s], told.blocks[t], "{model:?} {without:?} {s} {t}");
             links += 1;

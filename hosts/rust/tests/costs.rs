@@ -5,26 +5,22 @@ mod maker;
 mod plain;
 mod records;
 
-use compare::{accepted_costs, alike, changes, compose, every_kind, fetch, hide, join, judge, judge_costs, kind_by, reduce, rewrite_costs, rounds};
-use compare::{sheet, Lent, Numbers};
+use compare::{accepted_costs, alike, compose, every_kind, fetch, hide, join, judge, judge_costs, reduce, rewrite_costs, rounds, sheet, told};
+use compare::{Lent, Numbers};
 use maker::families::{
-    bytes, copies, flow_heavy, flow_heavy_with_costs, internal_chain, largest, late_steps, most_copies, one_source, refutation_heavy, tolls,
+    bytes, copies_are_accepted, flow_heavy, flow_heavy_with_costs, internal_chain, largest, late_steps, one_source, refutation_heavy, tolls,
     with_costs,
 };
-use maker::files::{Certificate, Flow, Model, Refutation, Transition};
+use maker::files::{count, inside, Certificate, Flow, Model, Refutation, Transition};
 use maker::random::{in_any_terms, random_cost_model, random_model};
 use maker::Missed;
 use plain::{Answer, Rule, TODAY};
-use records::{crowded, each_damaged, respelled, split, Records};
+use records::{crowded, damaged_by, respelled, small_damage, Told};
 use std::collections::{BTreeMap, BTreeSet};
 use zolkirta::{MODEL, SHEET, STATES};
 
-/// Both accept with the blocks of the certificate, in a buffer of just their length and in none shorter.
 fn accepted(model: &Model, certificate: &Certificate) {
-    let (pa, ct) = (model.bytes(), certificate.bytes());
-    let (answer, blocks) = judge_costs(&pa, &ct, model.n());
-    assert_eq!((answer.number, &blocks), (0, &certificate.blocks), "{model:?} {certificate:?}");
-    assert_eq!(judge_costs(&pa, &ct, model.n() - 1).0.number, 10);
+    maker::is_accepted(judge_costs, model, certificate);
 }
 
 /// A cost pair in any terms is refused unless it is in lowest ones, and accepted once it is rewritten, where every k fits.
@@ -34,16 +30,6 @@ fn accepted_rewritten(model: &Model, certificate: &Certificate) -> Option<(Model
     let (lowest, own) = maker::rewritten(model, certificate, rewrite_costs(&pa, &ct))?;
     accepted(&lowest, &own);
     Some((lowest, own))
-}
-
-/// Whether each of these blocks lies inside one of the others.
-fn inside(blocks: &[u8], others: &[u8]) -> bool {
-    let states = 0..blocks.len();
-    states.clone().all(|v| states.clone().all(|u| blocks[v] != blocks[u] || others[v] == others[u]))
-}
-
-fn count(blocks: &[u8]) -> usize {
-    BTreeSet::from_iter(blocks).len()
 }
 
 #[test]
@@ -140,29 +126,7 @@ fn families_with_costs_up_to_128_states() {
             accepted(&model, &found);
         }
     }
-    let (mut most, mut records) = (0, 0);
-    for _ in 0..rounds(60) {
-        let model = random_cost_model(&mut numbers, 6);
-        let Some(certificate) = maker::certificate(&model, &mut numbers) else { continue };
-        let k = most_copies(&model);
-        if certificate.refutations.len() * k * k <= TODAY.refutations {
-            let (copied, lifted) = copies(&model, &certificate, k);
-            accepted(&copied, &lifted);
-            most = most.max(copied.n());
-            records += lifted.refutations.len() + lifted.flows.len();
-        }
-    }
-    println!("copies up to {most} states, {records} refutations and flows");
-    assert!(most > 120 && records > 10_000);
-}
-
-/// How often each number was answered, with the file.
-type Told = BTreeMap<(u32, u32), u64>;
-
-/// Every number that the call answers, with its file.
-fn every_number() -> BTreeSet<(u32, u32)> {
-    let (of_model, of_certificate) = ((1..=9).chain([29, 34]), (11..=22).chain([30]));
-    of_model.map(|number| (number, 1)).chain(of_certificate.map(|number| (number, 2))).chain([(0, 0), (10, 0)]).collect()
+    copies_are_accepted(judge_costs, random_cost_model, TODAY.refutations, &mut numbers);
 }
 
 #[test]
@@ -177,17 +141,7 @@ fn damaged_pairs_are_answered_alike() {
         let model = random_cost_model(&mut numbers, 6);
         pairs.extend(maker::certificate(&model, &mut numbers).map(|certificate| bytes((model, certificate))));
     }
-    assert!(pairs.iter().all(|(model, certificate)| judge_costs(model, certificate, STATES).0.number == 0));
-    let pairs: Vec<Records> = pairs.iter().map(split).collect();
-    let (mut told, mut kinds) = (Told::new(), BTreeSet::new());
-    each_damaged(&pairs, rounds(150_000), 65, |model, certificate, n, numbers| {
-        let length = if numbers.below(8) == 0 { numbers.below(n + 2) } else { STATES };
-        let (answer, _) = judge_costs(model, certificate, length);
-        *told.entry((answer.number, answer.file)).or_insert(0) += 1;
-        kinds.extend(kind_by(Rule::Costs, answer, model, certificate));
-    });
-    println!("damaged cost pairs: {told:?}");
-    assert_eq!(told.keys().copied().collect::<BTreeSet<_>>(), every_number());
+    let (told, kinds) = damaged_by(Rule::Costs, judge_costs, &pairs, rounds(150_000), 65);
     assert!(told[&(29, 1)] > 100 && told[&(30, 2)] > 100);
     assert_eq!(kinds, every_kind());
 }
@@ -195,26 +149,10 @@ fn damaged_pairs_are_answered_alike() {
 #[test]
 fn every_truncation_and_change_of_one_byte_of_small_pairs() {
     let small = accepted_costs().into_iter().filter(|(model, certificate)| (60..=220).contains(&(model.len() + certificate.len())));
-    let (mut told, mut pairs) = (Told::new(), 0);
-    for (model, certificate) in small.take(8) {
-        for size in 0..model.len() {
-            let answer = judge_costs(&model[..size], &certificate, STATES).0;
-            assert_eq!((answer.number, answer.file, answer.place + answer.stretch_length), (1, 1, size));
-        }
-        for size in 0..certificate.len() {
-            let answer = judge_costs(&model, &certificate[..size], STATES).0;
-            assert_eq!((answer.number, answer.file, answer.place + answer.stretch_length), (11, 2, size));
-        }
-        let mut tell = |model: &[u8], certificate: &[u8]| {
-            let answer = judge_costs(model, certificate, STATES).0;
-            *told.entry((answer.number, answer.file)).or_insert(0) += 1;
-        };
-        changes(&model, |damaged| tell(damaged, &certificate));
-        changes(&certificate, |damaged| tell(&model, damaged));
-        pairs += 1;
-    }
-    println!("{pairs} small cost pairs: {told:?}");
-    assert!(pairs == 8 && [(15, 2), (16, 2), (20, 2), (21, 2), (29, 1), (30, 2)].iter().all(|number| told.contains_key(number)), "{told:?}");
+    let (mut told, pairs) = (Told::new(), small.take(8).collect::<Vec<_>>());
+    pairs.iter().for_each(|pair| small_damage(judge_costs, pair, &mut told));
+    println!("{} small cost pairs: {told:?}", pairs.len());
+    assert!(pairs.len() == 8 && [(15, 2), (16, 2), (20, 2), (21, 2), (29, 1), (30, 2)].iter().all(|number| told.contains_key(number)), "{told:?}");
 }
 
 /// Document 01's small pair S with costs, and L at the end of each refutation.
@@ -228,11 +166,6 @@ fn small(costs: [i64; 2], prices: [i32; 2]) -> (Model, Certificate) {
     let stays = Flow { d: 1, ks: vec![], ws: vec![((0, 0), 1)] };
     let certificate = Certificate::new(refutations, vec![0, 0, 1], vec![moves, stays]);
     (model.with_costs(|i, _| costs[i]), certificate.with_l(|i| prices[i]))
-}
-
-/// Number, place, state and remainder.
-fn told(answer: Answer) -> (u32, usize, u32, i64) {
-    (answer.number, answer.place, answer.state, answer.remainder)
 }
 
 #[test]

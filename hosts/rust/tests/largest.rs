@@ -1,14 +1,14 @@
-//! K13: the pair with the most flow records, for every number of states and transitions; that no accepted certificate without costs has more of
-//! them; and how long one may be.
+//! K13: the pair with the most flow records, for every number of states and transitions; that no accepted certificate without costs, weak or
+//! strong, has more of them; and how long one may be.
 mod compare;
 mod maker;
 mod plain;
 mod records;
 
-use compare::{alike, all_lines, around_both, judge, largest, reduce, rewrite, rounds, sheet, Line, Numbers};
-use maker::families::{bytes, flow_heavy, in_any_order, internal_chain, random_large, refutation_heavy, still};
+use compare::{accepted_strong, alike, all_lines, around_both, judge, judge_strong, largest, reduce, rewrite, rounds, sheet, Line, Numbers};
+use maker::families::{bytes, flow_heavy, in_any_order, internal_chain, large_of, random_large, refutation_heavy, still, strong_fan, strong_loops};
 use maker::files::{Certificate, Flow, Model, Transition};
-use maker::random::random_model;
+use maker::random::{random_model, random_strong_model};
 use maker::Missed;
 use plain::Answer;
 use records::split;
@@ -123,10 +123,23 @@ fn made() -> Vec<Pair> {
     pairs
 }
 
+/// Strong pairs of the vectors and of the maker.
+fn strong_ones() -> Vec<Pair> {
+    let (mut numbers, mut missed) = (Numbers::new(131), Missed::default());
+    let mut made = vec![strong_loops(STATES, 0), strong_loops(5, 1), strong_fan(40, 1), large_of(random_strong_model, &mut numbers)];
+    for _ in 0..rounds(300) {
+        let model = random_strong_model(&mut numbers, 7);
+        made.extend(missed.certificate(&model, &mut numbers).map(|certificate| (model, certificate)));
+    }
+    let pairs: Vec<Pair> = accepted_strong().into_iter().chain(made.into_iter().map(bytes)).collect();
+    assert!(pairs.iter().all(|(model, certificate)| judge_strong(model, certificate, STATES).0.number == 0));
+    pairs
+}
+
 /// Flow records are counted from the bytes. There is one for each transition and each other state in the block of its source.
 #[test]
 fn no_accepted_certificate_has_more_flow_records() {
-    for (name, pairs, least) in [("vectors", of_vectors(), 50), ("maker", made(), 20)] {
+    for (name, pairs, least) in [("vectors", of_vectors(), 50), ("maker", made(), 20), ("strong", strong_ones(), 10)] {
         let (mut reached, mut below) = (0, 0);
         for pair in &pairs {
             let [model, certificate] = split(pair);

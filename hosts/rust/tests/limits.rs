@@ -3,10 +3,10 @@ mod compare;
 mod maker;
 mod plain;
 
-use compare::{accepted, accepted_costs, alike, fetch, judge, judge_costs, reduce, sheet, Answering, Both, Numbers};
+use compare::{accepted, accepted_costs, accepted_strong, alike, fetch, judge, judge_costs, judge_strong, reduce, sheet, Answering, Both, Numbers};
 use maker::families::{
     bytes, copies, flow_heavy, flow_heavy_with_costs, half, in_any_order, internal_chain, largest, late_steps, one_source, random_large,
-    refutation_heavy, still, tolls,
+    refutation_heavy, still, strong_chain, strong_fan, strong_largest, strong_loops, tolls,
 };
 use maker::files::{by_appearance, Certificate, Flow, Model, Refutation, Transition};
 use plain::{Limits, Rule, TODAY, TRANSITIONS};
@@ -87,10 +87,11 @@ fn refutation_counts() {
     let model = still(&[0, 0]).0;
     let costly = model.with_costs(|_, _| 0).bytes();
     for (count, told) in [(2016u16, [(11, 4), (11, 4)]), (2017, [(11, 4), (13, 0)]), (8128, [(11, 4), (13, 0)]), (8129, [(13, 0), (13, 0)])] {
-        let [head, with_costs] = [Rule::Plain, Rule::Costs].map(|rule| [&rule.mark()[..], &count.to_be_bytes()].concat());
-        assert_eq!(now_and_before(&model.bytes(), &head), told);
-        let answer = judge_costs(&costly, &with_costs, STATES).0;
-        assert_eq!((answer.number, answer.place), told[0]);
+        let heads = [Rule::Plain, Rule::Costs, Rule::Strong].map(|rule| [&rule.mark()[..], &count.to_be_bytes()].concat());
+        assert_eq!(now_and_before(&model.bytes(), &heads[0]), told);
+        for answer in [judge_costs(&costly, &heads[1], STATES).0, judge_strong(&model.bytes(), &heads[2], STATES).0] {
+            assert_eq!((answer.number, answer.place), told[0]);
+        }
     }
 }
 
@@ -161,9 +162,13 @@ fn prices_across_two_words() {
         let refutation = Refutation::new(0, 3, vec![but(2, 2, 0), but(1, v, 2), but(2, u, 1)]);
         // Once it passes, the blocks differ from the pairs left.
         let certificate = Certificate::new(vec![refutation], vec![0; STATES], Vec::new()).bytes();
+        let refutation = Refutation::strong(0, 3, 0, but(1, v, 2), but(2, u, 1));
+        let strong = Certificate::strong(vec![refutation], vec![0; STATES], Vec::new()).bytes();
         for (label, told) in [(0, (15, 4)), (1, (18, 4 + 5 + 12 * STATES))] {
             let model = Model::new(but(label, v, 0), 2, vec![Transition::step(2, 1, 2)]).bytes();
             assert_eq!(now_and_before(&model, &certificate), [told, (3, 0)], "{v} {u}");
+            let answer = judge_strong(&model, &strong, STATES).0;
+            assert_eq!((answer.number, answer.place), (told.0, if told.0 == 15 { 4 } else { 4 + 5 + 4 + 8 * STATES }), "{v} {u}");
         }
     }
 }
@@ -211,6 +216,30 @@ fn flows_across_two_words() {
             assert_eq!([met((t, other)), met((other, s))].map(|answer| answer.number), [19, 19]);
         }
         assert_eq!(met((t, 128)).number, 19);
+    }
+}
+
+/// By the strong rule s and t both step to themselves, and each answers by its own step.
+#[test]
+fn strong_flows_across_two_words() {
+    for (s, t) in edge_pairs() {
+        let labels: Vec<u8> = (0..STATES).map(|v| u8::from(v != s && v != t)).collect();
+        let steps = [s.min(t), s.max(t)].map(|v| Transition::step(v, 0, v)).to_vec();
+        let model = Model::new(labels.clone(), 1, steps).bytes();
+        let own = |v: usize| usize::from(v == s.max(t));
+        let met = |d: u32, r: usize, w: (usize, usize)| {
+            let flow = |d: u32, r: usize, w: (usize, usize)| Flow { d, ks: vec![((1, r), 1)], ws: vec![(w, 1)] };
+            let mut flows = vec![flow(d, r, w), flow(1, own(s), (s, t))];
+            flows.rotate_left(usize::from(s > t));
+            let answer = judge_strong(&model, &Certificate::strong(Vec::new(), by_appearance(&labels), flows).bytes(), STATES).0;
+            (answer.number, answer.state as usize, answer.remainder)
+        };
+        let (first, onto_first) = (s.min(t), if s < t { -1 } else { 1 });
+        assert_eq!(met(1, own(t), (t, s)), (0, 0, 0));
+        assert_eq!(met(2, own(t), (t, s)), (20, t, 1));
+        assert_eq!(met(1, own(s), (t, s)), (19, 0, 0));
+        assert_eq!(met(1, own(t), (s, s)), (20, first, onto_first));
+        assert_eq!(met(1, own(t), (t, t)), (21, first, onto_first));
     }
 }
 
@@ -362,6 +391,12 @@ fn what_was_accepted_is_accepted_with_the_same_blocks() {
     cost_pairs.extend(both_sizes.flat_map(|n| [tolls(n), flow_heavy_with_costs(n), late_steps(n)]).map(bytes));
     for (model, certificate) in &cost_pairs {
         *told.entry(older_answer("judge_costs", Rule::Costs, model, certificate, STATES)).or_default() += 1;
+    }
+    let mut strong_pairs = accepted_strong();
+    strong_pairs.extend([64, 65, 128].into_iter().flat_map(|n| [strong_chain(n, 0), strong_loops(n, 1), strong_fan(n, 0)]).map(bytes));
+    strong_pairs.push(bytes(strong_largest()));
+    for (model, certificate) in &strong_pairs {
+        *told.entry(older_answer("judge_strong", Rule::Strong, model, certificate, STATES)).or_default() += 1;
     }
     println!("accepted pairs by the older limits: {told:?}");
     assert!(told.keys().copied().eq([0, 3, 8]) && told.values().all(|&count| count > 2), "{told:?}");

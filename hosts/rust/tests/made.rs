@@ -11,7 +11,7 @@ use maker::families::{
 };
 use maker::files::{Certificate, Model};
 use maker::random::{in_any_terms, random_model};
-use maker::Missed;
+use maker::{is_accepted, Missed};
 use records::{crowded, damaged, respelled};
 use std::collections::BTreeSet;
 use zolkirta::STATES;
@@ -19,10 +19,8 @@ use zolkirta::STATES;
 /// Both accept with the blocks of the certificate, and write the merged model into a buffer of just its length and none shorter. Hands
 /// the merged model back.
 fn accepted(model: &Model, certificate: &Certificate) -> Vec<u8> {
+    is_accepted(judge, model, certificate);
     let (pa, ct) = (model.bytes(), certificate.bytes());
-    let (answer, blocks) = judge(&pa, &ct, model.n());
-    assert_eq!((answer.number, &blocks), (0, &certificate.blocks), "{model:?} {certificate:?}");
-    assert_eq!(judge(&pa, &ct, model.n() - 1).0.number, 10);
     let (answer, merged) = reduce(&pa, &ct, pa.len());
     assert_eq!(answer.number, 0);
     assert_eq!(reduce(&pa, &ct, merged.len()).1, merged);

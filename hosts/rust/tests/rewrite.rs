@@ -6,8 +6,8 @@ mod plain;
 mod records;
 
 use compare::{
-    alike, around_both, changes, compose, every_kind, fetch, hide, in_lowest_terms, join, judge, judge_costs, kind_by, reduce, rewrite,
-    rewrite_by, rewrite_costs, rounds, sheet, stored, stored_costs, Answering, Numbers, WrittenPair,
+    alike, around_both, changes, compose, every_kind, fetch, hide, in_lowest_terms, join, judge, judge_costs, judge_strong, kind_by, reduce,
+    rewrite, rewrite_by, rewrite_costs, rounds, sheet, stored, stored_costs, Answering, Numbers, WrittenPair,
 };
 use maker::families::{bytes, flow_heavy, flow_heavy_with_costs, internal_chain, largest, late_steps, one_source, tolls, with_costs};
 use maker::files::{Certificate, Flow, Model, Refutation, Transition};
@@ -50,8 +50,8 @@ impl Kind {
 
     fn random(&self, numbers: &mut Numbers) -> Model {
         match self.rule {
-            Rule::Plain => random_model(numbers, 7),
             Rule::Costs => random_cost_model(numbers, 6),
+            _ => random_model(numbers, 7),
         }
     }
 
@@ -208,6 +208,7 @@ fn read_by_all(model: &[u8], told: (u32, usize)) {
     let (certificate, still) = (b"CT\0\0", b"PA\x01\x01\0\0LB\0");
     let answers = [
         judge(model, certificate, 0).0,
+        judge_strong(model, certificate, 0).0,
         reduce(model, certificate, MODEL).0,
         sheet(model, certificate, SHEET).0,
         alike(model, certificate, [1, 0, 1]).answer,
@@ -218,7 +219,7 @@ fn read_by_all(model: &[u8], told: (u32, usize)) {
         join(still, model, 0).0,
         compose(still, model, 0).0,
     ];
-    for (answer, file) in answers.into_iter().zip([1, 1, 1, 1, 1, 1, 1, 1, 3, 3]) {
+    for (answer, file) in answers.into_iter().zip([1, 1, 1, 1, 1, 1, 1, 1, 1, 3, 3]) {
         let stretch = (answer.stretch_start, answer.stretch_length);
         assert_eq!((answer.number, answer.place, answer.file, stretch), (told.0, told.1, file, (told.1, model.len() - told.1)), "{model:?}");
     }

@@ -2,7 +2,7 @@
 mod compare;
 mod plain;
 
-use compare::{accepted, accepted_costs, accepted_texts, lines, of_todays_limits, sentence, stored, stored_costs};
+use compare::{accepted, accepted_costs, accepted_strong, accepted_texts, lines, of_todays_limits, sentence, stored, stored_costs};
 use compare::{Answering, Both, Counts, Numbers, WrittenPair};
 use plain::sentence::sentence_of;
 use plain::{AlikeAnswer, Answer};
@@ -106,6 +106,7 @@ impl Answering for Safe {
         let safe: Call = match call {
             "judge" => zolkirta::judge,
             "judge_costs" => zolkirta::judge_costs,
+            "judge_strong" => zolkirta::judge_strong,
             "reduce" => zolkirta::reduce,
             "sheet" => sheet_bytes,
             "join" => zolkirta::join,
@@ -176,16 +177,17 @@ fn safe_calls_say_what_the_raw_ones_say() {
 }
 
 #[test]
-fn the_safe_call_for_cost_pairs_says_what_the_raw_one_says() {
+fn the_safe_calls_for_cost_and_strong_pairs_say_what_the_raw_ones_say() {
     let mut numbers = Numbers::new(14);
-    let pairs = accepted_costs();
-    let mut told = BTreeSet::new();
-    for _ in 0..20_000 {
-        let (model, certificate) = one_bit_changed(&pairs, &mut numbers);
-        let length = if numbers.below(8) == 0 { numbers.below(12) } else { STATES };
-        told.insert(Safe.lent("judge_costs", &model, &certificate, length).0.number);
+    for (call, pairs, of_costs) in [("judge_costs", accepted_costs(), &[29, 30][..]), ("judge_strong", accepted_strong(), &[])] {
+        let mut told = BTreeSet::new();
+        for _ in 0..20_000 {
+            let (model, certificate) = one_bit_changed(&pairs, &mut numbers);
+            let length = if numbers.below(8) == 0 { numbers.below(12) } else { STATES };
+            told.insert(Safe.lent(call, &model, &certificate, length).0.number);
+        }
+        assert!([0, 1, 2, 10, 16, 20, 21].iter().chain(of_costs).all(|number| told.contains(number)), "{call} {told:?}");
     }
-    assert!([0, 1, 2, 10, 16, 20, 21, 29, 30].iter().all(|number| told.contains(number)), "{told:?}");
 }
 
 #[test]

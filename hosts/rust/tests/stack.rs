@@ -3,16 +3,17 @@ mod compare;
 mod maker;
 mod plain;
 
-use compare::{accepted, accepted_costs, accepted_texts, compose, hide, judge_costs, read_prism, rewrite, rewrite_costs, stored, stored_costs};
-use compare::{sentence, Counts, WrittenPair};
+use compare::{accepted, accepted_costs, accepted_strong, accepted_texts, compose, hide, judge_costs, judge_strong, read_prism, rewrite};
+use compare::{rewrite_costs, sentence, stored, stored_costs, Counts, WrittenPair};
 use maker::families::{
-    bytes, flow_heavy, flow_heavy_with_costs, half, internal_chain, largest, one_source, parts, refutation_heavy, still, tolls, with_costs,
+    bytes, flow_heavy, flow_heavy_with_costs, half, internal_chain, largest, one_source, parts, refutation_heavy, still, strong_chain,
+    strong_fan, strong_largest, strong_loops, tolls, with_costs,
 };
 use maker::prism::largest_text;
 use std::arch::asm;
 use zolkirta::raw::{zolkirta_alike, zolkirta_compose, zolkirta_fetch, zolkirta_hide, zolkirta_join, zolkirta_judge, zolkirta_judge_costs};
 use zolkirta::raw::{zolkirta_read_prism, zolkirta_reduce, zolkirta_rewrite, zolkirta_rewrite_costs, zolkirta_sentence, zolkirta_sheet};
-use zolkirta::raw::{zolkirta_largest, Answer, PairAnswer};
+use zolkirta::raw::{zolkirta_judge_strong, zolkirta_largest, Answer, PairAnswer};
 use zolkirta::{MODEL, SENTENCE, SHEET, STATES, TRANSITIONS};
 
 /// Several times what a call uses.
@@ -81,6 +82,11 @@ fn calls_use_the_stack_that_the_header_states() {
     for (model, certificate) in &cost_pairs {
         assert_eq!(judge_costs(model, certificate, STATES).0.number, 0);
     }
+    let mut strong_pairs = accepted_strong();
+    strong_pairs.extend([strong_largest(), strong_chain(128, 0), strong_loops(128, 1), strong_fan(128, 0)].map(bytes));
+    for (model, certificate) in &strong_pairs {
+        assert_eq!(judge_strong(model, certificate, STATES).0.number, 0);
+    }
     let fits = |(said, _): WrittenPair| said.answer.number == 0;
     let mut stored_pairs = [stored(), pairs.clone()].concat();
     stored_pairs.retain(|(model, certificate)| fits(rewrite(model, certificate)));
@@ -133,10 +139,11 @@ fn calls_use_the_stack_that_the_header_states() {
     let sizes = [1, 2, STATES].into_iter().flat_map(|n| [0, 1, TRANSITIONS].map(|transitions| (n, transitions)));
     let writing = |(n, transitions): (usize, usize)| -> Words { [n, transitions, lent, room, lent_too, room_too, 0, 0] };
     let several_states = pairs.iter().filter(|(model, _)| model[2] > 1);
-    let calls: [(&str, *const (), Vec<Words>); 14] = [
+    let calls: [(&str, *const (), Vec<Words>); 15] = [
         ("zolkirta_fetch", zolkirta_fetch as *const (), pairs.iter().map(fetching).collect()),
         ("zolkirta_judge", zolkirta_judge as *const (), pairs.iter().map(lending).collect()),
         ("zolkirta_judge_costs", zolkirta_judge_costs as *const (), cost_pairs.iter().map(lending).collect()),
+        ("zolkirta_judge_strong", zolkirta_judge_strong as *const (), strong_pairs.iter().map(lending).collect()),
         ("zolkirta_reduce", zolkirta_reduce as *const (), pairs.iter().map(lending).collect()),
         ("zolkirta_sheet", zolkirta_sheet as *const (), pairs.iter().map(lending).collect()),
         ("zolkirta_join", zolkirta_join as *const (), joins.iter().map(lending).collect()),

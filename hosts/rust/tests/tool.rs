@@ -10,6 +10,7 @@ fn each_call_accepts() {
     let said = |words: &str, lines: &str| folder.run(words).is(0, lines, "");
     said("judge small.model small.certificate", "accepted: 3 states in 2 blocks\nblock 0: 0 1\nblock 1: 2\n");
     said("judge-costs costs.model costs.certificate", "accepted: 3 states in 2 blocks\nblock 0: 0 2\nblock 1: 1\n");
+    said("judge-strong small.model strong.certificate", "accepted: 3 states in 3 blocks\nblock 0: 0\nblock 1: 1\nblock 2: 2\n");
     said(
         "reduce repeats.model repeats.certificate -o out",
         "accepted: 5 states in 3 blocks\nwritten: out: 3 states, 4 transitions, 54 bytes\n",
@@ -251,13 +252,24 @@ fn fetched_transitions_are_decoded() {
 }
 
 /// Calls that are refused: number, file and place, and what the second line says.
-const REFUSED: [(&str, (u32, u32, usize), &str); 13] = [
+const REFUSED: [(&str, (u32, u32, usize), &str); 16] = [
     (
         "judge small.model small.model",
         (12, 2, 0),
         "in small.model, from there on: 50 41 03 02 00 02 4c 42 00 00 00 54 52 00 01 00 and 15 more bytes\n",
     ),
     ("judge-costs first.model small.certificate", (1, 1, 10), "in first.model, which ends there\n"),
+    (
+        "judge-strong small.model small.certificate",
+        (12, 2, 0),
+        "in small.certificate, from there on: 43 54 00 02 50 58 00 00 02 00 00 00 01 00 00 00 and 109 more bytes\n",
+    ),
+    ("judge-strong costs.model strong.certificate", (9, 1, 41), "in costs.model, from there on: 43 4f 01 05 01\n"),
+    (
+        "reduce small.model strong.certificate -o out",
+        (12, 2, 0),
+        "in strong.certificate, from there on: 43 53 00 03 50 58 00 00 01 00 00 00 00 00 00 00 and 92 more bytes\n",
+    ),
     ("reduce costs.model costs.certificate -o out", (9, 1, 41), "in costs.model, from there on: 43 4f 01 05 01\n"),
     ("sheet small.model first.model", (12, 2, 0), "in first.model, from there on: 50 41 02 01 00 00 4c 42 00 00\n"),
     (
@@ -379,6 +391,7 @@ fn json_has_every_field() {
     };
     accepted("judge small.model small.certificate", &[("blocks", "[0,0,1]")]);
     accepted("judge-costs costs.model costs.certificate", &[("blocks", "[0,1,0]")]);
+    accepted("judge-strong small.model strong.certificate", &[("blocks", "[0,1,2]")]);
     let merged = [("blocks", "[0,1,0,1,2]"), ("written", "54"), ("output", "\"out\""), ("states", "3"), ("transitions", "4")];
     accepted("reduce repeats.model repeats.certificate -o out", &merged);
     let sheet = String::from_utf8(folder.read("small.sheet")).unwrap().replace('\n', "\\n");
@@ -518,7 +531,7 @@ fn help_and_version_are_printed() {
     for field in FIELDS.split(' ') {
         assert!(told.contains(&format!(" {field}")), "{field}");
     }
-    let judging = ["judge", "judge-costs", "reduce", "sheet", "join", "fetch", "alike"];
+    let judging = ["judge", "judge-costs", "judge-strong", "reduce", "sheet", "join", "fetch", "alike"];
     for call in judging.into_iter().chain(["read-prism", "rewrite", "rewrite-costs", "compose", "hide", "sentence", "largest"]) {
         let help = folder.run(&format!("{call} --help"));
         assert_eq!((help.status, help.err.as_str()), (0, ""));
@@ -546,6 +559,7 @@ fn words_that_make_no_call_get_two_lines() {
         ("judge small.model small.certificate --verbose", "judge: there is no option --verbose"),
         ("judge --json=1 small.model small.certificate", "judge: there is no option --json=1"),
         ("judge small.model small.certificate -o out", "judge: it writes no file, and takes no -o"),
+        ("judge-strong small.model strong.certificate -o out", "judge-strong: it writes no file, and takes no -o"),
         ("fetch small.model", "fetch: STATE is missing"),
         ("fetch small.model one", "fetch: one is no state's number"),
         ("fetch small.model 0x1", "fetch: 0x1 is no state's number"),

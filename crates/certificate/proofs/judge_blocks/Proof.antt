@@ -42,6 +42,16 @@ judge-flows-requires-2 c κs =
     let stands = subst (λ (k : Kind). KindStands k (now (start .args .s))) (c .enum-told2 .given .1) (start .pre .2) in
     (start .pre .0, passed .before .before .blocks-fault .ensures .inside (passed .if1 .left), stands)
 
+enum-told-3 : tie.Need-enum-told-3
+enum-told-3 c = search needs
+
+judge-flows-requires-3 : tie.Need-judge-flows-requires-3
+judge-flows-requires-3 c κs =
+    let passed = c .before .before in
+    let start = passed .before .before .before .before .before in
+    let stands = subst (λ (k : Kind). KindStands k (now (start .args .s))) (c .enum-told3 .given .1) (start .pre .2) in
+    (start .pre .0, passed .before .before .blocks-fault .ensures .inside (passed .if1 .left), stands)
+
 returns-2 : tie.Need-returns-2
 returns-2 c =
     let passed = c .before .before .before in
@@ -56,6 +66,13 @@ returns-3 c =
     rw (c .before .enum-told2 .given .1)
     (blocks-passes _ (passed .before .before .before .before .before .pre .0) (judged .result) (judged .ensures) (passed .if1 .left) (c .judge-flows2 .ensures))
 
+returns-4 : tie.Need-returns-4
+returns-4 c =
+    let passed = c .before .before .before in
+    let judged = passed .before .before .blocks-fault in
+    rw (c .before .enum-told3 .given .1)
+    (blocks-passes _ (passed .before .before .before .before .before .pre .0) (judged .result) (judged .ensures) (passed .if1 .left) (c .judge-flows3 .ensures))
+
 pub judge-blocks-spec : {M : Type 1} → statement M
 judge-blocks-spec =
     tie.close
@@ -67,5 +84,8 @@ judge-blocks-spec =
     judge-flows-requires
     enum-told-2
     judge-flows-requires-2
+    enum-told-3
+    judge-flows-requires-3
     returns-2
-    returns-3)
+    returns-3
+    returns-4)

@@ -18,10 +18,10 @@ use Rattle.conditions.proofs.all_fair.Statement.{statement}
 use Rattle.conditions.proofs.all_fair.Tie as tie
 
 abbrev Inv-loop : tie.InvT-loop
-Inv-loop kind s count places a l x y r₀ r = (r ≤ count) × ((i : ℕ) → i < r → fairTo (costIn kind s) (automatonIn s) (toZ w64 l) kind a (priceIn x) (priceIn y) i ≡ true)
+Inv-loop kind s count places a t l x y r₀ r = (r ≤ count) × ((i : ℕ) → i < r → fairTo (costIn kind s) (automatonIn s) (toZ w64 l) kind a t (priceIn x) (priceIn y) i ≡ true)
 
 abbrev μ-loop : tie.MeasureT-loop
-μ-loop kind s count places a l x y r₀ r = count - r
+μ-loop kind s count places a t l x y r₀ r = count - r
 
 loop-holds : tie.Need-loop-holds Inv-loop μ-loop
 loop-holds c = (omega arith, below-none _)
@@ -36,7 +36,7 @@ returns c =
     let start = c .before .before .before .before .before in
     rw (toZ-ofZ (start .fits .l)) at
     (not-all _ _ (c .before .before .before .loop .r) (omega arith) (sym (c .before .fair-to .ensures) ∙ not-true _ (c .if1 .taken))
-    ∙ all-of-count (start .pre .0 .known) _ _ _ _ _ _)
+    ∙ all-of-count (start .pre .0 .known) _ _ _ _ _ _ _)
 
 add-r : tie.Need-add-r Inv-loop μ-loop
 add-r c = omega arith
@@ -54,7 +54,7 @@ returns-2 c =
     let start = c .before .before .before in
     let e : c .before .loop .r ≡ start .args .count = omega arith in
     rw (toZ-ofZ (start .fits .l)) at
-    (sym (below-all _ _ (rw e at (c .before .loop .inv .1))) ∙ all-of-count (start .pre .0 .known) _ _ _ _ _ _)
+    (sym (below-all _ _ (rw e at (c .before .loop .inv .1))) ∙ all-of-count (start .pre .0 .known) _ _ _ _ _ _ _)
 
 pub all-fair-spec : {M : Type 1} → statement M
 all-fair-spec =

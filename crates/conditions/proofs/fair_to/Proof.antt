@@ -29,8 +29,9 @@ fair-requires c κs = search needs
 returns : tie.Need-returns
 returns c =
     let told = c .before .before .before in
+    let fields = told .before .fields-of .ensures in
     let start = told .before .before .before in
-    fair-across _ _ _ _ _ _ _ _ (told .condition-of .ensures) (told .before .fields-of .ensures .action) (c .before .enum-told .given .1) (rw (toZ-ofZ (start .fits .l)) at (c .fair .ensures))
+    fair-across _ _ _ _ _ _ _ _ _ (told .condition-of .ensures) (fields .source) (fields .action) (c .before .enum-told .given .1) (rw (toZ-ofZ (start .fits .l)) at (c .fair .ensures))
 
 enum-told-2 : tie.Need-enum-told-2
 enum-told-2 c = search needs
@@ -41,8 +42,9 @@ fair-twice-requires c κs = search needs
 returns-2 : tie.Need-returns-2
 returns-2 c =
     let told = c .before .before .before .before in
+    let fields = told .before .fields-of .ensures in
     let start = told .before .before .before in
-    fair-within _ _ _ _ _ _ _ _ (told .condition-of .ensures) (told .before .fields-of .ensures .action) (c .before .enum-told2 .given .1) (rw (toZ-ofZ (start .fits .l)) at (c .fair-twice .ensures))
+    fair-within _ _ _ _ _ _ _ _ _ (told .condition-of .ensures) (fields .source) (fields .action) (c .before .enum-told2 .given .1) (rw (toZ-ofZ (start .fits .l)) at (c .fair-twice .ensures))
 
 -- a condition that is neither
 neither : (told : Condition) → OneOf (1 ∷ 2 ∷ []) (tagOf the-type told) → OneOf (0 ∷ 2 ∷ []) (tagOf the-type told) → told ≡ Unasked
@@ -55,7 +57,8 @@ neither Unasked e f = refl
 returns-3 : tie.Need-returns-3
 returns-3 c =
     let told = c .before .before in
-    fair-unasked _ _ _ _ _ _ _ _ (told .condition-of .ensures) (told .before .fields-of .ensures .action) (neither _ (c .before .match .keys2) (c .match2 .keys2))
+    let fields = told .before .fields-of .ensures in
+    fair-unasked _ _ _ _ _ _ _ _ _ (told .condition-of .ensures) (fields .source) (fields .action) (neither _ (c .before .match .keys2) (c .match2 .keys2))
 
 pub fair-to-spec : {M : Type 1} → statement M
 fair-to-spec =

@@ -28,7 +28,7 @@ in-question-requires : tie.Need-in-question-requires
 in-question-requires c κs = search needs
 
 returns-3 : tie.Need-returns-3
-returns-3 c = tells-wrong (unasked (asked-by (inQuestionBy _ _ _) (c .before .in-question .ensures) (c .before .before .fields-of .ensures .action) (not-true _ (c .if3 .taken))))
+returns-3 c = tells-wrong (unasked (asked-by (inQuestionBy _ _ _ _) (c .before .in-question .ensures) (c .before .before .fields-of .ensures .source) (c .before .before .fields-of .ensures .action) (not-true _ (c .if3 .taken))))
 
 returns-4 : tie.Need-returns-4
 returns-4 c = tells-wrong (nothing (omega arith))
@@ -36,7 +36,7 @@ returns-4 c = tells-wrong (nothing (omega arith))
 returns-5 : tie.Need-returns-5
 returns-5 c =
     tells-right
-    (record { ordered = omega arith; present = omega arith; asked-is = asked-by (inQuestionBy _ _ _) (c .before .before .in-question .ensures) (c .before .before .before .fields-of .ensures .action) (not-false _ (c .before .if3 .left)); some = omega arith })
+    (record { ordered = omega arith; present = omega arith; asked-is = asked-by (inQuestionBy _ _ _ _) (c .before .before .in-question .ensures) (c .before .before .before .fields-of .ensures .source) (c .before .before .before .fields-of .ensures .action) (not-false _ (c .before .if3 .left)); some = omega arith })
 
 pub stands-spec : {M : Type 1} → statement M
 stands-spec =

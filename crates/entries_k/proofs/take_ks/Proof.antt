@@ -13,15 +13,15 @@ use Rattle.entries_k.proofs.take_ks.Statement.{statement}
 use Rattle.entries_k.proofs.take_ks.Tie as tie
 
 abbrev Inv-loop : tie.InvT-loop
-Inv-loop kind s count places action cert entries remainders₀ initial left₀ place₀ lowest₀ nonzero₀ paid₀ remainders left place lowest nonzero paid =
-    TakingKs (ruleOf kind s) (costIn kind s) s cert action (place₀ .at) entries remainders₀ remainders left (place .at) lowest nonzero paid
+Inv-loop kind s count places action t cert entries remainders₀ initial left₀ place₀ lowest₀ nonzero₀ paid₀ remainders left place lowest nonzero paid =
+    TakingKs (ruleOf kind s) (costIn kind s) s cert action t (place₀ .at) entries remainders₀ remainders left (place .at) lowest nonzero paid
 
 abbrev μ-loop : tie.MeasureT-loop
-μ-loop kind s count places action cert entries remainders₀ initial left₀ place₀ lowest₀ nonzero₀ paid₀ remainders left place lowest nonzero paid =
+μ-loop kind s count places action t cert entries remainders₀ initial left₀ place₀ lowest₀ nonzero₀ paid₀ remainders left place lowest nonzero paid =
     left
 
 loop-holds : tie.Need-loop-holds Inv-loop μ-loop
-loop-holds c = ks-start (c .before .before .pre) _
+loop-holds c = ks-start (c .before .before .pre) _ _
 
 byte-requires : tie.Need-byte-requires Inv-loop μ-loop
 byte-requires c κs = omega arith
@@ -60,7 +60,7 @@ Standing c =
     let at-quad = c .before .before in
     let a = start-of at-quad .args in
     let l = turn-of at-quad .loop in
-    StandingK (inQuestionBy (a .kind)) (ruleOf (a .kind) (now (a .s))) (costIn (a .kind) (now (a .s))) (now (a .s)) (now (a .cert)) (a .count) (now (a .places)) (a .action) (a .first .at) (a .entries) (now (a .remainders)) (l .remainders) (l .left) (l .place .at) (l .lowest) (l .nonzero) (l .paid) (at-quad .before .before .byte .result .value) (at-quad .before .pair .result .value) (at-quad .quad .result .value)
+    StandingK (inQuestionBy (a .kind)) (ruleOf (a .kind) (now (a .s))) (costIn (a .kind) (now (a .s))) (now (a .s)) (now (a .cert)) (a .count) (now (a .places)) (a .action) (a .t) (a .first .at) (a .entries) (now (a .remainders)) (l .remainders) (l .left) (l .place .at) (l .lowest) (l .nonzero) (l .paid) (at-quad .before .before .byte .result .value) (at-quad .before .pair .result .value) (at-quad .quad .result .value)
 
 standing : (c : tie.Else1 Inv-loop μ-loop) → Standing c
 standing c =

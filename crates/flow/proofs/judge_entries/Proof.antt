@@ -38,7 +38,7 @@ abbrev start-of : tie.After-struct-known → tie.Start
 start-of c = fields-at c .before .before .before
 
 abbrev taken : tie.After-struct-known → List ℤ
-taken c = c .before .take-ks .last .1 .1 .1 .1 .1 .1 .1 .1 .0
+taken c = c .before .take-ks .last .1 .1 .1 .1 .1 .1 .1 .1 .1 .0
 
 -- what is known there
 abbrev Ks : tie.After-struct-known → Type 0

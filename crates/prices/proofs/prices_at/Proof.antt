@@ -1,13 +1,11 @@
 -- `prices_at` meets its contract. The invariant: the table holds the prices before i.
 use native.Mathlib.Omega.{arith}
 use Prim.Native.Nat.{ℕ, _+_, _*_, _-_, _≤_}
-use mathlib.Core.Path.{_≡_, _∙_, ap, subst}
-use mir.Syntax.{w32}
-use mir.Facts.{toZ-ofZ}
+use mathlib.Core.Path.{_≡_, ap, subst}
 use denote.Ref.{now}
 use Rattle.rules.specs.definitions.Bytes.{signedAt}
 use Rattle.prices.specs.Prices.{HoldsPrices}
-use Rattle.prices.specs.PricesLaws.{price-back, none-held, one-more-held}
+use Rattle.prices.specs.PricesLaws.{none-held, read-fits, read-held}
 use borrow.Author.Needs.{needs}
 use Rattle.prices.proofs.prices_at.Statement.{statement}
 use Rattle.prices.proofs.prices_at.Tie as tie
@@ -29,9 +27,7 @@ price-requires : tie.Need-price-requires Inv-loop μ-loop
 price-requires c κs = omega arith
 
 cast-value : tie.Need-cast-value Inv-loop μ-loop
-cast-value c =
-    let p = c .before .before .price in
-    rw (price-back (p .result .value) (p .ensures .small)) (record { sfits = omega arith })
+cast-value c = read-fits (c .before .before .price .ensures)
 
 mul-value : tie.Need-mul-value Inv-loop μ-loop
 mul-value c = omega arith
@@ -48,13 +44,9 @@ loop-less c = omega arith
 loop-again : tie.Need-loop-again Inv-loop μ-loop
 loop-again c =
     let l = c .before .before .before .before .before .loop in
-    let p = c .before .before .before .price in
-    let a = c .before .before .before .before .before .before .before .before .args in (
-      omega arith,
-      omega arith,
-      rw (price-back (p .result .value) (p .ensures .small), toZ-ofZ {w = w32} {z = p .result .value} (record { sfits = omega arith }))
-          (one-more-held _ (l .out) (l .i) (p .result .value) (l .inv .2) (omega arith) (p .ensures .value ∙ ap (signedAt (now (a .s))) (l .inv .0)) (p .ensures .small)),
-    )
+    let read = c .before .before .before .price .ensures in
+    let a = c .before .before .before .before .before .before .before .before .args in
+    (omega arith, omega arith, read-held read (l .inv .2) (omega arith) (ap (signedAt (now (a .s))) (l .inv .0)))
 
 returns : tie.Need-returns Inv-loop μ-loop
 returns c =

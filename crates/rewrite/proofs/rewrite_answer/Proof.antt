@@ -1,4 +1,5 @@
 -- `rewrite_answer` meets its contract: the head is refused, or the rest of the pair is rewritten.
+use mathlib.Core.Path.{refl}
 use native.Mathlib.Omega.{arith}
 use Rattle.rules.specs.definitions.Bytes.{byteAt}
 use Rattle.rules.specs.definitions.SoundModel.{Bytes}
@@ -18,11 +19,11 @@ returns : tie.Need-returns
 unfolding Bytes byteAt
 returns c =
     let files = c .before .before .before in
-    pair-refused Plain (λ i h. omega (arith, files .before .before .before .before .shared-slice-known .given i)) (λ i h. omega (arith, files .before .before .before .shared-slice-known2 .given i)) _ _
+    pair-refused Plain refl (λ i h. omega (arith, files .before .before .before .before .shared-slice-known .given i)) (λ i h. omega (arith, files .before .before .before .shared-slice-known2 .given i)) _ _
     (files .head-answer .ensures .refused (c .before .if1 .taken) Plain _ _ _) (c .unwritten .ensures)
 
 rewrite-headed-requires : tie.Need-rewrite-headed-requires
-rewrite-headed-requires c κs = c .before .before .before .before .head-answer .ensures .good (c .before .before .if1 .left)
+rewrite-headed-requires c κs = (c .before .before .before .before .head-answer .ensures .good (c .before .before .if1 .left), refl)
 
 same-length : tie.Need-same-length
 same-length c = search needs

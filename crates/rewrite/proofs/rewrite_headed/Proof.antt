@@ -25,6 +25,7 @@ unfolding Bytes byteAt
 write-pair-requires c κs =
     let files = c .before .before .before .before .before in
     record {
+      weak = files .before .before .before .before .before .pre .1;
       isModel = λ i h. omega (arith, files .before .before .before .before .shared-slice-known .given i);
       isCertificate = λ i h. omega (arith, files .before .before .before .shared-slice-known2 .given i);
       blocks = _;
@@ -51,7 +52,7 @@ returns-2 : tie.Need-returns-2
 unfolding Bytes byteAt
 returns-2 c =
     let files = c .before .before .before .before in
-    pair-refused _ (λ i h. omega (arith, files .before .before .before .before .shared-slice-known .given i)) (λ i h. omega (arith, files .before .before .before .shared-slice-known2 .given i)) _ _
+    pair-refused _ (files .before .before .before .before .before .pre .1) (λ i h. omega (arith, files .before .before .before .before .shared-slice-known .given i)) (λ i h. omega (arith, files .before .before .before .shared-slice-known2 .given i)) _ _
     (found-refused (files .judge-files .ensures) (c .before .before .found2 .given .1)) (c .unwritten .ensures)
 
 pub rewrite-headed-spec : {M : Type 1} → statement M

@@ -10,7 +10,8 @@ mod plain;
 mod report;
 
 use compare::Numbers;
-use maker::families::{bytes, filled, flow_heavy, flow_heavy_with_costs, half, largest, one_source, parts, refutation_heavy, still};
+use maker::families::{bytes, filled, flow_heavy, flow_heavy_with_costs, half, largest, one_source, parts, refutation_heavy, still, strong_chain};
+use maker::families::strong_loops;
 use maker::files::{Certificate, Model, Transition};
 use maker::prism::largest_text;
 use maker::random::random_model;
@@ -82,6 +83,10 @@ fn judging(length: Duration, pairs: &[Files]) -> Times {
 
 fn judging_costs(length: Duration, pairs: &[Files]) -> Times {
     lending(length, raw::zolkirta_judge_costs, Limits::judge_costs, pairs)
+}
+
+fn judging_strong(length: Duration, pairs: &[Files]) -> Times {
+    lending(length, raw::zolkirta_judge_strong, Limits::judge_strong, pairs)
 }
 
 fn reducing(length: Duration, pairs: &[Files]) -> Times {
@@ -208,6 +213,8 @@ fn cases(random: &[Files]) -> Vec<Case> {
     let [refutations, refutations_128] = [64, 128].map(|n| [bytes(refutation_heavy(n))]);
     let [flows, flows_128] = [64, 128].map(|n| [bytes(flow_heavy(n, 0))]);
     let [paying, paying_128] = [64, 128].map(|n| [bytes(flow_heavy_with_costs(n))]);
+    let [strong_apart, strong_apart_128] = [64, 128].map(|n| [bytes(strong_chain(n, 1))]);
+    let [strong_flows, strong_flows_128] = [64, 128].map(|n| [bytes(strong_loops(n, 0))]);
     let (half, two) = (half().0.bytes(), still(&[0; 2]).0.bytes());
     let (shared, alone) = (parts().map(|part| part.bytes()), [half.clone(), two]);
     assert!([&shared, &alone].into_iter().all(|[left, right]| compare::compose(left, right, zolkirta::MODEL).1.len() == zolkirta::MODEL));
@@ -238,6 +245,10 @@ fn cases(random: &[Files]) -> Vec<Case> {
         case("random accepted pairs: judge, 300 pairs of 1 to 10 states, sum", judging(length, random), no_slower, ""),
         case("judge_costs, flow-heavy: 64 states, 16,128 flows of one k and one w entry", judging_costs(length, &paying), by_a_third, ""),
         case("judge_costs, flow-heavy: 128 states, 32,512 flows of one k and one w entry", judging_costs(length, &paying_128), by_a_third, ""),
+        case("judge_strong, refutation-heavy: 64 states, 2,016 refutations of 129 prices", judging_strong(length, &strong_apart), by_a_third, ""),
+        case("judge_strong, refutation-heavy: 128 states, 8,128 refutations of 257 prices", judging_strong(length, &strong_apart_128), by_a_third, ""),
+        case("judge_strong, flow-heavy: 64 states, 16,128 flows of one k and one w entry", judging_strong(length, &strong_flows), by_a_third, ""),
+        case("judge_strong, flow-heavy: 128 states, 32,512 flows of one k and one w entry", judging_strong(length, &strong_flows_128), by_a_third, ""),
         case("sheet, the largest model, every state a block", on_paper(length, &[largest.clone()]), no_slower, ""),
         case("hide, the largest model, all 31 actions", hiding(length, largest.0.clone(), (1..32).collect()), no_slower, ""),
         case("reduce, the largest model, every state a block", reducing(length, &[largest]), no_slower, ""),

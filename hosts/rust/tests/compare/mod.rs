@@ -44,6 +44,7 @@ fn lending(name: &str) -> (raw::Lending, PlainLending) {
     match name {
         "judge" => (raw::zolkirta_judge, Limits::judge),
         "judge_costs" => (raw::zolkirta_judge_costs, Limits::judge_costs),
+        "judge_strong" => (raw::zolkirta_judge_strong, Limits::judge_strong),
         "reduce" => (raw::zolkirta_reduce, Limits::reduce),
         "sheet" => (raw::zolkirta_sheet, Limits::sheet),
         "join" => (raw::zolkirta_join, Limits::join),
@@ -187,6 +188,11 @@ pub fn judge_costs(model: &[u8], certificate: &[u8], length: usize) -> (Answer, 
     lent("judge_costs", model, certificate, length)
 }
 
+/// Judges a strong pair by both and compares.
+pub fn judge_strong(model: &[u8], certificate: &[u8], length: usize) -> (Answer, Vec<u8>) {
+    lent("judge_strong", model, certificate, length)
+}
+
 /// Reduces by both and compares.
 pub fn reduce(model: &[u8], certificate: &[u8], length: usize) -> (Answer, Vec<u8>) {
     lent("reduce", model, certificate, length)
@@ -227,6 +233,11 @@ pub fn alike(model: &[u8], certificate: &[u8], [count, s, t]: [u32; 3]) -> Alike
     let files = || [model, certificate].map(hex).join(" ");
     assert!(library == plain, "alike of {s} and {t}, first count {count}\nlibrary {library:?}\nplain   {plain:?}\nfiles {}", files());
     plain
+}
+
+/// Number, place, state and remainder.
+pub fn told(answer: Answer) -> (u32, usize, u32, i64) {
+    (answer.number, answer.place, answer.state, answer.remainder)
 }
 
 /// What breaks where a certificate is refused with 16, 20 or 21, and how its left side is to its right.
@@ -539,7 +550,7 @@ impl Line {
     /// The limits that the line was written under.
     pub fn limits(&self) -> &'static Limits {
         match self.name {
-            "k9" | "k10" | "k11" | "k13" => &TODAY,
+            "k9" | "k10" | "k11" | "k13" | "k14" => &TODAY,
             "k7" => &BEFORE_K10,
             _ => &BEFORE_K7,
         }
@@ -622,7 +633,7 @@ impl Line {
 }
 
 /// The files of vectors, in the order in which they came.
-pub const NAMES: [&str; 11] = ["base", "k1", "k2", "k3", "k4", "k6", "k7", "k9", "k10", "k11", "k13"];
+pub const NAMES: [&str; 12] = ["base", "k1", "k2", "k3", "k4", "k6", "k7", "k9", "k10", "k11", "k13", "k14"];
 
 /// The lines of a file of vectors.
 fn lines_of(name: &'static str) -> Vec<Line> {
@@ -674,6 +685,11 @@ pub fn stored() -> Vec<Pair> {
 /// The accepted cost pairs of the vectors, likewise.
 pub fn stored_costs() -> Vec<Pair> {
     pairs_of(|v| v.call == "judge_costs" && v.number() == 0)
+}
+
+/// The accepted strong pairs of the vectors.
+pub fn accepted_strong() -> Vec<Pair> {
+    pairs_of(|v| v.call == "judge_strong" && v.number() == 0)
 }
 
 /// Stored pairs once rewritten; those with a k that does not fit then are left out.

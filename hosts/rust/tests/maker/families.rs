@@ -1,9 +1,10 @@
 //! Structured pairs up to 128 states, certificates by formula, and larger pairs made of small ones.
 
-use super::files::{by_appearance, reordered, Certificate, Flow, Model, Prices, Refutation, Transition};
+use super::files::{by_appearance, reordered, Certificate, Flow, Model, Refutation, Transition};
 use super::random::random_model;
-use super::{certificate, shuffle, Numbers};
-use crate::plain::{TODAY, TRANSITIONS};
+use super::{certificate, is_accepted, shuffle, Numbers};
+use crate::compare::{rounds, Lent};
+use crate::plain::{Rule, TODAY, TRANSITIONS};
 
 /// The two files of a pair.
 pub fn bytes((model, certificate): (Model, Certificate)) -> (Vec<u8>, Vec<u8>) {
@@ -137,6 +138,59 @@ pub fn with_costs((model, certificate): (Model, Certificate), cost: impl Fn(usiz
     (model.with_costs(cost), certificate.with_l(|_| 0))
 }
 
+/// A pair by the strong rule: it stays accepted where there are no refutations, and flows have no moves but the defender's own.
+pub fn strong((model, certificate): (Model, Certificate)) -> (Model, Certificate) {
+    (model.strong(), Certificate { rule: Rule::Strong, ..certificate })
+}
+
+/// A strong refutation of a defender that has no transition with the challenger's action.
+pub fn no_answer(n: usize, challenger: usize, defender: usize) -> Refutation {
+    Refutation::strong(challenger, defender, 0, vec![1; n], vec![1; n])
+}
+
+/// `largest` by the strong rule.
+pub fn strong_largest() -> (Model, Certificate) {
+    let (model, certificate) = largest();
+    let refutations = certificate.refutations.iter().map(|r| no_answer(model.n(), r.challenger, r.defender)).collect();
+    (model.strong(), Certificate::strong(refutations, certificate.blocks, certificate.flows))
+}
+
+/// A chain whose states each move to the one below by one action: strongly no two are alike, and every pair is refuted.
+pub fn strong_chain(n: usize, action: usize) -> (Model, Certificate) {
+    let from = |lowest: usize| (0..n).map(|v| i32::from(v >= lowest)).collect();
+    let refuted = |s: usize, t: usize| Refutation::strong(s - 1, t, 0, from(t), from(t));
+    let refutations = (0..n).flat_map(|t| (t + 1..n).map(move |s| refuted(s, t))).collect();
+    let model = Model::new(vec![0; n], 2, (1..n).map(|s| Transition::step(s, action, s - 1)).collect());
+    (model.strong(), Certificate::strong(refutations, (0..n as u8).collect(), Vec::new()))
+}
+
+/// States with as many moves to themselves by one action as all may have: strongly all are alike, and each meets those of the others by its own.
+pub fn strong_loops(n: usize, action: usize) -> (Model, Certificate) {
+    let each = TRANSITIONS / n;
+    let own = |t: usize, q: usize| Flow { d: 1, ks: vec![((1, t * each + q % each), 1)], ws: vec![((t, q / each), 1)] };
+    let pairs = (0..n).flat_map(|s| (0..n).filter(move |&t| t != s).map(move |t| (s, t)));
+    let flows = pairs.flat_map(|(s, t)| (s * each..s * each + each).map(move |q| own(t, q))).collect();
+    let model = Model::new(vec![0; n], 2, (0..each * n).map(|q| Transition::step(q / each, action, q / each)).collect());
+    (model.strong(), Certificate::strong(Vec::new(), vec![0; n], flows))
+}
+
+/// Two states that move to each of the others by one action, and the first also to all of them at once, which the second meets by all its moves.
+pub fn strong_fan(n: usize, action: usize) -> (Model, Certificate) {
+    let count = n - 2;
+    let steps = |source: usize| (2..n).map(move |v| Transition::step(source, action, v));
+    let at_once = Transition::to(0, action, &(2..n).map(|v| (v, 1)).collect::<Vec<_>>());
+    let by_steps = |first: usize, of: std::ops::Range<usize>| Flow {
+        d: of.len() as u32,
+        ks: of.clone().map(|i| ((1, first + i), 1)).collect(),
+        ws: of.map(|i| ((2 + i, 2 + i), 1)).collect(),
+    };
+    let one_each = |first: usize| (0..count).map(move |i| by_steps(first, i..i + 1));
+    let flows = one_each(count + 1).chain([by_steps(count + 1, 0..count)]).chain(one_each(0)).collect();
+    let blocks: Vec<u8> = (0..n).map(|v| u8::from(v > 1)).collect();
+    let model = Model::new(blocks.clone(), 2, steps(0).chain([at_once]).chain(steps(1)).collect());
+    (model.strong(), Certificate::strong(Vec::new(), blocks, flows))
+}
+
 /// A chain of internal steps down to state 0, which moves to the last state: all but the last are alike, and state t meets the move by
 /// t internal steps before it.
 pub fn internal_chain(n: usize) -> (Model, Certificate) {
@@ -179,11 +233,11 @@ pub fn copies(model: &Model, certificate: &Certificate, k: usize) -> (Model, Cer
             }
         }
     }
-    let each = |prices: &Vec<i32>| prices.iter().flat_map(|&x| vec![x; k]).collect();
+    let each = |prices: &[i32]| prices.iter().flat_map(|&x| vec![x; k]).collect();
     let mut refutations = Vec::new();
     for r in &certificate.refutations {
         for (i, j) in (0..k).flat_map(|i| (0..k).map(move |j| (i, j))) {
-            let prices = Prices { sides: r.prices.sides.iter().map(each).collect(), l: r.prices.l };
+            let prices = r.prices.each_side(each);
             refutations.push(Refutation { challenger: place[r.challenger][i], defender: r.defender * k + j, prices });
         }
     }
@@ -192,7 +246,8 @@ pub fn copies(model: &Model, certificate: &Certificate, k: usize) -> (Model, Cer
     let mut between = vec![vec![Vec::new(); n]; n];
     for (q, r) in model.transitions.iter().enumerate() {
         let ws = r.weights.iter().map(|&(u, p)| ((u, u), p as u32)).collect();
-        between[r.source][r.source].push(Flow { d: r.d as u32, ks: vec![((u8::from(r.action > 0), q), 1)], ws });
+        let layer = u8::from(r.action > 0 || model.rule == Rule::Strong);
+        between[r.source][r.source].push(Flow { d: r.d as u32, ks: vec![((layer, q), 1)], ws });
     }
     for ((s, t, _), flow) in certificate.questions(model).into_iter().zip(&certificate.flows) {
         between[s][t].push(flow.clone());
@@ -207,13 +262,32 @@ pub fn copies(model: &Model, certificate: &Certificate, k: usize) -> (Model, Cer
     (Model { labels, transitions, ..*model }, Certificate { refutations, blocks, flows, ..*certificate })
 }
 
+/// Random pairs with as many copies of each state as the limits allow, where that makes no more refutations than these, are accepted by a call that
+/// judges.
+pub fn copies_are_accepted(call: Lent, random: impl Fn(&mut Numbers, usize) -> Model, refutations: usize, numbers: &mut Numbers) {
+    let (mut most, mut records) = (0, 0);
+    for _ in 0..rounds(60) {
+        let model = random(numbers, 6);
+        let Some(certificate) = certificate(&model, numbers) else { continue };
+        let k = most_copies(&model);
+        if certificate.refutations.len() * k * k <= refutations {
+            let (copied, lifted) = copies(&model, &certificate, k);
+            is_accepted(call, &copied, &lifted);
+            most = most.max(copied.n());
+            records += lifted.refutations.len() + lifted.flows.len();
+        }
+    }
+    println!("copies up to {most} states, {records} refutations and flows");
+    assert!(most > 120 && records > 10_000);
+}
+
 /// The same pair with its states in any order, so that blocks lie across all words of a row.
 pub fn in_any_order((model, certificate): (Model, Certificate), numbers: &mut Numbers) -> (Model, Certificate) {
     let mut to: Vec<usize> = (0..model.n()).collect();
     shuffle(&mut to, numbers);
     let (other, place) = model.reordered(&to);
     let refuted = |r: &Refutation| {
-        let prices = Prices { sides: r.prices.sides.iter().map(|side| reordered(side, &to)).collect(), l: r.prices.l };
+        let prices = r.prices.each_side(|side| reordered(side, &to));
         Refutation { challenger: place[r.challenger], defender: to[r.defender], prices }
     };
     let questions = certificate.questions(&model).into_iter().map(|(s, t, q)| (to[s], to[t], place[q]));
@@ -224,7 +298,7 @@ pub fn in_any_order((model, certificate): (Model, Certificate), numbers: &mut Nu
     (other, Certificate { refutations, blocks, flows: flows.into_iter().map(|e| e.1).collect(), ..certificate })
 }
 
-/// Pairs without costs side by side, each with labels of its own: a price of one part is 0 in all others.
+/// Pairs of one rule, without costs, side by side, each with labels of its own: a price of one part is 0 in all others.
 fn beside(parts: &[(Model, Certificate)]) -> (Model, Certificate) {
     let n = parts.iter().map(|(model, _)| model.n()).sum();
     let (mut whole, mut told) = still(&[]);
@@ -232,29 +306,38 @@ fn beside(parts: &[(Model, Certificate)]) -> (Model, Certificate) {
     for (model, certificate) in parts {
         let (states, before) = (whole.n(), whole.transitions.len());
         let (labels, blocks) = (highest(&whole.labels), highest(&told.blocks));
-        let side = |prices: &Vec<i32>| {
+        let side = |prices: &[i32]| {
             let mut side = vec![0; n];
             side[states..states + prices.len()].copy_from_slice(prices);
             side
         };
-        let refuted = |r: &Refutation| Refutation::new(before + r.challenger, states + r.defender, r.prices.sides.iter().map(side).collect());
+        let refuted = |r: &Refutation| {
+            let prices = r.prices.each_side(side);
+            Refutation { challenger: before + r.challenger, defender: states + r.defender, prices }
+        };
         told.refutations.extend(certificate.refutations.iter().map(refuted));
         told.blocks.extend(certificate.blocks.iter().map(|block| blocks + block));
         told.flows.extend(certificate.flows.iter().map(|flow| flow.moved(|r| before + r, |v| states + v, |u| states + u)));
         whole.labels.extend(by_appearance(&model.labels).iter().map(|label| labels + label));
         whole.transitions.extend(model.transitions.iter().map(|r| r.moved(|v| states + v)));
         whole.m = whole.m.max(model.m);
+        (whole.rule, told.rule) = (model.rule, certificate.rule);
     }
     (whole, told)
 }
 
 /// A pair of 65 to 128 states in any order: small random ones side by side.
 pub fn random_large(numbers: &mut Numbers) -> (Model, Certificate) {
+    large_of(random_model, numbers)
+}
+
+/// The same of random models of this kind.
+pub fn large_of(random: impl Fn(&mut Numbers, usize) -> Model, numbers: &mut Numbers) -> (Model, Certificate) {
     loop {
         let n = 65 + numbers.below(64);
         let (mut parts, mut states) = (Vec::new(), 0);
         while states < n {
-            let model = random_model(numbers, (n - states).min(10));
+            let model = random(numbers, (n - states).min(10));
             if let Some(certificate) = certificate(&model, numbers) {
                 states += model.n();
                 parts.push((model, certificate));

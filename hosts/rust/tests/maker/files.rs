@@ -1,6 +1,7 @@
 //! Model and certificate as values, and their bytes.
 
 use crate::plain::Rule;
+use std::collections::BTreeSet;
 
 #[derive(Clone, Debug, PartialEq, Eq)]
 pub struct Transition {
@@ -13,7 +14,8 @@ pub struct Transition {
     pub cost: i64,
 }
 
-/// States are counted by their labels; transitions are in file order. A model with costs is one for the rule with costs.
+/// States are counted by their labels; transitions are in file order. A model with costs is one for the rule with costs; the rule of any other says
+/// how it is certified, and nothing of its bytes.
 #[derive(Clone, Debug, PartialEq, Eq)]
 pub struct Model {
     pub rule: Rule,
@@ -22,11 +24,19 @@ pub struct Model {
     pub transitions: Vec<Transition>,
 }
 
-/// Prices A, B (external challengers only) and G of the states, and with costs L.
+/// Prices A, B (external challengers only) and G of the states, and with costs L. By the strong rule A of the defender alone, then B and G.
 #[derive(Clone, Debug, PartialEq, Eq)]
 pub struct Prices<P> {
+    pub a: Option<P>,
     pub sides: Vec<Vec<P>>,
     pub l: Option<P>,
+}
+
+impl<P: Copy> Prices<P> {
+    /// The same with the prices of states as they are made from these.
+    pub fn each_side(&self, made: impl Fn(&[P]) -> Vec<P>) -> Prices<P> {
+        Prices { a: self.a, sides: self.sides.iter().map(|side| made(side)).collect(), l: self.l }
+    }
 }
 
 #[derive(Clone, Debug, PartialEq, Eq)]
@@ -75,6 +85,17 @@ pub fn by_appearance(numbers: &[u8]) -> Vec<u8> {
     numbers.iter().map(|number| place(number) as u8).collect()
 }
 
+/// Whether each of these blocks lies inside one of the others.
+pub fn inside(blocks: &[u8], others: &[u8]) -> bool {
+    let states = 0..blocks.len();
+    states.clone().all(|v| states.clone().all(|u| blocks[v] != blocks[u] || others[v] == others[u]))
+}
+
+/// How many blocks there are.
+pub fn count(blocks: &[u8]) -> usize {
+    BTreeSet::from_iter(blocks).len()
+}
+
 fn two(number: usize) -> [u8; 2] {
     u16::try_from(number).expect("a field of two bytes").to_be_bytes()
 }
@@ -100,6 +121,12 @@ impl Transition {
     /// The number by which all terms can be divided.
     pub fn common(&self) -> i64 {
         self.weights.iter().fold(0, |g, e| gcd(g, e.1))
+    }
+
+    /// The same probabilities in the lowest terms.
+    pub fn lowest(&self) -> Transition {
+        let divisor = self.common();
+        Transition { d: self.d / divisor, weights: self.weights.iter().map(|&(v, p)| (v, p / divisor)).collect(), ..*self }
     }
 
     /// The same probabilities with all terms times a factor, where they fit the file.
@@ -145,6 +172,11 @@ impl Model {
         Model { rule: Rule::Plain, ..self.with_costs(|_, _| 0) }
     }
 
+    /// The same model, to be certified by the strong rule.
+    pub fn strong(&self) -> Model {
+        Model { rule: Rule::Strong, ..self.clone() }
+    }
+
     /// The model of a sound file without costs.
     pub fn read(file: &[u8]) -> Model {
         let pair = |at: usize| i64::from(file[at]) * 256 + i64::from(file[at + 1]);
@@ -182,11 +214,7 @@ impl Model {
 
     /// The same automaton, its fractions written in the lowest terms.
     pub fn lowest(&self) -> Model {
-        let lowest = |r: &Transition| {
-            let divisor = r.common();
-            Transition { d: r.d / divisor, weights: r.weights.iter().map(|&(v, p)| (v, p / divisor)).collect(), ..*r }
-        };
-        Model { transitions: self.transitions.iter().map(lowest).collect(), ..self.clone() }
+        Model { transitions: self.transitions.iter().map(Transition::lowest).collect(), ..self.clone() }
     }
 
     /// The same automaton, its fractions written in the longest terms that powers of 2 make.
@@ -198,7 +226,12 @@ impl Model {
 impl Refutation {
     /// One without costs, by its prices A, B (external challengers only) and G.
     pub fn new(challenger: usize, defender: usize, sides: Vec<Vec<i32>>) -> Refutation {
-        Refutation { challenger, defender, prices: Prices { sides, l: None } }
+        Refutation { challenger, defender, prices: Prices { a: None, sides, l: None } }
+    }
+
+    /// A strong one, by A of the defender, B and G.
+    pub fn strong(challenger: usize, defender: usize, a: i32, b: Vec<i32>, g: Vec<i32>) -> Refutation {
+        Refutation { challenger, defender, prices: Prices { a: Some(a), sides: vec![b, g], l: None } }
     }
 
     /// The same with this L.
@@ -250,11 +283,17 @@ impl Certificate {
         Certificate { rule: Rule::Costs, refutations, ..self.clone() }
     }
 
+    /// A strong one.
+    pub fn strong(refutations: Vec<Refutation>, blocks: Vec<u8>, flows: Vec<Flow>) -> Certificate {
+        Certificate { rule: Rule::Strong, refutations, blocks, flows }
+    }
+
     pub fn bytes(&self) -> Vec<u8> {
         let mut out = [&self.rule.mark()[..], &two(self.refutations.len())].concat();
         for r in &self.refutations {
             out.extend([&b"PX"[..], &two(r.challenger), &[r.defender as u8]].concat());
-            out.extend(r.prices.sides.iter().flatten().chain(&r.prices.l).flat_map(|price| price.to_be_bytes()));
+            let Prices { a, sides, l } = &r.prices;
+            out.extend(a.iter().chain(sides.iter().flatten()).chain(l).flat_map(|price| price.to_be_bytes()));
         }
         out.extend([&b"BK"[..], &self.blocks].concat());
         for f in &self.flows {

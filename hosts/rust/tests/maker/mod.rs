@@ -1,5 +1,6 @@
 //! Certificates made from the definitions alone, with exact arithmetic: the largest relation is found by linear programs, an
-//! infeasible one giving the prices of a refutation and a feasible one a flow. A model's rule decides whether costs have an equation.
+//! infeasible one giving the prices of a refutation and a feasible one a flow. A model's rule decides whether costs have an equation, and
+//! whether the defender may take internal steps or has its own transitions alone.
 #![allow(dead_code)] // each test file uses its own part
 
 pub mod families;
@@ -10,7 +11,7 @@ pub mod random;
 mod simplex;
 mod varied;
 
-use crate::compare::{Numbers, WrittenPair};
+use crate::compare::{Lent, Numbers, WrittenPair};
 use files::{Certificate, Flow, Model, Refutation};
 use question::{Met, Question};
 use varied::{added, varied_flow, varied_prices};
@@ -77,6 +78,14 @@ pub fn certificate(model: &Model, choices: &mut Numbers) -> Option<Certificate> 
         flows.push(varied_flow(model, flow, model.transitions[q].action, choices));
     }
     Some(Certificate { rule: model.rule, refutations, blocks: blocks_of(&related), flows })
+}
+
+/// Both accept by a call that judges, with the blocks of the certificate, in a buffer of just their length and in none shorter.
+pub fn is_accepted(call: Lent, model: &Model, certificate: &Certificate) {
+    let (pa, ct) = (model.bytes(), certificate.bytes());
+    let (answer, blocks) = call(&pa, &ct, model.n());
+    assert_eq!((answer.number, &blocks), (0, &certificate.blocks), "{model:?} {certificate:?}");
+    assert_eq!(call(&pa, &ct, model.n() - 1).0.number, 10);
 }
 
 /// A pair in any terms was rewritten to what the maker makes of it, which is handed back; none where a k does not fit, and 35 names its flow.

@@ -11,16 +11,17 @@ pub enum Met {
     Not(Prices<i64>),
 }
 
-/// A layer's transitions: whether they make the move, and the side of it (0 before, 1 after) that they leave and lead to.
+/// A layer's transitions: its number, whether they make the move, and the side of it (0 before, 1 after) that they leave and lead to.
 struct Layer {
+    number: u8,
     moves: bool,
     from: usize,
     to: usize,
 }
 
-const INTERNAL: [Layer; 1] = [Layer { moves: false, from: 0, to: 0 }];
-const EXTERNAL: [Layer; 3] =
-    [Layer { moves: false, from: 0, to: 0 }, Layer { moves: true, from: 0, to: 1 }, Layer { moves: false, from: 1, to: 1 }];
+const BEFORE: Layer = Layer { number: 0, moves: false, from: 0, to: 0 };
+const MOVE: Layer = Layer { number: 1, moves: true, from: 0, to: 1 };
+const AFTER: Layer = Layer { number: 2, moves: false, from: 1, to: 1 };
 
 #[derive(Clone, Copy)]
 enum Unknown {
@@ -29,7 +30,8 @@ enum Unknown {
 }
 
 /// Only the states that t reaches and the u that the challenger leads to have an equation; with costs every state has one, since a cycle
-/// that t does not reach may pay. Transitions are in lowest terms, so that spelling does not matter.
+/// that t does not reach may pay. By the strong rule t reaches itself before the move, where the equation is that of D, and after it what its own
+/// moves lead to. Transitions are in lowest terms, so that spelling does not matter.
 pub struct Question<'a> {
     model: &'a Model,
     related: &'a [Vec<bool>],
@@ -70,15 +72,16 @@ impl<'a> Question<'a> {
     pub fn new(model: &'a Model, related: &'a [Vec<bool>], challenger: usize, t: usize) -> Question<'a> {
         let n = model.n();
         let q = &model.transitions[challenger];
-        let layers: &[Layer] = if q.action == 0 { &INTERNAL } else { &EXTERNAL };
-        let costs = model.rule == Rule::Costs;
-        let mut reached = vec![closed(model, (0..n).map(|v| costs || v == t).collect())];
-        if q.action != 0 {
+        let (costs, strong) = (model.rule == Rule::Costs, model.rule == Rule::Strong);
+        let layers: &[Layer] = if strong { &[MOVE] } else if q.action == 0 { &[BEFORE] } else { &[BEFORE, MOVE, AFTER] };
+        let closed = |reached| if strong { reached } else { closed(model, reached) };
+        let mut reached = vec![closed((0..n).map(|v| costs || v == t).collect())];
+        if strong || q.action != 0 {
             let mut moved = vec![costs; n];
             for r in model.transitions.iter().filter(|r| r.action == q.action && reached[0][r.source]) {
                 r.weights.iter().for_each(|&(v, _)| moved[v] = true);
             }
-            reached.push(closed(model, moved));
+            reached.push(closed(moved));
         }
         let mut equations = 0..;
         let mut numbered = |counts: bool| if counts { equations.next() } else { None };
@@ -95,11 +98,11 @@ impl<'a> Question<'a> {
 
     fn unknowns(&self) -> Vec<Unknown> {
         let mut unknowns = Vec::new();
-        for (number, layer) in (0..).zip(self.layers) {
+        for layer in self.layers {
             let action = if layer.moves { self.challenger.action } else { 0 };
             let taken = |r: &Transition| r.action == action && self.at[layer.from][r.source].is_some();
             let numbered = self.model.transitions.iter().enumerate();
-            unknowns.extend(numbered.filter(|(_, r)| taken(r)).map(|(r, _)| Unknown::K(number, r)));
+            unknowns.extend(numbered.filter(|(_, r)| taken(r)).map(|(r, _)| Unknown::K(layer.number, r)));
         }
         for v in (0..self.model.n()).filter(|&v| self.leaving()[v].is_some()) {
             unknowns.extend(self.challenger.weights.iter().filter(|e| self.related[v][e.0]).map(|e| Unknown::W(v, e.0)));
@@ -112,7 +115,8 @@ impl<'a> Question<'a> {
         let (terms, pays): (Vec<(Option<usize>, i64)>, i64) = match unknown {
             Unknown::W(v, u) => (vec![(self.leaving()[v], 1), (self.onto[u], 1)], 0),
             Unknown::K(layer, r) => {
-                let (layer, r) = (&self.layers[usize::from(layer)], &self.model.transitions[r]);
+                let layer = self.layers.iter().find(|of| of.number == layer).expect("a layer of the question");
+                let r = &self.model.transitions[r];
                 let arrives = r.weights.iter().map(|&(v, p)| (self.at[layer.to][v], -p / r.common()));
                 let leaves = r.d / r.common();
                 (arrives.chain([(self.at[layer.from][r.source], leaves)]).collect(), leaves * r.cost)
@@ -156,7 +160,8 @@ impl<'a> Question<'a> {
         let most = |u: usize| leaving.iter().zip(&self.related[u]).filter(|e| *e.1).map(|e| *e.0).min().expect("u is related to itself");
         let g = (0..self.model.n()).map(|u| self.onto[u].map_or_else(|| most(u), |i| found[i])).collect();
         sides.push(g);
-        Prices { sides, l: self.paid.map(|equation| found[equation]) }
+        let a = (self.model.rule == Rule::Strong).then(|| sides.remove(0)[self.t]);
+        Prices { a, sides, l: self.paid.map(|equation| found[equation]) }
     }
 
     /// D with k and w of transitions in lowest terms, as whole numbers for the transitions as they are spelled.

@@ -118,6 +118,37 @@ pub fn random_cost_model(numbers: &mut Numbers, most: usize) -> Model {
     model
 }
 
+/// A transition more that is a mean of two of its state's with one action, where its d fits: a state that has these two alone meets it by both.
+fn mean(model: &mut Model, numbers: &mut Numbers) {
+    let all = &model.transitions;
+    let pairs = all.iter().enumerate().flat_map(|(i, r)| all[..i].iter().map(move |q| (q, r)));
+    let pairs: Vec<_> = pairs.filter(|(q, r)| (q.source, q.action) == (r.source, r.action) && q != r).collect();
+    if pairs.is_empty() {
+        return;
+    }
+    let (q, r) = *numbers.of(&pairs);
+    let shares = [1 + numbers.below(3) as i64, 1 + numbers.below(3) as i64];
+    let mut weights = vec![0; model.n()];
+    for ((one, other), share) in [(q, r), (r, q)].into_iter().zip(shares) {
+        one.weights.iter().for_each(|&(v, p)| weights[v] += p * other.d * share);
+    }
+    let weights: Vec<(usize, i64)> = weights.into_iter().enumerate().filter(|e| e.1 > 0).collect();
+    let mean = Transition::to(q.source, q.action, &weights).lowest();
+    if mean.d <= 65_535 {
+        model.transitions.push(mean);
+        model.transitions.sort_by_key(|r| r.source);
+    }
+}
+
+/// A random automaton to be certified by the strong rule, with some transitions that are means of others.
+pub fn random_strong_model(numbers: &mut Numbers, most: usize) -> Model {
+    let mut model = random_model(numbers, most);
+    for _ in 0..numbers.below(4) {
+        mean(&mut model, numbers);
+    }
+    model.strong()
+}
+
 fn grown(mut model: Model, numbers: &mut Numbers, most: usize) -> Model {
     let n = model.n().max(1 + numbers.below(most));
     while model.n() < n {

@@ -2,6 +2,7 @@
 
 use super::files::{gcd, Flow, Model, Prices};
 use super::Numbers;
+use crate::plain::Rule;
 
 /// The prices times a factor, and all but L moved by a constant; as they are where that does not fit, and None where they do not.
 pub fn varied_prices(prices: &Prices<i64>, choices: &mut Numbers) -> Option<Prices<i32>> {
@@ -10,11 +11,11 @@ pub fn varied_prices(prices: &Prices<i64>, choices: &mut Numbers) -> Option<Pric
     let fitted = |factor: i64, constant: i64| -> Option<Prices<i32>> {
         let price = |x: i64, constant: i64| i32::try_from(x.checked_mul(factor)?.checked_add(constant)?).ok();
         let sides = prices.sides.iter().map(|side| side.iter().map(|&x| price(x, constant)).collect());
-        let l = match prices.l {
-            Some(l) => Some(price(l, 0)?),
-            None => None,
+        let alone = |x: Option<i64>, constant: i64| match x {
+            Some(x) => price(x, constant).map(Some),
+            None => Some(None),
         };
-        Some(Prices { sides: sides.collect::<Option<_>>()?, l })
+        Some(Prices { a: alone(prices.a, constant)?, sides: sides.collect::<Option<_>>()?, l: alone(prices.l, 0)? })
     };
     fitted(factor, constant).or_else(|| fitted(1, 0))
 }
@@ -80,13 +81,14 @@ fn with_loops_moved(model: &Model, flow: &Flow) -> Option<Flow> {
     Some(Flow { ks: joined(&ks, &[])?, ..flow.clone() })
 }
 
-/// The flow with all terms times a factor, up to the highest that fits, with a needless cycle, or with self loops elsewhere; as it is where that
-/// does not fit.
+/// The flow with all terms times a factor, up to the highest that fits, and but for the strong rule with a needless cycle, or with self loops
+/// elsewhere; as it is where that does not fit.
 pub fn varied_flow(model: &Model, flow: Flow, action: usize, choices: &mut Numbers) -> Flow {
     let most = flow.ks.iter().map(|e| e.1).chain(flow.ws.iter().map(|e| e.1)).fold(flow.d, u32::max);
     let other = match choices.below(6) {
         0 => scaled(&flow, 2 + choices.below(9) as u32),
         1 => scaled(&flow, u32::MAX / most),
+        _ if model.rule == Rule::Strong => None,
         2 => with_cycle(model, &flow, 0, choices),
         3 => with_cycle(model, &flow, if action == 0 { 0 } else { 2 }, choices),
         4 if action > 0 => with_loops_moved(model, &flow),

@@ -1,7 +1,8 @@
 //! Document 01's judge, reduce and fetch, document 02's join and alike (K1), the state and the remainder of 16, 20 and 21 (K2), its merged
 //! transitions that are the same as fractions (K3), its block sheet (K4), its cost pairs (K6), its limits (K7), its texts of PRISM (K9), its
-//! lowest terms (K10), its parallel composition and its hiding (K11), its sentences (K12) and its largest certificates (K13) in plain Rust, written
-//! from the documents alone: what the library is compared with. Every call but that of sentences is one of a set of limits, today's or older ones.
+//! lowest terms (K10), its parallel composition and its hiding (K11), its sentences (K12), its largest certificates (K13) and its strong pairs (K14)
+//! in plain Rust, written from the documents alone: what the library is compared with. Every call but that of sentences is one of a set of limits,
+//! today's or older ones.
 //!
 //! Every sum fits an i64. Weights of a transition add up to at most 65,535, so weights times prices stay below 2^47 and a difference
 //! of two such sums below 2^48; L times cost times d is below 2^53. k times d is below 2^48, and a state's equation has at most 768 of
@@ -48,11 +49,12 @@ pub const TRANSITIONS: usize = 256;
 const LABEL: u8 = 63;
 const DENOMINATOR: i64 = 65_535;
 
-/// The step rule that a pair is judged by: document 01's, or K6's with costs.
+/// The step rule that a pair is judged by: document 01's, K6's with costs, or K14's.
 #[derive(Clone, Copy, Debug, PartialEq, Eq)]
 pub enum Rule {
     Plain,
     Costs,
+    Strong,
 }
 
 impl Rule {
@@ -61,6 +63,7 @@ impl Rule {
         match self {
             Rule::Plain => b"CT",
             Rule::Costs => b"CC",
+            Rule::Strong => b"CS",
         }
     }
 }
@@ -69,9 +72,9 @@ impl Rule {
 #[derive(Clone, Copy, Debug, PartialEq, Eq, PartialOrd, Ord)]
 pub enum Broken {
     LastPrices,
-    /// An equation at v for an internal challenger.
+    /// An equation at v for an internal challenger, but by the strong rule.
     AtState,
-    /// Equations at v for an external challenger.
+    /// Equations at v for an external challenger; by the strong rule the equation of D, at t, and those at v.
     BeforeMove,
     AfterMove,
     /// An equation at u.
@@ -279,8 +282,8 @@ fn refutation(model: &Model, related: &Related, file: &[u8], at: usize) -> Resul
     if t == s || !related.holds(s, t) {
         return fault(14, at);
     }
-    let external = challenger.action != 0;
-    let count = if external { 3 * n } else { 2 * n };
+    let (external, strong) = (challenger.action != 0, model.rule == Rule::Strong);
+    let count = if strong { 1 + 2 * n } else if external { 3 * n } else { 2 * n };
     let size = 5 + 4 * (count + usize::from(model.rule == Rule::Costs));
     if bytes.len() < size {
         return fault(11, at);
@@ -289,18 +292,21 @@ fn refutation(model: &Model, related: &Related, file: &[u8], at: usize) -> Resul
     for (price, field) in prices.iter_mut().zip(bytes[5..size].chunks_exact(4)) {
         *price = i64::from(four(field, 0) as i32);
     }
-    // For an internal challenger A stands where B would.
+    // For an internal challenger A stands where B would; the strong rule has both, and one A, that of t.
     let (a, b, g) = (&prices[..n], &prices[count - 2 * n..count - n], &prices[count - n..count]);
+    let of_t = if strong { prices[0] } else { a[t] };
     // Behind them stands L, and without costs 0.
     let paid = |r: &Transition| prices[count] * r.cost * r.d;
-    for r in &model.transitions {
-        let breaks = |from: &[i64], to: &[i64]| r.d * from[r.source] < r.price(to) + paid(r);
-        if r.action == 0 && (breaks(a, a) || external && breaks(b, b)) {
-            return fault(15, at);
-        }
-        if external && r.action == challenger.action && breaks(a, b) {
-            return fault(15, at);
-        }
+    let breaks = |r: &Transition, from: i64, to: &[i64]| r.d * from < r.price(to) + paid(r);
+    let moves = |r: &Transition| r.action == challenger.action;
+    let any_breaks = if strong {
+        model.leaving(t).iter().any(|r| moves(r) && breaks(r, of_t, b))
+    } else {
+        let inside = |r: &Transition| breaks(r, a[r.source], a) || external && breaks(r, b[r.source], b);
+        model.transitions.iter().any(|r| r.action == 0 && inside(r) || external && moves(r) && breaks(r, a[r.source], b))
+    };
+    if any_breaks {
+        return fault(15, at);
     }
     for (row, price) in related.0.iter().zip(b) {
         for (word, prices) in row.iter().zip(g.chunks(64)) {
@@ -309,7 +315,7 @@ fn refutation(model: &Model, related: &Related, file: &[u8], at: usize) -> Resul
             }
         }
     }
-    let remainder = challenger.d * a[t] - (challenger.price(g) + paid(challenger));
+    let remainder = challenger.d * of_t - (challenger.price(g) + paid(challenger));
     if remainder >= 0 {
         return off(16, at, Broken::LastPrices, t, remainder);
     }
@@ -340,8 +346,8 @@ fn flow(model: &Model, related: &Related, sums: &mut Sums, file: &[u8], (challen
     if bytes.len() < middle {
         return fault(11, at);
     }
-    let external = challenger.action != 0;
-    let stays = usize::from(external);
+    let (external, strong) = (challenger.action != 0, model.rule == Rule::Strong);
+    let stays = usize::from(external || strong);
     sums[..2 + stays].iter_mut().for_each(|side| side[..n].fill(0));
     // What arrives at each state less what leaves it: [0] before the move, [1] after it.
     let [onto, left @ ..] = sums;
@@ -356,6 +362,8 @@ fn flow(model: &Model, related: &Related, sums: &mut Sums, file: &[u8], (challen
         last = Some((layer, r));
         let r = &model.transitions[r];
         let (from, to) = match layer {
+            1 if strong && r.source == t && r.action == challenger.action => (0, 1),
+            _ if strong => return fault(19, at),
             0 if r.action == 0 => (0, 0),
             1 if external && r.action == challenger.action => (0, 1),
             2 if external && r.action == 0 => (1, 1),
@@ -387,7 +395,7 @@ fn flow(model: &Model, related: &Related, sums: &mut Sums, file: &[u8], (challen
     let breaks = |side: &[i64; STATES]| side[..n].iter().any(|&x| x != 0);
     if let Some(side) = left[..=stays].iter().position(breaks) {
         let (v, remainder) = first_broken(&left[side]);
-        let broken = if !external { Broken::AtState } else if side == 0 { Broken::BeforeMove } else { Broken::AfterMove };
+        let broken = if stays == 0 { Broken::AtState } else if side == 0 { Broken::BeforeMove } else { Broken::AfterMove };
         return off(20, at, broken, v, remainder);
     }
     onto[..n].iter_mut().for_each(|w| *w *= challenger.d);
@@ -705,6 +713,11 @@ impl Limits {
     /// The same of a cost model.
     pub fn judge_costs(&self, model: &[u8], certificate: &[u8], buffer: &mut [u8]) -> Answer {
         self.judge_by(Rule::Costs, model, certificate, buffer)
+    }
+
+    /// The same by the strong rule.
+    pub fn judge_strong(&self, model: &[u8], certificate: &[u8], buffer: &mut [u8]) -> Answer {
+        self.judge_by(Rule::Strong, model, certificate, buffer)
     }
 
     /// Judges a certificate for a model; on acceptance the merged model's file stands first in the buffer.

@@ -1,9 +1,9 @@
 //! Damage by records and fields: a sound pair is split into its records, some are changed, and the rest stays right.
 #![allow(dead_code)] // each test file uses its own part
 
-use crate::compare::{accepted, changes, Counts, Lent, Numbers};
+use crate::compare::{accepted, changes, kind_by, Counts, Kind, Lent, Numbers};
 use crate::plain::Rule;
-use std::collections::BTreeSet;
+use std::collections::{BTreeMap, BTreeSet};
 use std::iter::once;
 use std::ops::Range;
 use zolkirta::{MODEL, STATES};
@@ -50,10 +50,11 @@ fn split_models(first: &[u8], second: &[u8]) -> Records {
 pub fn split((model, certificate): &(Vec<u8>, Vec<u8>)) -> Records {
     let n = usize::from(model[2]);
     let model = cut_model(model);
-    let price_of_costs = if certificate.starts_with(b"CC") { 4 } else { 0 };
+    let (strong, price_of_costs) = (certificate.starts_with(b"CS"), if certificate.starts_with(b"CC") { 4 } else { 0 });
     let certificate = cut(certificate, |r| match &r[..2] {
-        b"CT" | b"CC" => 4,
+        b"CT" | b"CC" | b"CS" => 4,
         b"BK" => 2 + n,
+        b"PX" if strong => 5 + 4 + 8 * n,
         b"PX" if model[2 + value(r, 2..4) as usize][3] == 0 => 5 + 8 * n + price_of_costs,
         b"PX" => 5 + 12 * n + price_of_costs,
         _ => w_count(r) + 2 + 6 * value(r, w_count(r)..w_count(r) + 2) as usize,
@@ -70,7 +71,7 @@ fn w_count(flow: &[u8]) -> usize {
 fn fields(record: &[u8]) -> Vec<Range<usize>> {
     let widths: Box<dyn Iterator<Item = &usize>> = match record {
         [b'P', b'A', ..] => Box::new([1, 1, 2].iter()),
-        [b'C', b'T' | b'C', ..] => Box::new([2].iter()),
+        [b'C', b'T' | b'C' | b'S', ..] => Box::new([2].iter()),
         [b'T', b'R', ..] => Box::new([1, 1, 2, 1].iter().chain([1, 2].iter().cycle())),
         [b'P', b'X', ..] => Box::new([2, 1].iter().chain([4].iter().cycle())),
         [b'F', b'L', _, _, _, _, high, low, ..] => {
@@ -174,7 +175,8 @@ fn respell(record: &mut [u8], rule: Rule, numbers: &mut Numbers) {
 
 /// The rule that the certificate of a sound pair, or of none, is for.
 fn rule_of(pair: &Records) -> Rule {
-    if pair[1][0].starts_with(Rule::Costs.mark()) { Rule::Costs } else { Rule::Plain }
+    let rules = [Rule::Costs, Rule::Strong];
+    rules.into_iter().find(|rule| pair[1][0].starts_with(rule.mark())).unwrap_or(Rule::Plain)
 }
 
 /// One damage to one file; `other` is another sound pair, which lends a record or a whole file.
@@ -196,7 +198,7 @@ fn damage(pair: &mut Records, other: &Records, n: u64, numbers: &mut Numbers) {
         3 => *record = numbers.of(&other[which]).clone(),
         4 => *file = other[which].clone(),
         5 => {
-            let mark = numbers.of(&[b"PA", b"LB", b"TR", b"CO", b"CT", b"CC", b"PX", b"BK", b"FL", b"pa", b"AP"]);
+            let mark = numbers.of(&[b"PA", b"LB", b"TR", b"CO", b"CT", b"CC", b"CS", b"PX", b"BK", b"FL", b"pa", b"AP"]);
             record[..2].copy_from_slice(*mark);
         }
         6 => damage_entries(record, numbers),
@@ -290,6 +292,47 @@ pub fn damaged(pairs: &[(Vec<u8>, Vec<u8>)], times: u64, seed: u64) -> Counts {
         counts.pair_with(model, certificate, blocks, out, state as u32);
     });
     counts
+}
+
+/// How often each number was answered, with the file.
+pub type Told = BTreeMap<(u32, u32), u64>;
+
+/// Sends so many damaged pairs through the call that judges by a rule. What it answers must be all of its numbers and no other: how often each came,
+/// and the kinds of 16, 20 and 21.
+pub fn damaged_by(rule: Rule, call: Lent, pairs: &[(Vec<u8>, Vec<u8>)], times: u64, seed: u64) -> (Told, BTreeSet<Kind>) {
+    assert!(pairs.iter().all(|(model, certificate)| call(model, certificate, STATES).0.number == 0));
+    let pairs: Vec<Records> = pairs.iter().map(split).collect();
+    let (mut told, mut kinds) = (Told::new(), BTreeSet::new());
+    each_damaged(&pairs, times, seed, |model, certificate, n, numbers| {
+        let length = if numbers.below(8) == 0 { numbers.below(n + 2) } else { STATES };
+        let (answer, _) = call(model, certificate, length);
+        *told.entry((answer.number, answer.file)).or_insert(0) += 1;
+        kinds.extend(kind_by(rule, answer, model, certificate));
+    });
+    println!("pairs of the rule {rule:?} damaged by records and fields: {told:?}");
+    let of_costs = |number: u32| (rule == Rule::Costs).then_some(number);
+    let of_model = (1..=9).chain([34]).chain(of_costs(29)).map(|number| (number, 1));
+    let of_certificate = (11..=22).chain(of_costs(30)).map(|number| (number, 2));
+    assert_eq!(told.keys().copied().collect::<BTreeSet<_>>(), of_model.chain(of_certificate).chain([(0, 0), (10, 0)]).collect());
+    (told, kinds)
+}
+
+/// Makes a call that judges with every truncation of either file of a pair, which then ends too early, and with every change of one byte.
+pub fn small_damage(call: Lent, (model, certificate): &(Vec<u8>, Vec<u8>), told: &mut Told) {
+    for size in 0..model.len() {
+        let answer = call(&model[..size], certificate, STATES).0;
+        assert_eq!((answer.number, answer.file, answer.place + answer.stretch_length), (1, 1, size));
+    }
+    for size in 0..certificate.len() {
+        let answer = call(model, &certificate[..size], STATES).0;
+        assert_eq!((answer.number, answer.file, answer.place + answer.stretch_length), (11, 2, size));
+    }
+    let mut tell = |model: &[u8], certificate: &[u8]| {
+        let answer = call(model, certificate, STATES).0;
+        *told.entry((answer.number, answer.file)).or_insert(0) += 1;
+    };
+    changes(model, |damaged| tell(damaged, certificate));
+    changes(certificate, |damaged| tell(model, damaged));
 }
 
 /// Pairs of sound models as their records: the accepted models of the vectors, and a crowded one beside some of them.

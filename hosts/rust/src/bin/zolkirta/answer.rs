@@ -89,6 +89,10 @@ pub fn judge_costs(files: &[&[u8]], _: &[i128]) -> Answer {
     lent(zolkirta::judge_costs, files, STATES).map(Found::Judged)
 }
 
+pub fn judge_strong(files: &[&[u8]], _: &[i128]) -> Answer {
+    lent(zolkirta::judge_strong, files, STATES).map(Found::Judged)
+}
+
 /// Judges twice: the library hands back either the blocks or the merged model.
 pub fn reduce(files: &[&[u8]], _: &[i128]) -> Answer {
     let merged = lent(zolkirta::reduce, files, MODEL)?;

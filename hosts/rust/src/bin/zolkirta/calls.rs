@@ -1,7 +1,7 @@
 //! The calls: what each is named, what it takes, and what it is for.
 
-use crate::answer::{alike, compose, fetch, hide, join, judge, judge_costs, largest, read_prism, reduce, rewrite, rewrite_costs, sentence, sheet};
-use crate::answer::Answer;
+use crate::answer::{alike, compose, fetch, hide, join, judge, judge_costs, judge_strong, largest, read_prism, reduce, rewrite, rewrite_costs};
+use crate::answer::{sentence, sheet, Answer};
 use std::ops::RangeInclusive;
 use zolkirta::File;
 
@@ -119,7 +119,7 @@ impl Call {
     }
 }
 
-pub const CALLS: [Call; 14] = [
+pub const CALLS: [Call; 15] = [
     Call {
         name: "judge",
         files: &[MODEL, CERTIFICATE],
@@ -138,6 +138,17 @@ pub const CALLS: [Call; 14] = [
         more: "After the first line each block has a line with its states. Every other call\n\
                but rewrite-costs refuses a cost model with 9.",
         make: judge_costs,
+    },
+    Call {
+        name: "judge-strong",
+        files: &[MODEL, CERTIFICATE],
+        numbers: NONE,
+        writes: Writes::Never,
+        purpose: "what judge does, by strong bisimulation: no internal step is skipped",
+        more: "After the first line each block has a line with its states. Each lies inside a\n\
+               block that judge gives for the same model. CERTIFICATE is a strong one, which\n\
+               every other call refuses with 12; no merged model is written for it.",
+        make: judge_strong,
     },
     Call {
         name: "reduce",

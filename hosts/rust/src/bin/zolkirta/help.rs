@@ -15,7 +15,7 @@ pub fn text(call: Option<&Call>) -> String {
         ),
         None => {
             let calls: String = CALLS.iter().map(|call| format!("  {}\n      {}\n", call.usage(), call.purpose)).collect();
-            format!("Zolkirta judges certificates of weak bisimulation for probabilistic automata.\n\n{calls}\n{GENERAL}")
+            format!("Zolkirta judges certificates of bisimulation, weak and strong, for probabilistic\nautomata.\n\n{calls}\n{GENERAL}")
         }
     }
 }
@@ -52,7 +52,9 @@ model; as place the byte of it where the record or line at fault begins; for 16,
 20 and 21 a state, and as remainder by how much the left side of its condition
 or equation is off:
   16                    how far d0 times A is above what it must be below
-  20                    how many arrive that are too many, or below 0 too few
+  20                    how many arrive that are too many, or below 0 too few;
+                        at the defender of a strong certificate also how far D
+                        is above the sum of k times d
   21                    how many d0 times the w onto it is too many, or too few
 A second line has the file's name, and its bytes from there on, or the line of a
 text, by its number from 1 on; a third one says which side the remainder is of.

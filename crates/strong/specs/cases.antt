@@ -1,0 +1,3 @@
+-- Computed cases.
+pub mod Mixed
+pub mod StrongCases

@@ -1,0 +1,1 @@
+// The strong step rule, in definitions and laws: no code.

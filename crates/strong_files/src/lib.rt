@@ -1,0 +1,1 @@
+// Strong certificates, in definitions and laws: no code.

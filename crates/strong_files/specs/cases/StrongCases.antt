@@ -72,7 +72,7 @@ loopsCertificate = set (set (set stepsCertificate 7 1) 27 1) 49 1
 
 unfoldable pub strongCases : List FilesCase
 strongCases =
-    -- reading 34's pair
+    -- the small model, whose states are all apart
     record { model = modelS; certificate = apartCertificate; expected = accepted (0 ∷ 1 ∷ 2 ∷ []) }
     -- A 1 and A 2 in its first refutation: 1·1 and 1·2 are not below 1. G(2) 2: no B is at least that, and 15 comes before 16
     ∷ record { model = modelS; certificate = set apartCertificate 12 1; expected = refusedIn (faultBy 16 1 (pos 0)) 2 4 }

@@ -1,18 +1,24 @@
 -- What is known before each refutation record, and before the blocks record, for any step rule.
 use Prim.Native.Nat.{ℕ, zero, suc, _+_, _-_, _≤_, _<_}
 use mathlib.Core.Path.{_≡_, refl, sym, _∙_, ap, ap₂, subst}
+use mathlib.Core.Bool.{Bool, true, false}
+use mathlib.Core.Logic.{_↔_}
 use mathlib.Core.List.{List}
-use lib.ListN.{length, take, drop}
+use lib.Dec.{eqb}
+use lib.ListN.{length, take, drop, getD}
 use lib.IntN.{ℤ}
 use native.Mathlib.Omega.{arith}
+use borrow.Author.Tests.{eq-eqb, ne-eqb}
+use Rattle.bisimulation.specs.argument.ChoiceLaws.{false-not}
 use Rattle.bisimulation.specs.definitions.Automaton.{Automaton}
 use Rattle.bisimulation.specs.definitions.Pairs.{Pairs, equalLabels, removed}
 use Rattle.rules.specs.definitions.Limits.{limits}
 use Rattle.rules.specs.definitions.Faults as rules
 use Rattle.rules.specs.definitions.Faults.{certificateRecord}
-use Rattle.rules.specs.definitions.Certificate.{FileRule, refutationCount, certificateHeadFault, challengerAt, defenderAt, afterRefutation, refutationFault, pairsAfter, blocksAt}
+use Rattle.rules.specs.definitions.Certificate.{FileRule, refutationCount, certificateHeadFault, challengerAt, defenderAt, afterRefutation, refutationFault, pairsAfter, blocksAt, sameBlock}
 use Rattle.rules.specs.definitions.CertificateAt.{afterRefutations, blocksPlace}
 use Rattle.rules.specs.definitions.Judging.{Judgement, refusedIn, refuseRecordAt, questions, judgeFlows, judgeBlocks, judgeRefutations, judgeCertificate}
+use Rattle.rules.specs.argument.BlocksRecord.{blocks-good}
 use Rattle.rules.specs.argument.FaultLaws.{none-first, certificate-refuses, opened}
 use Rattle.field.specs.declared.Cursor.{Cursor}
 use Rattle.fault.specs.declared.Fault.{Fault}
@@ -27,7 +33,7 @@ use Rattle.refutation.specs.declared.Refuted.{Refuted}
 use Rattle.refutation.specs.RefutationJudged.{RefutationJudged}
 use Rattle.flows.specs.declared.Judged.{Judged}
 use Rattle.flows.specs.declared.Judged.the-variants.{Refused}
-use Rattle.flows.specs.FlowsJudged.{InFile, Judges, judges, JudgesFlows}
+use Rattle.flows.specs.FlowsJudged.{InFile, Judges, judges, BlocksAgree, JudgesFlows}
 use Rattle.rules.specs.argument.JudgingLaws.{record-stops, record-passes}
 use Rattle.certificate.specs.declared.Passed.{Passed}
 use Rattle.certificate.specs.CertificateJudged.{JudgesBlocks}
@@ -47,6 +53,20 @@ module _ (rule : FileRule) {s C table : List ℕ} {n count : ℕ} (k : Known s n
   unfolding judgeBlocks
   blocks-stops some inside =
       record { answer = λ R h. record-refused f _ (j .is (automatonIn s) (known-states k) R h) (j .place) some; inside = omega (arith, inside, j .place) }
+
+  pub blocks-agree : f .number ≡ 0 → BlocksAgree C n rows (at + 2)
+  unfolding blocksAt sameBlock
+  blocks-agree good =
+      record { shared = λ R h v u l m. go R (related R h v u l m) (R v u) refl }
+    where
+      related : (R : Pairs) → HoldsPairs n R rows → (v u : ℕ) → v < n → u < n → (getD (take n (drop (at + 2) C)) v 0 ≡ getD (take n (drop (at + 2) C)) u 0) ↔ (R v u ≡ true)
+      related R h v u l m =
+          subst (λ (k : ℕ). (getD (take k (drop (at + 2) C)) v 0 ≡ getD (take k (drop (at + 2) C)) u 0) ↔ (R v u ≡ true)) (known-states k)
+          (blocks-good (automatonIn s) C R at (none-is f (j .is (automatonIn s) (known-states k) R h) good) .asRelated v u (omega (arith, known-states k)) (omega (arith, known-states k)))
+
+      go : (R : Pairs) {x y v u : ℕ} → (x ≡ y) ↔ (R v u ≡ true) → (b : Bool) → R v u ≡ b → eqb x y ≡ R v u
+      go R {x} {y} iff true e = eq-eqb x y (iff .1 e) ∙ sym e
+      go R {x} {y} iff false e = ne-eqb x y (λ q. false-not (sym e ∙ iff .0 q)) ∙ sym e
 
   pub blocks-passes : f .number ≡ 0 → {r : Judged} → JudgesFlows rule s C n rows (at + 2) r → JudgesBlocks rule s C n rows at r
   unfolding judgeBlocks blocksAt

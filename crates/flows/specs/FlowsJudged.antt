@@ -1,11 +1,11 @@
 -- What judging hands up, in document 01's terms, and what it says of the flows.
-use Prim.Native.Nat.{ℕ, _+_, _≤_}
+use Prim.Native.Nat.{ℕ, _+_, _≤_, _<_}
 use mathlib.Core.Path.{_≡_, refl, _∙_, ap}
 use mathlib.Core.List.{List, [], _∷_}
 use lib.ListN.{length, take, drop}
 use Rattle.bisimulation.specs.definitions.Pairs.{Pairs}
 use Rattle.rules.specs.definitions.Limits.{limits}
-use Rattle.rules.specs.definitions.Certificate.{FileRule}
+use Rattle.rules.specs.definitions.Certificate.{FileRule, sameBlock}
 use Rattle.rules.specs.definitions.Answers.{Answer, refusalIn, answerWithoutPlace, fileOf, judgementAnswer}
 use Rattle.fault.specs.Faults.{faultOf}
 use Rattle.rules.specs.definitions.Judging.{Judgement, accepted, refusedIn, questions, judgeFlows}
@@ -42,6 +42,10 @@ judges {C} {n} r e inside = record { answer = e; says = λ M. cases M r ∙ ap (
     cases : (M : List ℕ) (x : Judged) → judgedAnswer (length C) x ≡ judgementAnswer (M ∷ C ∷ []) (judgementOf C n x)
     cases M (Accepted at) = unfold judgementAnswer in refl
     cases M (Refused f) = unfold judgementAnswer fileOf in refl
+
+-- the n blocks at a place are those of the pairs that the rows hold
+pub record BlocksAgree (C : List ℕ) (n : ℕ) (rows : List ℕ) (blocks : ℕ) : Type 0 where
+  pub shared : (R : Pairs) → HoldsPairs n R rows → (v u : ℕ) → v < n → u < n → sameBlock (take n (drop blocks C)) v u ≡ R v u
 
 -- the flows after n blocks, judged for the pairs that the rows hold
 pub record JudgesFlows (rule : FileRule) (s C : List ℕ) (n : ℕ) (rows : List ℕ) (blocks : ℕ) (r : Judged) : Type 0 where

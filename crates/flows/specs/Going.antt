@@ -51,9 +51,19 @@ module _ (rule : FileRule) (s C : List ℕ) (n : ℕ) (rows : List ℕ) (blocks 
     pub targets : AllZero target
 
   module _ {remainders target : List ℤ} where
-    -- the same questions
+    -- the same questions, whatever pairs the rows hold
+    pub going-held : {xs ys : List Question} {at number : ℕ} → ((R : Pairs) → HoldsPairs n R rows → xs ≡ ys) → Going xs remainders target at number → Going ys remainders target at number
+    going-held {xs} {ys} {at} {number} e g =
+        record {
+          judged = λ R h. ap (λ (l : List Question). judgedFrom R l at) (sym (e R h)) ∙ g .judged R h;
+          inside = g .inside;
+          none = g .none;
+          moves = g .moves;
+          targets = g .targets;
+        }
+
     pub going-list : {xs ys : List Question} {at number : ℕ} → xs ≡ ys → Going xs remainders target at number → Going ys remainders target at number
-    going-list {xs} {ys} {at} {number} e g = subst (λ (l : List Question). Going l remainders target at number) e g
+    going-list e g = going-held (λ R h. e) g
 
     pub going-start : {xs : List Question} {at number : ℕ} → questions (automatonIn s) blocksIn ≡ xs → at ≡ blocks + n → number ≡ 0 → blocks + n ≤ length C → AllZero remainders → AllZero target → Going xs remainders target at number
     going-start {xs} {at} e place zero whole a b =

@@ -1,18 +1,24 @@
 -- Laws of the questions left: a turn and the end of each loop over them.
 use Prim.Native.Nat.{ℕ, zero, suc, _+_, _-_, _≤_, _<_}
 use mathlib.Core.Path.{_≡_, refl, sym, _∙_, ap, ap₂}
+use mathlib.Core.Bool.{true}
 use mathlib.Core.List.{List, [], _∷_, _++_, append-assoc}
 use lib.ListN.{length}
 use lib.IntN.{ℤ}
 use native.Mathlib.Omega.{arith}
-use Rattle.rules.specs.definitions.Certificate.{FileRule}
+use native.Mathlib.Decide.{ℕ-discrete, decLt}
+use Rattle.bisimulation.specs.definitions.Pairs.{Pairs}
+use Rattle.rules.specs.definitions.Limits.{limits}
+use Rattle.rules.specs.definitions.Certificate.{FileRule, sameBlock}
 use Rattle.rules.specs.definitions.Judging.{Question, questions, questionsOfState, questionsFrom}
 use Rattle.remainders.specs.Remainders.{AllZero}
 use Rattle.transition.specs.Known.{automatonIn, Known}
 use Rattle.transition.specs.KnownLaws.{known-states, known-transitions}
-use Rattle.runs.specs.Runs.{IsPast, runEnd, runQuestions, Splits}
-use Rattle.runs.specs.RunsLaws.{state-turn, from-turn, splits-next}
-use Rattle.flows.specs.Going.{blocksIn, leftStates, leftDefenders, leftRun, Going, going-list, going-start}
+use Rattle.pairs.specs.Rows.{rowBit, HoldsPairs}
+use Rattle.runs.specs.Runs.{IsPast, runEnd, IsDefender, IsFirstDefender, noRun, asked, runQuestions, Splits}
+use Rattle.runs.specs.RunsLaws.{state-turn, from-turn, splits-next, end-empty, end-own, end-unrelated, end-asked}
+use Rattle.flows.specs.FlowsJudged.{BlocksAgree}
+use Rattle.flows.specs.Going.{blocksIn, leftStates, leftDefenders, leftRun, Going, going-held, going-list, going-start}
 
 from-none : (s blocks : List ℕ) (left state : ℕ) → left ≤ 0 → questionsFrom (automatonIn s) blocks left state ≡ []
 unfolding questionsFrom
@@ -35,6 +41,18 @@ run-none : (t left r : ℕ) → left ≤ 0 → runQuestions t left r ≡ []
 unfolding runQuestions
 run-none t zero r h = refl
 run-none t (suc left) r h = absurd (omega arith)
+
+-- t, where it is one of n states, is another than a state and related to it
+pub record Asked (rows : List ℕ) (n state t : ℕ) : Type 0 where
+  pub other : t < n → state ≡ t → ⊥
+  pub some : t < n → rowBit rows state t ≡ true
+
+pub next-asked : {rows : List ℕ} {n state t x : ℕ} → n ≤ limits .states → IsDefender rows state t x → Asked rows n state x
+next-asked few d = record { other = λ less. d .other (omega arith); some = λ less. d .some (omega arith) }
+
+pub first-asked : {rows : List ℕ} {n state first past x : ℕ} → n ≤ limits .states → IsFirstDefender rows n state first past x → Asked rows n state x
+first-asked few (noRun e q) = record { other = λ less. absurd (omega arith); some = λ less. absurd (omega arith) }
+first-asked few (asked d) = next-asked few d
 
 module _ (rule : FileRule) (s C : List ℕ) (n : ℕ) (rows : List ℕ) (blocks : ℕ) where
   all-left : automatonIn s .states ≡ n → questions (automatonIn s) (blocksIn rule s C n rows blocks) ≡ leftStates rule s C n rows blocks 0
@@ -63,13 +81,57 @@ module _ (rule : FileRule) (s C : List ℕ) (n : ℕ) (rows : List ℕ) (blocks 
   defenders-done : (state t : ℕ) → n ≤ t → leftDefenders rule s C n rows blocks state t ≡ leftStates rule s C n rows blocks (state + 1)
   defenders-done state t h = ap (λ (xs : List Question). xs ++ leftStates rule s C n rows blocks (state + 1)) (state-none s _ state (n - t) t (omega arith))
 
+  run-done : (state t r end : ℕ) → end ≤ r → leftRun rule s C n rows blocks state t r end ≡ leftDefenders rule s C n rows blocks state (t + 1)
+  run-done state t r end h = ap (λ (xs : List Question). xs ++ leftDefenders rule s C n rows blocks state (t + 1)) (run-none t (end - r) r (omega arith))
+
+  -- defenders that the run does not ask are passed over
+  defenders-skip : (count state first past : ℕ) → automatonIn s .transitions ≡ count → Splits (automatonIn s) count state first → IsPast (automatonIn s) count state first past → Splits (automatonIn s) count (state + 1) past → (left t : ℕ) → ((u : ℕ) → t ≤ u → u < t + left → u < n → runEnd (blocksIn rule s C n rows blocks) state u first past ≡ first) → leftDefenders rule s C n rows blocks state t ≡ leftDefenders rule s C n rows blocks state (t + left)
+  defenders-skip count state first past all h p next zero t none = let e : t ≡ t + 0 = omega arith in ap (leftDefenders rule s C n rows blocks state) e
+  defenders-skip count state first past all h p next (suc left) t none =
+      go (decLt t n) (defenders-skip count state first past all h p next left (t + 1) (λ u above below few. none u (omega arith) (omega arith) few))
+    where
+      go : Dec (t < n) → leftDefenders rule s C n rows blocks state (t + 1) ≡ leftDefenders rule s C n rows blocks state (t + 1 + left) → leftDefenders rule s C n rows blocks state t ≡ leftDefenders rule s C n rows blocks state (t + suc left)
+      go (yes less) later =
+          let one : t + 1 + left ≡ t + suc left = omega arith in
+          defenders-turn count state first past t all h p next less
+          ∙ ap (leftRun rule s C n rows blocks state t first) (none t (omega arith) (omega arith) less)
+          ∙ run-done state t first first (omega arith)
+          ∙ later
+          ∙ ap (leftDefenders rule s C n rows blocks state) one
+      go (no more) later = defenders-done state t (omega arith) ∙ sym (defenders-done state (t + suc left) (omega arith))
+
   run-turn : (state t r end : ℕ) → r < end → leftRun rule s C n rows blocks state t r end ≡ record { challenger = r; defender = t } ∷ leftRun rule s C n rows blocks state t (r + 1) end
   run-turn state t r end less =
       let l : end - r - 1 ≡ end - (r + 1) = omega arith in
       ap (λ (xs : List Question). xs ++ leftDefenders rule s C n rows blocks state (t + 1)) (run-some t (end - r) r (omega arith) ∙ ap (λ (k : ℕ). record { challenger = r; defender = t } ∷ runQuestions t k (r + 1)) l)
 
-  run-done : (state t r end : ℕ) → end ≤ r → leftRun rule s C n rows blocks state t r end ≡ leftDefenders rule s C n rows blocks state (t + 1)
-  run-done state t r end h = ap (λ (xs : List Question). xs ++ leftDefenders rule s C n rows blocks state (t + 1)) (run-none t (end - r) r (omega arith))
+  -- the questions left of a state, of which the blocks are those of the related pairs
+  module _ {count : ℕ} {table : List ℕ} (k : Known s n count table) (agree : BlocksAgree C n rows blocks) (state first past : ℕ) (h : Splits (automatonIn s) count state first) (p : IsPast (automatonIn s) count state first past) (here : state < n) where
+    skip : (left t : ℕ) → ((u : ℕ) → t ≤ u → u < t + left → u < n → runEnd (blocksIn rule s C n rows blocks) state u first past ≡ first) → leftDefenders rule s C n rows blocks state t ≡ leftDefenders rule s C n rows blocks state (t + left)
+    skip = defenders-skip count state first past (known-transitions k) h p (splits-next k h p)
+
+    none-left : (x : ℕ) → first ≡ past → leftDefenders rule s C n rows blocks state 0 ≡ leftDefenders rule s C n rows blocks state x
+    none-left x e =
+        let z : 0 + x ≡ x = omega arith in
+        skip x 0 (λ u above below few. end-empty _ state u e) ∙ ap (leftDefenders rule s C n rows blocks state) z
+
+    module _ (R : Pairs) (held : HoldsPairs n R rows) where
+      block-bit : (u : ℕ) → u < n → sameBlock (blocksIn rule s C n rows blocks) state u ≡ rowBit rows state u
+      block-bit u few = agree .shared R held state u here few ∙ sym (held .bits state u here few)
+
+      next-left : (t x : ℕ) → IsDefender rows state t x → leftDefenders rule s C n rows blocks state t ≡ leftDefenders rule s C n rows blocks state x
+      next-left t x d =
+          let e : t + (x - t) ≡ x = omega (arith, d .from) in
+          skip (x - t) t (λ u above below few. unasked u above (omega (arith, d .from)) few (ℕ-discrete state u)) ∙ ap (leftDefenders rule s C n rows blocks state) e
+        where
+          unasked : (u : ℕ) → t ≤ u → u < x → u < n → Dec (state ≡ u) → runEnd (blocksIn rule s C n rows blocks) state u first past ≡ first
+          unasked u above below few (yes q) = end-own _ state u first past q
+          unasked u above below few (no q) = end-unrelated _ state u first past q (block-bit u few ∙ d .none u above below q)
+
+      run-left : (t : ℕ) → Asked rows n state t → t < n → leftDefenders rule s C n rows blocks state t ≡ leftRun rule s C n rows blocks state t first past
+      run-left t a less =
+          defenders-turn count state first past t (known-transitions k) h p (splits-next k h p) less
+          ∙ ap (leftRun rule s C n rows blocks state t first) (end-asked _ state t first past (a .other less) (block-bit t less ∙ a .some less))
 
 -- judging goes through the questions in these turns
 module _ {rule : FileRule} {s C : List ℕ} {n : ℕ} {rows : List ℕ} {blocks : ℕ} {remainders target : List ℤ} where
@@ -83,11 +145,17 @@ module _ {rule : FileRule} {s C : List ℕ} {n : ℕ} {rows : List ℕ} {blocks 
     pub states-end : (state : ℕ) → n ≤ state → Going rule s C n rows blocks (leftStates rule s C n rows blocks state) remainders target at number → Going rule s C n rows blocks [] remainders target at number
     states-end state h g = going-list rule s C n rows blocks (states-done rule s C n rows blocks state h) g
 
-    pub going-defender : {count : ℕ} {table : List ℕ} (state first past t end : ℕ) → Known s n count table → Splits (automatonIn s) count state first → IsPast (automatonIn s) count state first past → end ≡ runEnd (blocksIn rule s C n rows blocks) state t first past → t < n → Going rule s C n rows blocks (leftDefenders rule s C n rows blocks state t) remainders target at number → Going rule s C n rows blocks (leftRun rule s C n rows blocks state t first end) remainders target at number
-    going-defender {count} state first past t end k h p e less g =
-        going-list rule s C n rows blocks
-        (defenders-turn rule s C n rows blocks count state first past t (known-transitions k) h p (splits-next k h p) less ∙ ap (leftRun rule s C n rows blocks state t first) (sym e))
-        g
+    -- the run of a state goes on to the next state that it asks, and asks it
+    module _ {count : ℕ} {table : List ℕ} (k : Known s n count table) (agree : BlocksAgree C n rows blocks) (state first past : ℕ) (h : Splits (automatonIn s) count state first) (p : IsPast (automatonIn s) count state first past) (here : state < n) where
+      pub going-next : (t x : ℕ) → IsDefender rows state t x → Going rule s C n rows blocks (leftDefenders rule s C n rows blocks state t) remainders target at number → Going rule s C n rows blocks (leftDefenders rule s C n rows blocks state x) remainders target at number
+      going-next t x d g = going-held rule s C n rows blocks (λ R held. next-left rule s C n rows blocks k agree state first past h p here R held t x d) g
+
+      pub going-first : (x : ℕ) → IsFirstDefender rows n state first past x → Going rule s C n rows blocks (leftDefenders rule s C n rows blocks state 0) remainders target at number → Going rule s C n rows blocks (leftDefenders rule s C n rows blocks state x) remainders target at number
+      going-first x (noRun e q) g = going-list rule s C n rows blocks (none-left rule s C n rows blocks k agree state first past h p here x e) g
+      going-first x (asked d) g = going-next 0 x d g
+
+      pub going-defender : (t : ℕ) → Asked rows n state t → t < n → Going rule s C n rows blocks (leftDefenders rule s C n rows blocks state t) remainders target at number → Going rule s C n rows blocks (leftRun rule s C n rows blocks state t first past) remainders target at number
+      going-defender t a less g = going-held rule s C n rows blocks (λ R held. run-left rule s C n rows blocks k agree state first past h p here R held t a less) g
 
     pub defenders-end : (state t : ℕ) → n ≤ t → Going rule s C n rows blocks (leftDefenders rule s C n rows blocks state t) remainders target at number → Going rule s C n rows blocks (leftStates rule s C n rows blocks (state + 1)) remainders target at number
     defenders-end state t h g = going-list rule s C n rows blocks (defenders-done rule s C n rows blocks state t h) g

@@ -3,7 +3,7 @@ ghost use Prim.Native.Nat.{_+_, _≤_};
 ghost use lib.ListN.{length};
 ghost use Rattle.rule_kind.specs.Kinds.{ruleOf, KindStands};
 ghost use Rattle.transition.specs.Known.{Known};
-ghost use Rattle.flows.specs.FlowsJudged.{JudgesFlows};
+ghost use Rattle.flows.specs.FlowsJudged.{BlocksAgree, JudgesFlows};
 use fault::Fault;
 use field::Cursor;
 use model::Places;
@@ -16,7 +16,7 @@ pub enum Judged {
     Refused(Fault),
 }
 
-// The flows from the end of the n blocks on, and 22.
+// The flows from the end of the n blocks on, which are those of the related pairs, and 22.
 pub fn judge_flows(
     kind: Kind,
     s: &[u8],
@@ -27,7 +27,7 @@ pub fn judge_flows(
     cert: &[u8],
     blocks: usize,
 ) -> Judged
-    requires { ⌜ Known (now s) n count (now places) × (blocks + n ≤ length (now cert)) × KindStands kind (now s) ⌝ }
+    requires { ⌜ Known (now s) n count (now places) × (blocks + n ≤ length (now cert)) × KindStands kind (now s) × BlocksAgree (now cert) n (now rows) blocks ⌝ }
     ensures { λ r. ⌜ JudgesFlows (ruleOf kind (now (s .entry))) (now (s .entry)) (now (cert .entry)) n (now (rows .entry)) blocks r ⌝ }
 {
     let mut remainders = remainders::no_remainders();
@@ -38,11 +38,10 @@ pub fn judge_flows(
     let mut first = 0;
     'flows: while state < n {
         let past = runs::run_past(s, count, places, state, first);
-        let mut t = 0;
+        let mut t = runs::first_defender(rows, n, state, first, past);
         while t < n {
-            let end = runs::run_end(cert, blocks, n, state, t, first, past);
             let mut r = first;
-            while r < end {
+            while r < past {
                 let met = flow::judge_flow(
                     kind,
                     s,
@@ -64,7 +63,7 @@ pub fn judge_flows(
                 place = met.next;
                 r += 1;
             }
-            t += 1;
+            t = runs::next_defender(rows, state, t + 1);
         }
         first = past;
         state += 1;

@@ -4,8 +4,7 @@ use mathlib.Core.Path.{_≡_, refl, sym, _∙_, ap, ap₂, subst}
 use mathlib.Core.Logic.{_⊎_, inl, inr}
 use mathlib.Core.Bool.{Bool, true, false}
 use mathlib.Core.List.{List, [], _∷_, _++_, append-assoc, append-nil}
-use lib.ListN.{length, take, drop, getD}
-use lib.Seq.{getD-take, getD-drop}
+use lib.ListN.{length, getD}
 use native.Mathlib.Omega.{arith}
 use native.Mathlib.Decide.{ℕ-discrete, decLt}
 use Rattle.bisimulation.specs.definitions.Choice.{ifSame, ifTrue}
@@ -17,9 +16,10 @@ use Rattle.rules.specs.definitions.Limits.{limits}
 use Rattle.rules.specs.definitions.Model.{Transition, automatonOf, noTransition}
 use Rattle.rules.specs.definitions.Reading.{modelAt}
 use Rattle.rules.specs.definitions.SoundModel.{Along}
+use Rattle.pairs.specs.Rows.{rowBit, IsNext}
 use Rattle.transition.specs.Known.{automatonIn, Known}
 use Rattle.transition.specs.KnownLaws.{known-transitions}
-use Rattle.runs.specs.Runs.{IsPast, runEnd, runQuestions, Splits}
+use Rattle.runs.specs.Runs.{IsPast, runEnd, IsDefender, runQuestions, Splits}
 
 -- 'Sources never descend along the file', for any two transitions
 along-from : (t : Transition) (ts : List Transition) (j : ℕ) → Along (λ (t u : Transition). t .source ≤ u .source) (t ∷ ts) → j < suc (length ts) → t .source ≤ getD (t ∷ ts) j noTransition .source
@@ -151,15 +151,39 @@ leave-more A {state} {r} {x} h e i l m = go (ℕ-discrete i x)
     go (yes q) = ap (A .source) q ∙ e
     go (no q) = h i l (omega arith)
 
--- the byte of a state in the n blocks at a place
-pub block-byte : (C : List ℕ) (blocks n v i : ℕ) → i ≡ blocks + v → v < n → getD C i 0 ≡ getD (take n (drop blocks C)) v 0
-block-byte C blocks n v i e h =
-    ap (λ (x : ℕ). getD C x 0) e ∙ sym (getD-take n (drop blocks C) v 0 h ∙ getD-drop blocks C v 0)
+-- the next related state is another one, or the state itself and then the next behind it
+module _ (rows : List ℕ) (state t next : ℕ) (n : IsNext (rowBit rows state) t next) where
+  pub defender-next : (next ≡ state → ⊥) → IsDefender rows state t next
+  defender-next o = record { from = n .from; none = λ u above less other. n .none u above less; other = λ less e. o (sym e); some = n .some }
 
--- the run ends between its start and the next one's
-pub end-between : (blocks : List ℕ) (state t first past end : ℕ) → end ≡ runEnd blocks state t first past → first ≤ past → (first ≤ end) × (end ≤ past)
+  pub defender-behind : next ≡ state → {from x : ℕ} → from ≡ next + 1 → IsNext (rowBit rows state) from x → IsDefender rows state t x
+  defender-behind own {from} {x} e m =
+      record {
+        from = omega (arith, n .from, m .from);
+        none = λ u above less other. go u above less other (decLt u next);
+        other = λ less q. omega (arith, m .from);
+        some = m .some;
+      }
+    where
+      go : (u : ℕ) → t ≤ u → u < x → (state ≡ u → ⊥) → Dec (u < next) → rowBit rows state u ≡ false
+      go u above less other (yes l) = n .none u above l
+      go u above less other (no l) = m .none u (omega (arith, other)) less
+
+-- no run, or none that t asks, has no question
+pub end-empty : (blocks : List ℕ) (state t : ℕ) {first past : ℕ} → first ≡ past → runEnd blocks state t first past ≡ first
 unfolding runEnd
-end-between blocks state t first past end e le =
-    subst (λ (k : ℕ). (first ≤ k) × (k ≤ past)) (sym e)
-    (eitherSame (λ (k : ℕ). (first ≤ k) × (k ≤ past)) state t (omega arith, omega arith)
-    (eitherTrue (λ (k : ℕ). (first ≤ k) × (k ≤ past)) (sameBlock blocks state t) (omega arith, omega arith) (omega arith, omega arith)))
+end-empty blocks state t {first} {past} e =
+    sym (eitherSame (λ (k : ℕ). first ≡ k) state t refl (eitherTrue (λ (k : ℕ). first ≡ k) (sameBlock blocks state t) e refl))
+
+pub end-own : (blocks : List ℕ) (state t first past : ℕ) → state ≡ t → runEnd blocks state t first past ≡ first
+unfolding runEnd
+end-own blocks state t first past e = sym (same _ e refl)
+
+pub end-unrelated : (blocks : List ℕ) (state t first past : ℕ) → (state ≡ t → ⊥) → sameBlock blocks state t ≡ false → runEnd blocks state t first past ≡ first
+unfolding runEnd
+end-unrelated blocks state t first past o e = sym (notSame first o (isFalse past e refl))
+
+-- one that t asks has all
+pub end-asked : (blocks : List ℕ) (state t first past : ℕ) → (state ≡ t → ⊥) → sameBlock blocks state t ≡ true → runEnd blocks state t first past ≡ past
+unfolding runEnd
+end-asked blocks state t first past o e = sym (notSame first o (isTrue first e refl))

@@ -1,12 +1,11 @@
-// The run of transitions that leave a state, and which of it ask another state.
-ghost use Prim.Native.Nat.{_+_, _≤_, _<_};
-ghost use mathlib.Core.Path.{_≡_};
-ghost use lib.ListN.{length, take, drop};
+// The run of transitions that leave a state, and the states that it asks.
+ghost use Prim.Native.Nat.{_≤_, _<_};
+ghost use Rattle.rules.specs.definitions.Limits.{limits};
 ghost use Rattle.rules.specs.definitions.Reading.{statesOf};
-ghost use Rattle.rules.specs.definitions.Certificate.{sameBlock};
 ghost use Rattle.transition.specs.Known.{automatonIn, Known};
-ghost use Rattle.runs.specs.Runs.{IsPast, runEnd};
+ghost use Rattle.runs.specs.Runs.{IsPast, IsDefender, IsFirstDefender};
 use model::Places;
+use pairs::Rows;
 
 // The first of the transitions from r on that does not leave a state.
 pub fn run_past(s: &[u8], count: usize, places: &Places, state: usize, r: usize) -> usize
@@ -24,32 +23,25 @@ pub fn run_past(s: &[u8], count: usize, places: &Places, state: usize, r: usize)
     past
 }
 
-// Two states have the same byte in the n blocks at a place.
-fn same_block(cert: &[u8], blocks: usize, n: usize, v: usize, u: usize) -> bool
-    requires { ⌜ (blocks + n ≤ length (now cert)) × (v < n) × (u < n) ⌝ }
-    ensures { λ r. ⌜ r ≡ sameBlock (take n (drop blocks (now (cert .entry)))) v u ⌝ }
+// The first state from t on that is related to a state and is another one; no number below STATES where there is none.
+pub fn next_defender(rows: &Rows, state: usize, t: usize) -> usize
+    requires { ⌜ (state < limits .states) × (t ≤ limits .states) ⌝ }
+    ensures { λ r. ⌜ IsDefender (now (rows .entry)) state t r ⌝ }
 {
-    cert[blocks + v] == cert[blocks + u]
+    let next = pairs::next_related(rows, state, t);
+    if next != state {
+        return next;
+    }
+    pairs::next_related(rows, state, next + 1)
 }
 
-// Where the run of a state's transitions ends that ask t: its end if the two differ and lie in one block, else its start.
-pub fn run_end(
-    cert: &[u8],
-    blocks: usize,
-    n: usize,
-    state: usize,
-    t: usize,
-    first: usize,
-    past: usize,
-) -> usize
-    requires { ⌜ (blocks + n ≤ length (now cert)) × (state < n) × (t < n) ⌝ }
-    ensures { λ r. ⌜ r ≡ runEnd (take n (drop blocks (now (cert .entry)))) state t first past ⌝ }
+// The first that a run of a state asks, of n states: none where the run is empty.
+pub fn first_defender(rows: &Rows, n: usize, state: usize, first: usize, past: usize) -> usize
+    requires { ⌜ state < limits .states ⌝ }
+    ensures { λ r. ⌜ IsFirstDefender (now (rows .entry)) n state first past r ⌝ }
 {
-    if state == t {
-        return first;
+    if first == past {
+        return n;
     }
-    if !same_block(cert, blocks, n, state, t) {
-        return first;
-    }
-    past
+    next_defender(rows, state, 0)
 }

@@ -3,10 +3,10 @@ use native.Mathlib.Omega.{arith}
 use mathlib.Core.Path.{subst}
 use denote.Ref.{now}
 use Rattle.rule_kind.specs.declared.Kind.{Kind}
-use Rattle.rule_kind.specs.Kinds.{KindStands}
+use Rattle.rule_kind.specs.Kinds.{ruleOf, KindStands}
 use borrow.Author.Needs.{needs}
 use Rattle.transition.specs.KnownLaws.{few-states}
-use Rattle.certificate.specs.Refuting.{blocks-stops, blocks-passes}
+use Rattle.certificate.specs.Refuting.{blocks-stops, blocks-agree, blocks-passes}
 use Rattle.certificate.proofs.judge_blocks.Statement.{statement}
 use Rattle.certificate.proofs.judge_blocks.Tie as tie
 
@@ -30,7 +30,8 @@ judge-flows-requires c κs =
     let passed = c .before .before in
     let start = passed .before .before .before .before .before in
     let stands = subst (λ (k : Kind). KindStands k (now (start .args .s))) (c .enum-told .given .1) (start .pre .2) in
-    (start .pre .0, passed .before .before .blocks-fault .ensures .inside (passed .if1 .left), stands)
+    let judged = passed .before .before .blocks-fault in
+    (start .pre .0, judged .ensures .inside (passed .if1 .left), stands, blocks-agree (ruleOf (start .args .kind) (now (start .args .s))) (start .pre .0) (judged .result) (judged .ensures) (passed .if1 .left))
 
 enum-told-2 : tie.Need-enum-told-2
 enum-told-2 c = search needs
@@ -40,7 +41,8 @@ judge-flows-requires-2 c κs =
     let passed = c .before .before in
     let start = passed .before .before .before .before .before in
     let stands = subst (λ (k : Kind). KindStands k (now (start .args .s))) (c .enum-told2 .given .1) (start .pre .2) in
-    (start .pre .0, passed .before .before .blocks-fault .ensures .inside (passed .if1 .left), stands)
+    let judged = passed .before .before .blocks-fault in
+    (start .pre .0, judged .ensures .inside (passed .if1 .left), stands, blocks-agree (ruleOf (start .args .kind) (now (start .args .s))) (start .pre .0) (judged .result) (judged .ensures) (passed .if1 .left))
 
 enum-told-3 : tie.Need-enum-told-3
 enum-told-3 c = search needs
@@ -50,7 +52,8 @@ judge-flows-requires-3 c κs =
     let passed = c .before .before in
     let start = passed .before .before .before .before .before in
     let stands = subst (λ (k : Kind). KindStands k (now (start .args .s))) (c .enum-told3 .given .1) (start .pre .2) in
-    (start .pre .0, passed .before .before .blocks-fault .ensures .inside (passed .if1 .left), stands)
+    let judged = passed .before .before .blocks-fault in
+    (start .pre .0, judged .ensures .inside (passed .if1 .left), stands, blocks-agree (ruleOf (start .args .kind) (now (start .args .s))) (start .pre .0) (judged .result) (judged .ensures) (passed .if1 .left))
 
 returns-2 : tie.Need-returns-2
 returns-2 c =

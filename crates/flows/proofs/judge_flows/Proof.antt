@@ -11,23 +11,23 @@ use Rattle.field.specs.declared.Cursor.{Cursor}
 use Rattle.transition.specs.Known.{automatonIn}
 use Rattle.transition.specs.KnownLaws.{known-own, few-states, few-transitions}
 use Rattle.runs.specs.Runs.{Splits}
-use Rattle.runs.specs.RunsLaws.{splits-start, splits-next, end-between}
+use Rattle.runs.specs.RunsLaws.{splits-start, splits-next}
 use Rattle.flows.specs.Going.{leftStates, leftDefenders, leftRun, Going, going-stops, going-passes, going-left, going-ends, unaccepted-as, going-at}
-use Rattle.flows.specs.GoingLaws.{going-all, going-state, states-end, going-defender, defenders-end, going-transition, run-ends}
+use Rattle.flows.specs.GoingLaws.{Asked, next-asked, first-asked, going-all, going-state, states-end, going-first, going-next, going-defender, defenders-end, going-transition, run-ends}
 use Rattle.flows.proofs.judge_flows.Statement.{statement}
 use Rattle.flows.proofs.judge_flows.Tie as tie
 
 abbrev Inv-loop2 : tie.InvT-loop2
-Inv-loop2 kind s n count places rows cert blocks remainders₀ target₀ place₀ wrong₀ state first past t end r₀ remainders target place wrong r =
-    (first ≤ r) × (r ≤ end) × Going (ruleOf kind s) s cert n rows blocks (leftRun (ruleOf kind s) s cert n rows blocks state t r end) remainders target (place .at) (wrong .number)
+Inv-loop2 kind s n count places rows cert blocks remainders₀ target₀ place₀ wrong₀ state first past t r₀ remainders target place wrong r =
+    (first ≤ r) × (r ≤ past) × Going (ruleOf kind s) s cert n rows blocks (leftRun (ruleOf kind s) s cert n rows blocks state t r past) remainders target (place .at) (wrong .number)
 
 abbrev μ-loop2 : tie.MeasureT-loop2
-μ-loop2 kind s n count places rows cert blocks remainders₀ target₀ place₀ wrong₀ state first past t end r₀ remainders target place wrong r =
-    end - r
+μ-loop2 kind s n count places rows cert blocks remainders₀ target₀ place₀ wrong₀ state first past t r₀ remainders target place wrong r =
+    past - r
 
 abbrev Inv-loop : tie.InvT-loop
 Inv-loop kind s n count places rows cert blocks remainders₀ target₀ place₀ wrong₀ state first past t₀ remainders target place wrong t =
-    (t ≤ n) × Going (ruleOf kind s) s cert n rows blocks (leftDefenders (ruleOf kind s) s cert n rows blocks state t) remainders target (place .at) (wrong .number)
+    Asked rows n state t × Going (ruleOf kind s) s cert n rows blocks (leftDefenders (ruleOf kind s) s cert n rows blocks state t) remainders target (place .at) (wrong .number)
 
 abbrev μ-loop : tie.MeasureT-loop
 μ-loop kind s n count places rows cert blocks remainders₀ target₀ place₀ wrong₀ state first past t₀ remainders target place wrong t =
@@ -75,45 +75,45 @@ run-past-requires c κs =
     let start = at-flows .before .before .before .before .before .before .before in
     (known-own (start .pre .0), at-flows .flows .inv .1 .most)
 
+first-defender-requires : tie.Need-first-defender-requires Inv-loop2 μ-loop2 Inv-loop μ-loop Inv-flows μ-flows
+first-defender-requires c κs =
+    let at-flows-test = c .before in
+    let start = at-flows-test .before .before .before .before .before .before .before .before in
+    omega (arith, at-flows-test .flows-test, few-states (start .pre .0))
+
 loop-holds : tie.Need-loop-holds Inv-loop2 μ-loop2 Inv-loop μ-loop Inv-flows μ-flows
 loop-holds c =
-    let at-flows-test = c .before in
+    let at-past = c .before in
+    let at-flows-test = at-past .before in
     let at-flows = at-flows-test .before in
-    let start = at-flows .before .before .before .before .before .before .before in
-    (omega arith, going-state (at-flows .flows .state) (start .pre .0) (omega (arith, at-flows-test .flows-test)) (at-flows .flows .inv .2))
-
-run-end-requires : tie.Need-run-end-requires Inv-loop2 μ-loop2 Inv-loop μ-loop Inv-flows μ-flows
-run-end-requires c κs =
-    let at-flows-test = c .before .before .before in
-    let start = at-flows-test .before .before .before .before .before .before .before .before in
-    (start .pre .1, omega (arith, at-flows-test .flows-test), omega (arith, c .loop-test))
+    let start = at-flows .before .before .before .before .before .before .before in (
+      first-asked (few-states (start .pre .0)) (c .first-defender .ensures),
+      going-first (start .pre .0) (start .pre .3) (at-flows .flows .state) (at-flows .flows .first) _ (at-flows .flows .inv .1) (at-past .run-past .ensures) (omega (arith, at-flows-test .flows-test)) _ (c .first-defender .ensures) (going-state (at-flows .flows .state) (start .pre .0) (omega (arith, at-flows-test .flows-test)) (at-flows .flows .inv .2)),
+    )
 
 loop2-holds : tie.Need-loop2-holds Inv-loop2 μ-loop2 Inv-loop μ-loop Inv-flows μ-flows
 loop2-holds c =
-    let at-loop-test = c .before in
-    let at-loop = at-loop-test .before in
-    let at-past = at-loop .before in
-    let at-flows = at-past .before .before in
+    let at-loop = c .before in
+    let at-past = at-loop .before .before in
+    let at-flows-test = at-past .before in
+    let at-flows = at-flows-test .before in
     let start = at-flows .before .before .before .before .before .before .before in
     let past = at-past .run-past .ensures in (
       omega arith,
-      end-between _ _ _ _ _ _ (c .run-end .ensures) (past .from) .0,
-      going-defender (at-flows .flows .state) (at-flows .flows .first) _ (at-loop .loop .t) _ (start .pre .0) (at-flows .flows .inv .1) past (c .run-end .ensures) (omega (arith, at-loop-test .loop-test)) (at-loop .loop .inv .1),
+      past .from,
+      going-defender (start .pre .0) (start .pre .3) (at-flows .flows .state) (at-flows .flows .first) _ (at-flows .flows .inv .1) past (omega (arith, at-flows-test .flows-test)) (at-loop .loop .t) (at-loop .loop .inv .0) (omega (arith, c .loop-test)) (at-loop .loop .inv .1),
     )
 
 judge-flow-requires : tie.Need-judge-flow-requires Inv-loop2 μ-loop2 Inv-loop μ-loop Inv-flows μ-flows
 judge-flow-requires c κs =
     let at-loop2-test = c .before .before in
     let at-loop2 = at-loop2-test .before in
-    let at-end = at-loop2 .before in
-    let at-loop-test = at-end .before in
-    let at-past = at-loop-test .before .before in
+    let at-loop-test = at-loop2 .before in
+    let at-past = at-loop-test .before .before .before in
     let start = at-past .before .before .before .before .before .before .before .before .before in
-    let past = at-past .run-past .ensures in
-    let between = end-between _ _ _ _ _ _ (at-end .run-end .ensures) (past .from) in
     let going = at-loop2 .loop2 .inv .2 in (
       start .pre .0,
-      omega (arith, at-loop2-test .loop2-test, between .1, past .most),
+      omega (arith, at-loop2-test .loop2-test, at-past .run-past .ensures .most),
       omega (arith, at-loop-test .loop-test),
       going .inside,
       going .moves,
@@ -124,10 +124,9 @@ judge-flow-requires c κs =
 add-r : tie.Need-add-r Inv-loop2 μ-loop2 Inv-loop μ-loop Inv-flows μ-flows
 add-r c =
     let at-loop2-test = c .before .before .before .before .before .before .before in
-    let at-end = at-loop2-test .before .before in
-    let at-past = at-end .before .before .before in
+    let at-past = at-loop2-test .before .before .before .before .before in
     let start = at-past .before .before .before .before .before .before .before .before .before in
-    omega (arith, at-loop2-test .loop2-test, end-between _ _ _ _ _ _ (at-end .run-end .ensures) (at-past .run-past .ensures .from) .1, at-past .run-past .ensures .most, few-transitions (start .pre .0))
+    omega (arith, at-loop2-test .loop2-test, at-past .run-past .ensures .most, few-transitions (start .pre .0))
 
 loop2-less : tie.Need-loop2-less Inv-loop2 μ-loop2 Inv-loop μ-loop Inv-flows μ-flows
 loop2-less c =
@@ -140,50 +139,62 @@ loop2-again c =
     let at-judge = at-if1 .before .before .before in
     let at-loop2-test = at-judge .before .before .before in
     let at-loop2 = at-loop2-test .before in
-    let at-end = at-loop2 .before in
-    let at-loop = at-end .before .before in
-    let at-flows = at-loop .before .before .before in
-    let asked = going-transition (at-flows .flows .state) (at-loop .loop .t) (at-loop2 .loop2 .r) (at-end .run-end .result) (omega (arith, at-loop2-test .loop2-test)) (at-loop2 .loop2 .inv .2) in (
+    let at-loop = at-loop2 .before .before in
+    let at-past = at-loop .before .before in
+    let at-flows = at-past .before .before in
+    let asked = going-transition (at-flows .flows .state) (at-loop .loop .t) (at-loop2 .loop2 .r) (at-past .run-past .result) (omega (arith, at-loop2-test .loop2-test)) (at-loop2 .loop2 .inv .2) in (
       omega (arith, at-loop2 .loop2 .inv .0),
       omega (arith, at-loop2-test .loop2-test),
       going-passes _ _ _ _ _ _ asked (at-judge .judge-flow .ensures) (omega (arith, at-if1 .if1 .left)),
     )
 
-add-t : tie.Need-add-t Inv-loop2 μ-loop2 Inv-loop μ-loop Inv-flows μ-flows
-add-t c =
-    let at-loop-test = c .before .before .before in
-    let start = at-loop-test .before .before .before .before .before .before .before .before .before .before .before in
+add-next-defender : tie.Need-add-next-defender Inv-loop2 μ-loop2 Inv-loop μ-loop Inv-flows μ-flows
+add-next-defender c =
+    let at-loop-test = c .before .before in
+    let start = at-loop-test .before .before .before .before .before .before .before .before .before .before .before .before in
     omega (arith, at-loop-test .loop-test, few-states (start .pre .0))
+
+next-defender-requires : tie.Need-next-defender-requires Inv-loop2 μ-loop2 Inv-loop μ-loop Inv-flows μ-flows
+next-defender-requires c κs =
+    let at-loop-test = c .before .before in
+    let at-flows-test = at-loop-test .before .before .before .before in
+    let start = at-flows-test .before .before .before .before .before .before .before .before in
+    (omega (arith, at-flows-test .flows-test, few-states (start .pre .0)), omega (arith, at-loop-test .loop-test, few-states (start .pre .0)))
 
 loop-less : tie.Need-loop-less Inv-loop2 μ-loop2 Inv-loop μ-loop Inv-flows μ-flows
 loop-less c =
     let at-loop-test = c .before .before .before in
-    omega (arith, at-loop-test .loop-test)
+    omega (arith, at-loop-test .loop-test, c .next-defender .ensures .from)
 
 loop-again : tie.Need-loop-again Inv-loop2 μ-loop2 Inv-loop μ-loop Inv-flows μ-flows
 loop-again c =
-    let at-loop2 = c .before in
-    let at-end = at-loop2 .before in
-    let at-loop-test = at-end .before in
-    let at-loop = at-loop-test .before in
-    let at-flows = at-loop .before .before .before in
-    (omega (arith, at-loop-test .loop-test), run-ends (at-flows .flows .state) (at-loop .loop .t) (at-loop2 .loop2 .r) (at-end .run-end .result) (omega (arith, c .loop2-test)) (at-loop2 .loop2 .inv .2))
+    let at-end = c .before in
+    let at-loop2 = at-end .before in
+    let at-loop = at-loop2 .before .before in
+    let at-past = at-loop .before .before in
+    let at-flows-test = at-past .before in
+    let at-flows = at-flows-test .before in
+    let start = at-flows .before .before .before .before .before .before .before in
+    let ended = run-ends (at-flows .flows .state) (at-loop .loop .t) (at-loop2 .loop2 .r) (at-past .run-past .result) (omega (arith, at-end .loop2-test)) (at-loop2 .loop2 .inv .2) in (
+      next-asked (few-states (start .pre .0)) (c .next-defender .ensures),
+      going-next (start .pre .0) (start .pre .3) (at-flows .flows .state) (at-flows .flows .first) _ (at-flows .flows .inv .1) (at-past .run-past .ensures) (omega (arith, at-flows-test .flows-test)) _ _ (c .next-defender .ensures) ended,
+    )
 
 add-state : tie.Need-add-state Inv-loop2 μ-loop2 Inv-loop μ-loop Inv-flows μ-flows
 add-state c =
-    let at-flows-test = c .before .before .before in
+    let at-flows-test = c .before .before .before .before in
     let start = at-flows-test .before .before .before .before .before .before .before .before in
     omega (arith, at-flows-test .flows-test, few-states (start .pre .0))
 
 flows-less : tie.Need-flows-less Inv-loop2 μ-loop2 Inv-loop μ-loop Inv-flows μ-flows
 flows-less c =
-    let at-flows-test = c .before .before .before in
+    let at-flows-test = c .before .before .before .before in
     omega (arith, at-flows-test .flows-test)
 
 flows-again : tie.Need-flows-again Inv-loop2 μ-loop2 Inv-loop μ-loop Inv-flows μ-flows
 flows-again c =
     let at-loop = c .before in
-    let at-past = at-loop .before in
+    let at-past = at-loop .before .before in
     let at-flows-test = at-past .before in
     let at-flows = at-flows-test .before in
     let start = at-flows .before .before .before .before .before .before .before in (
@@ -199,7 +210,7 @@ returns c =
     ⊎-elim
     (λ x. absurd (c .if2 .taken (ap (λ (f : Fault). f .number) (x .2) ∙ at-flows .flows .inv .2 .none)))
     (λ x.
-    let asked = going-transition (at-flows .flows .state) (x .2 .t) (x .5 .r) (x .4 .result) (omega (arith, x .6)) (x .5 .inv .2) in
+    let asked = going-transition (at-flows .flows .state) (x .3 .t) (x .5 .r) (x .1 .result) (omega (arith, x .6)) (x .5 .inv .2) in
     unaccepted-as _ _ _ _ _ _ (x .14) (going-stops _ _ _ _ _ _ asked (x .9 .ensures) (λ z. c .if2 .taken (ap (λ (f : Fault). f .number) (x .14) ∙ z))))
     (at-flows-test .flows-test .came)
 
@@ -255,14 +266,15 @@ judge-flows-spec =
     none-requires
     flows-holds
     run-past-requires
+    first-defender-requires
     loop-holds
-    run-end-requires
     loop2-holds
     judge-flow-requires
     add-r
     loop2-less
     loop2-again
-    add-t
+    add-next-defender
+    next-defender-requires
     loop-less
     loop-again
     add-state

@@ -1,5 +1,5 @@
 -- Laws of the merged transitions in a buffer: what a transition that is looked at comes to.
-use Prim.Native.Nat.{ℕ, _+_, _*_, _-_, _≤_, _<_}
+use Prim.Native.Nat.{ℕ, zero, suc, _+_, _*_, _-_, _≤_, _<_}
 use mathlib.Core.Path.{_≡_, refl, sym, _∙_, ap, ap₂, subst}
 use mathlib.Core.Bool.{Bool, true, false}
 use mathlib.Core.List.{List, [], _∷_, _++_, append-assoc, append-nil}
@@ -20,15 +20,14 @@ use Rattle.rules.specs.definitions.BlockCount.{blockCount}
 use Rattle.quotient.specs.definitions.Quotient.{mergedTransition, fromBlock, isAmong, distinct, byBlock}
 use Rattle.quotient.specs.argument.QuotientLaws.{merged-few, merged-rules, merged-lowest, each-distinct, each-from, transitions-length}
 use Rattle.limits.specs.Sizes.{records}
-use Rattle.transition_record.specs.declared.Fields.{Fields}
-use Rattle.transition.specs.Known.{Known, FieldsOf}
+use Rattle.transition.specs.Known.{Known}
 use Rattle.transition.specs.KnownLaws.{known-states, known-transitions, known-transition}
 use Rattle.writer.specs.Appends.{Appends}
 use Rattle.writer.specs.AppendsLaws.{front-kept, appended-part, appended-front, transitions-append}
 use Rattle.merged_transition.specs.MergedTransition.{BlocksBelow, CanMerge, Merged}
 use Rattle.same_transition.specs.SameTransition.{StandAs, IsRepeated}
 use Rattle.merged_transitions.specs.declared.Kept.{Kept}
-use Rattle.merged_transitions.specs.MergedTransitions.{transitionsIn, Holds, before, here, InBlock, CanKeep, Keeps}
+use Rattle.merged_transitions.specs.MergedTransitions.{transitionsIn, blockFrom, IsFirst, Holds, before, here, InBlock, CanKeep, Keeps}
 use Rattle.merged_transitions.specs.DistinctLaws.{distinct-more, from-more, by-block-more}
 use Rattle.merged_transitions.specs.RoomLaws.{sizeOf, each-first, room}
 
@@ -97,30 +96,35 @@ module _ {s places : List ℕ} {n count : ℕ} (k : Known s n count places) wher
     block-sound : (c r : ℕ) → Each (TransitionRules (blockCount blocks) (modelAt s .actions)) (fromBlock blocks (take r (transitionsIn s)) c)
     block-sound = block-each _ merged-sound
 
--- a transition of another block changes nothing
-pub keep-other : {s places : List ℕ} {n count : ℕ} {blocks : List ℕ} {k b r : ℕ} {weights out : List ℕ} {start : ℕ} {kept : Kept} → CanKeep s places n count blocks k b r weights out start kept → r < count → (getD blocks (getD (transitionsIn s) r noTransition .source) 0 ≡ b → ⊥) → Keeps s blocks b r weights out out start kept
-keep-other {s} {blocks = blocks} {b = b} {r = r} {out = out} {start} {kept} c less other =
+-- where none of so many transitions from r on is of the block b, those of the block among the first r are those with them too
+none-between : (s blocks : List ℕ) (b r left : ℕ) → r + left ≤ length (transitionsIn s) → ((i : ℕ) → r ≤ i → i < r + left → blockFrom s blocks i ≡ b → ⊥) → here blocks (transitionsIn s) b r ≡ here blocks (transitionsIn s) b (r + left)
+none-between s blocks b r zero h none = let e : r ≡ r + 0 = omega arith in ap (here blocks (transitionsIn s) b) e
+none-between s blocks b r (suc left) h none =
+    let e : r + left + 1 ≡ r + suc left = omega arith in
+    none-between s blocks b r left (omega arith) (λ i from less. none i from (omega arith))
+    ∙ ap (distinct (blockCount blocks) [])
+    (sym
+    (from-more blocks b (transitionsIn s) (r + left) (omega arith)
+    ∙ ap (λ (l : List Transition). fromBlock blocks (take (r + left) (transitionsIn s)) b ++ l) (sym (notSame _ (none (r + left) (omega arith) (omega arith)) refl))
+    ∙ append-nil (fromBlock blocks (take (r + left) (transitionsIn s)) b)))
+    ∙ ap (here blocks (transitionsIn s) b) e
+
+-- so the next one to look at is the first of the block from r on
+pub skip-others : {s places : List ℕ} {n count : ℕ} {blocks : List ℕ} {b r x start : ℕ} {out : List ℕ} {kept : Kept} → Known s n count places → IsFirst s blocks count b r x → InBlock s blocks b r start out kept → InBlock s blocks b x start out kept
+skip-others {s} {blocks = blocks} {b} {r} {x} {out = out} {kept} k f h =
+    let e : r + (x - r) ≡ x = omega (arith, f .from) in
     record {
-      held =
-          record {
-            starts = c .held .starts;
-            holds = subst (λ (l : List Transition). Holds (before blocks (transitionsIn s) b ++ l) out kept) (sym same-here) (c .held .holds);
-          };
-      none = c .none;
-      size = refl;
+      starts = h .starts;
+      holds =
+          subst (λ (l : List Transition). Holds (before blocks (transitionsIn s) b ++ l) out kept)
+          (none-between s blocks b r (x - r) (omega (arith, e, f .to, count-is k)) (λ i from less. f .none i from (omega (arith, less, e))) ∙ ap (here blocks (transitionsIn s) b) e)
+          (h .holds);
     }
-  where
-    same-here : here blocks (transitionsIn s) b (r + 1) ≡ here blocks (transitionsIn s) b r
-    same-here =
-        ap (distinct (blockCount blocks) [])
-        (from-more blocks b (transitionsIn s) r (omega (arith, less, count-is (c .known)))
-        ∙ ap (λ (l : List Transition). fromBlock blocks (take r (transitionsIn s)) b ++ l) (sym (notSame _ other refl))
-        ∙ append-nil (fromBlock blocks (take r (transitionsIn s)) b))
 
 -- one of the block b
-module _ {s places : List ℕ} {n count : ℕ} {blocks : List ℕ} {k b r : ℕ} {weights out : List ℕ} {start : ℕ} {kept : Kept} (c : CanKeep s places n count blocks k b r weights out start kept) (less : r < count) (of : getD blocks (getD (transitionsIn s) r noTransition .source) 0 ≡ b) where
+module _ {s places : List ℕ} {n count : ℕ} {blocks : List ℕ} {k b r : ℕ} {weights out : List ℕ} {start : ℕ} {kept : Kept} (c : CanKeep s places n count blocks k b r weights out start kept) where
   below : r < length (transitionsIn s)
-  below = omega (arith, less, count-is (c .known))
+  below = omega (arith, c .less, count-is (c .known))
 
   abbrev done : List Transition
   done = before blocks (transitionsIn s) b ++ here blocks (transitionsIn s) b r
@@ -131,16 +135,16 @@ module _ {s places : List ℕ} {n count : ℕ} {blocks : List ℕ} {k b r : ℕ}
   pub can-merge : CanMerge s places r blocks k weights out (kept .size)
   can-merge =
       record {
-        transition = known-transition (c .known) less;
+        transition = known-transition (c .known) (c .less);
         merging = subst (λ (x : ℕ). BlocksBelow x k blocks) (c .known .states) (c .merging);
         none = c .none;
         room =
-            omega (arith, room blocks (transitionsIn s) (shorter (c .known) (c .merging)) k b r (blocks-below (c .known) (c .merging)) (c .block) below of, few-bytes (c .known), c .large, c .held .holds .size, transitions-length done, transitionBytes-length (getD (transitionsIn s) r noTransition), entries-at (c .known) r less);
+            omega (arith, room blocks (transitionsIn s) (shorter (c .known) (c .merging)) k b r (blocks-below (c .known) (c .merging)) (c .block) below (c .of), few-bytes (c .known), c .large, c .held .holds .size, transitions-length done, transitionBytes-length (getD (transitionsIn s) r noTransition), entries-at (c .known) r (c .less));
       }
 
   pub few-kept : kept .count ≤ records
   few-kept =
-      omega (arith, c .held .holds .count, sumOver-length done, sumOver-most (λ (t : Transition). 1) sizeOf done (each-all _ (λ t. omega (arith, transitionBytes-length t)) done), room blocks (transitionsIn s) (shorter (c .known) (c .merging)) k b r (blocks-below (c .known) (c .merging)) (c .block) below of, few-bytes (c .known))
+      omega (arith, c .held .holds .count, sumOver-length done, sumOver-most (λ (t : Transition). 1) sizeOf done (each-all _ (λ t. omega (arith, transitionBytes-length t)) done), room blocks (transitionsIn s) (shorter (c .known) (c .merging)) k b r (blocks-below (c .known) (c .merging)) (c .block) below (c .of), few-bytes (c .known))
 
   module _ {weights′ out′ : List ℕ} {next : ℕ} (m : Merged s r blocks weights′ (kept .size) out out′ next) where
     abbrev added : Transition
@@ -148,7 +152,7 @@ module _ {s places : List ℕ} {n count : ℕ} {blocks : List ℕ} {k b r : ℕ}
 
     appended : Appends (transitionBytes added) (kept .size) out out′ next
     appended =
-        subst (λ (t : Transition). Appends (transitionBytes (mergedTransition blocks t)) (kept .size) out out′ next) (sym (transition-at (c .known) r less)) (m .appended)
+        subst (λ (t : Transition). Appends (transitionBytes (mergedTransition blocks t)) (kept .size) out out′ next) (sym (transition-at (c .known) r (c .less))) (m .appended)
 
     front : take (kept .size) out′ ≡ transitionsBytes done
     front = front-kept appended ∙ c .held .holds .bytes
@@ -180,7 +184,7 @@ module _ {s places : List ℕ} {n count : ℕ} {blocks : List ℕ} {k b r : ℕ}
     one-more =
         ap (distinct (blockCount blocks) [])
         (from-more blocks b (transitionsIn s) r below
-        ∙ ap (λ (l : List Transition). fromBlock blocks (take r (transitionsIn s)) b ++ l) (sym (same [] of refl)))
+        ∙ ap (λ (l : List Transition). fromBlock blocks (take r (transitionsIn s)) b ++ l) (sym (same [] (c .of) refl)))
         ∙ distinct-more (blockCount blocks) (fromBlock blocks (take r (transitionsIn s)) b) added (each-map _ _ (λ t h. h .positive) (fromBlock blocks (take r (transitionsIn s)) b) (block-sound (c .known) (c .merging) b r))
 
     -- the same as one before it
@@ -254,18 +258,3 @@ block-ends s blocks b r start {out} {kept} e h =
 pub none-held : (s blocks out : List ℕ) → Holds (before blocks (transitionsIn s) 0) out (record { count = 0; size = 0 })
 unfolding byBlock transitionsBytes
 none-held s blocks out = record { bytes = refl; size = refl; count = refl }
-
--- the block of the transition's source, found by its fields
-module _ {s places : List ℕ} {n count : ℕ} {blocks : List ℕ} {k b r : ℕ} {weights out : List ℕ} {start : ℕ} {kept : Kept} (c : CanKeep s places n count blocks k b r weights out start kept) {f : Fields} (t : FieldsOf s r f) {x : ℕ} (e : x ≡ getD blocks (f .source) 0) where
-  found : x ≡ getD blocks (getD (transitionsIn s) r noTransition .source) 0
-  unfolding automatonOf
-  found = e ∙ ap (λ (v : ℕ). getD blocks v 0) (t .source)
-
-  pub block-at : x ≡ b → getD blocks (getD (transitionsIn s) r noTransition .source) 0 ≡ b
-  block-at of = sym found ∙ of
-
-  pub other-at : (x ≡ b → ⊥) → getD blocks (getD (transitionsIn s) r noTransition .source) 0 ≡ b → ⊥
-  other-at other of = other (found ∙ of)
-
-pub block-known : {s places : List ℕ} {n count r k : ℕ} {f : Fields} {blocks : List ℕ} → Known s n count places → BlocksBelow n k blocks → FieldsOf s r f → f .source < length blocks
-block-known k b f = omega (arith, f .from, k .states, b .whole)

@@ -4,7 +4,9 @@ ghost use lib.ListN.{length};
 ghost use Rattle.limits.specs.Sizes.{records};
 ghost use Rattle.transition.specs.Known.{Known};
 ghost use Rattle.merged_transition.specs.MergedTransition.{BlocksBelow};
-ghost use Rattle.merged_transitions.specs.MergedTransitions.{CanKeep, Keeps, CanWrite, Wrote, WroteAll};
+ghost use Rattle.merged_transitions.specs.MergedTransitions.{Chained, CanKeep, Keeps, CanWrite, Wrote, WroteAll};
+use limits::STATES;
+use limits::TRANSITIONS;
 use merged_transition::Weights;
 use model::Places;
 
@@ -14,7 +16,37 @@ pub struct Kept {
     pub size: usize,
 }
 
-// The transition r merged and appended, if it leaves a member of the block b and is the same as none from `start` on.
+// For each block the first transition that leaves one of its members, or the count where there is none.
+type Heads = [u16; STATES];
+
+// For each transition the next one that leaves a member of the same block, or the count.
+type Chain = [u16; TRANSITIONS];
+
+// The transitions chained by block, from the last to the first.
+fn chain_by_block(
+    s: &[u8],
+    n: usize,
+    count: usize,
+    places: &Places,
+    blocks: &[u8],
+    k: usize,
+    heads: &mut Heads,
+    chain: &mut Chain,
+)
+    requires { ⌜ Known (now s) n count (now places) × BlocksBelow n k (now blocks) × Chained (now s) (now blocks) count count (now heads) (now chain) ⌝ }
+    ensures { λ x. ⌜ Chained (now (s .entry)) (now (blocks .entry)) count 0 (now (heads .exit)) (now (chain .exit)) ⌝ }
+{
+    let mut r = count;
+    while 0 < r {
+        r -= 1;
+        let source = transition::fields_of(s, places, r).source;
+        let b = merged_transition::block_of(blocks, source);
+        chain[r] = heads[b];
+        heads[b] = r as u16;
+    }
+}
+
+// The transition r of the block b merged and appended, if it is the same as none from `start` on.
 fn keep_of_block(
     s: &[u8],
     n: usize,
@@ -29,13 +61,9 @@ fn keep_of_block(
     start: usize,
     kept: Kept,
 ) -> Kept
-    requires { ⌜ CanKeep (now s) (now places) n count (now blocks) k b r (now weights) (now out) start kept × (r < count) ⌝ }
+    requires { ⌜ CanKeep (now s) (now places) n count (now blocks) k b r (now weights) (now out) start kept ⌝ }
     ensures { λ x. ⌜ Keeps (now (s .entry)) (now (blocks .entry)) b r (now (weights .exit)) (now (out .entry)) (now (out .exit)) start x ⌝ }
 {
-    let source = transition::fields_of(s, places, r).source;
-    if merged_transition::block_of(blocks, source) != b {
-        return kept;
-    }
     let next = merged_transition::write_merged(s, places, r, blocks, k, weights, out, kept.size);
     let longer = Kept {
         count: kept.count + 1,
@@ -56,16 +84,18 @@ fn write_block(
     blocks: &[u8],
     k: usize,
     b: usize,
+    heads: &Heads,
+    chain: &Chain,
     weights: &mut Weights,
     out: &mut [u8],
     initial: Kept,
 ) -> Kept
-    requires { ⌜ CanWrite (now s) (now places) n count (now blocks) k b (now weights) (now out) initial ⌝ }
+    requires { ⌜ CanWrite (now s) (now places) n count (now blocks) k b (now heads) (now chain) (now weights) (now out) initial ⌝ }
     ensures { λ x. ⌜ Wrote (now (s .entry)) (now (blocks .entry)) b (now (weights .exit)) (now (out .entry)) (now (out .exit)) x ⌝ }
 {
     let start = initial.size;
     let mut kept = initial;
-    let mut r = 0;
+    let mut r = heads[b] as usize;
     while r < count {
         kept = keep_of_block(
             s,
@@ -81,7 +111,7 @@ fn write_block(
             start,
             kept,
         );
-        r += 1;
+        r = chain[r] as usize;
     }
     kept
 }
@@ -99,12 +129,28 @@ pub fn write_transitions(
     requires { ⌜ Known (now s) n count (now places) × BlocksBelow n k (now blocks) × (records ≤ length (now out)) ⌝ }
     ensures { λ x. ⌜ WroteAll (now (s .entry)) (now (blocks .entry)) k (now (out .entry)) (now (out .exit)) x ⌝ }
 {
+    let mut heads = [count as u16; STATES];
+    let mut chain = [0; TRANSITIONS];
+    chain_by_block(s, n, count, places, blocks, k, &mut heads, &mut chain);
     let mut weights = merged_transition::no_weights();
     let mut kept = Kept { count: 0, size: 0 };
-    let mut b = 0;
-    while b < k {
-        kept = write_block(s, n, count, places, blocks, k, b, &mut weights, out, kept);
-        b += 1;
+    let mut block = 0;
+    while block < k {
+        kept = write_block(
+            s,
+            n,
+            count,
+            places,
+            blocks,
+            k,
+            block,
+            &heads,
+            &chain,
+            &mut weights,
+            out,
+            kept,
+        );
+        block += 1;
     }
     kept
 }

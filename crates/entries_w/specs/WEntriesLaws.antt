@@ -42,12 +42,9 @@ w-read x y z =
       small = z .small;
     }
 
--- the test's two answers
+-- a test that refuses
 pub tells-wrong : {n : ℕ} {rows : List ℕ} {lowest v u w : ℕ} → WrongW n rows lowest v u w → TellsW n rows lowest v u w false
 tells-wrong o = record { wrong = λ e. o; right = λ e. absurd (false-not e) }
-
-pub tells-right : {n : ℕ} {rows : List ℕ} {lowest v u w : ℕ} → RightW n rows lowest v u w → TellsW n rows lowest v u w true
-tells-right r = record { wrong = λ e. absurd (false-not (sym e)); right = λ e. r }
 
 -- before each w entry: the keys before the lowest have at most v rows and x more, so at most `ahead` entries follow
 pub record TakingWs (C : List ℕ) (start entries n : ℕ) (rows : List ℕ) (d first : ℕ) (before remainders targetBefore target : List ℤ) (left at lowest nonzero asked : ℕ) : Type 0 where

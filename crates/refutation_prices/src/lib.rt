@@ -17,20 +17,21 @@ use pairs::Rows;
 use prices::Prices;
 use rule_kind::Kind;
 
-// 15 and 16, of a challenger with the action a. Where there is no move the prices y are x.
+// 15 and 16, of a challenger with the action a. Where there is no move the prices y are x. Called twice, it stays out of line, and its first parameters
+// are those that its loops read most: they come in registers.
 fn conditions_fault(
-    kind: Kind,
+    x: &Prices,
+    y: &Prices,
     s: &[u8],
-    n: usize,
     count: usize,
     places: &Places,
+    a: usize,
+    kind: Kind,
+    n: usize,
     rows: &Rows,
     q: usize,
     t: usize,
-    a: usize,
     l: i64,
-    x: &Prices,
-    y: &Prices,
     g: &Prices,
 ) -> Fault
     requires { ⌜ Asked kind (now s) n count (now places) q t × SmallPrices n (now x) × SmallPrices n (now y) × SmallPrices n (now g) × (mag l < 2 ^ 31) ⌝ }
@@ -85,10 +86,10 @@ pub fn prices_fault(
     if !rule_kind::has_move(kind, a) {
         prices::prices_at(cert, past, n, g);
         let l = rule_kind::further_price(kind, cert, past + 4 * n);
-        return conditions_fault(kind, s, n, count, places, rows, q, t, a, l, x, x, g);
+        return conditions_fault(x, x, s, count, places, a, kind, n, rows, q, t, l, g);
     }
     prices::prices_at(cert, past, n, y);
     prices::prices_at(cert, past + 4 * n, n, g);
     let l = rule_kind::further_price(kind, cert, past + 8 * n);
-    conditions_fault(kind, s, n, count, places, rows, q, t, a, l, x, y, g)
+    conditions_fault(x, y, s, count, places, a, kind, n, rows, q, t, l, g)
 }

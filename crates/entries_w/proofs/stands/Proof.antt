@@ -1,10 +1,9 @@
 -- `stands` meets its contract, test by test.
 use native.Mathlib.Omega.{arith}
 use borrow.Author.Needs.{needs}
-use borrow.Author.Tests.{not-true, not-false}
 use mathlib.Core.Path.{sym, _∙_}
 use Rattle.entries_w.specs.Matching.{unordered, absent, otherAbsent, unrelated, nothing}
-use Rattle.entries_w.specs.WEntriesLaws.{tells-wrong, tells-right}
+use Rattle.entries_w.specs.WEntriesLaws.{tells-wrong}
 use Rattle.entries_w.proofs.stands.Statement.{statement}
 use Rattle.entries_w.proofs.stands.Tie as tie
 
@@ -15,44 +14,33 @@ add-pair : tie.Need-add-pair
 add-pair c = search needs
 
 returns : tie.Need-returns
-returns c = tells-wrong (unordered (omega arith))
+returns c = tells-wrong (absent (omega arith))
 
 returns-2 : tie.Need-returns-2
-returns-2 c = tells-wrong (absent (omega arith))
+returns-2 c = tells-wrong (otherAbsent (omega arith))
 
 returns-3 : tie.Need-returns-3
-returns-3 c = tells-wrong (otherAbsent (omega arith))
+returns-3 c = tells-wrong (nothing (omega arith))
+
+returns-4 : tie.Need-returns-4
+returns-4 c = tells-wrong (unordered (omega arith))
 
 related-requires : tie.Need-related-requires
 related-requires c κs = (omega arith, omega arith)
 
-returns-4 : tie.Need-returns-4
-returns-4 c = tells-wrong (unrelated (omega arith) (omega arith) (sym (c .before .related .ensures) ∙ not-true _ (c .if4 .taken)))
-
 returns-5 : tie.Need-returns-5
-returns-5 c = tells-wrong (nothing (omega arith))
-
-returns-6 : tie.Need-returns-6
-returns-6 c =
-    tells-right
-    (record {
-      ordered = omega arith;
-      present = omega arith;
-      otherPresent = omega arith;
-      related = sym (c .before .before .related .ensures) ∙ not-false _ (c .before .if4 .left);
-      some = omega arith;
-    })
+returns-5 c =
+    record {
+      wrong = λ e. unrelated (omega arith) (omega arith) (sym (c .related .ensures) ∙ e);
+      right = λ e.
+          record {
+            ordered = omega arith;
+            present = omega arith;
+            otherPresent = omega arith;
+            related = sym (c .related .ensures) ∙ e;
+            some = omega arith;
+          };
+    }
 
 pub stands-spec : {M : Type 1} → statement M
-stands-spec =
-    tie.close
-    (tie.spec
-    mul-pair
-    add-pair
-    returns
-    returns-2
-    returns-3
-    related-requires
-    returns-4
-    returns-5
-    returns-6)
+stands-spec = tie.close (tie.spec mul-pair add-pair returns returns-2 returns-3 returns-4 related-requires returns-5)

@@ -68,7 +68,13 @@ module _ {s places : List ℕ} {r : ℕ} {blocks : List ℕ} {k : ℕ} {weights 
 
     pub merging-divides : CanDivide s places r blocks added
     merging-divides =
-        record { transition = m .transition; whole = m .merging .whole; below = merging-adds .below; size = w .size }
+        record {
+          transition = m .transition;
+          whole = m .merging .whole;
+          below = merging-adds .below;
+          size = w .size;
+          light = λ b h. omega (arith, w .held b h, weight-light blocks (entriesOf s r) b, entries-known (m .transition) .whole, entries-known (m .transition) .light);
+        }
 
     -- the common divisor of the blocks' weights is that of the weights added up
     module _ {g : ℕ} (common : g ≡ divisorOf 0 (weightsByBlock blocks added (entriesOf s r))) where

@@ -43,12 +43,13 @@ pub record WeightsOf (blocks : List ℕ) (es : List Entry) (weights : List ℕ) 
   pub counted : count ≡ length (weightEntries (weightIn weights) (limits .states))
   pub held : (b : ℕ) → b < limits .states → weightIn weights b ≡ weightToBlock blocks es b
 
--- a transition r of a sound model, a block for each state, and a table
+-- a transition r of a sound model, a block for each state, and a table of weights that their fields have room for
 pub record CanDivide (s places : List ℕ) (r : ℕ) (blocks weights : List ℕ) : Type 0 where
   pub transition : KnownTransition s places r
   pub whole : length blocks ≡ statesOf s
   pub below : (v : ℕ) → v < statesOf s → getD blocks v 0 < limits .states
   pub size : length weights ≡ limits .states
+  pub light : (b : ℕ) → b < limits .states → weightIn weights b < 65536
 
 -- a table, and the first k of its blocks
 pub record CanCount (weights : List ℕ) (k : ℕ) : Type 0 where

@@ -12,7 +12,7 @@ use limits::STATES;
 use model::Places;
 
 // The weight to each block; all zero between transitions.
-pub type Weights = [usize; STATES];
+pub type Weights = [u32; STATES];
 
 pub fn no_weights() -> Weights
     ensures { λ r. ⌜ NoWeights r ⌝ }
@@ -54,10 +54,10 @@ fn add_weights(s: &[u8], places: &Places, r: usize, blocks: &[u8], weights: &mut
     while 0 < left {
         let entry = transition::entry_at(s, place);
         let b = block_of(blocks, entry.state);
-        let weight = weights[b];
+        let weight = weights[b] as usize;
         let sum = weight + entry.weight;
         count = counted(count, weight, sum);
-        weights[b] = sum;
+        weights[b] = sum as u32;
         place = entry.next;
         left -= 1;
     }
@@ -76,7 +76,7 @@ fn common_divisor(s: &[u8], places: &Places, r: usize, blocks: &[u8], weights: &
     while 0 < left {
         let entry = transition::entry_at(s, place);
         let b = block_of(blocks, entry.state);
-        let weight = weights[b];
+        let weight = weights[b] as usize;
         g = transition_terms::with_weight(g, weight);
         if g == 1 {
             return 1;
@@ -103,7 +103,7 @@ fn write_entry(weights: &mut Weights, b: usize, g: usize, out: &mut [u8], at: us
     requires { ⌜ CanWriteEntry (now weights) b g (now out) at ⌝ }
     ensures { λ x. ⌜ WroteEntry g b (now (weights .entry)) (now (weights .exit)) at (now (out .entry)) (now (out .exit)) x ⌝ }
 {
-    let weight = weights[b];
+    let weight = weights[b] as usize;
     if weight == 0 {
         return at;
     }

@@ -33,6 +33,9 @@ element-copy-out-weight c =
 mul-weight : tie.Need-mul-weight Inv-loop μ-loop
 mul-weight c = record { fits = omega (arith, element-copy-out-weight c) }
 
+cast-weight : tie.Need-cast-weight Inv-loop μ-loop
+cast-weight c = record { fits = omega (arith, adding-fits (c .before .before .before .before .loop .inv) (element-copy-out-weight (c .before))) }
+
 add-sum : tie.Need-add-sum Inv-loop μ-loop
 add-sum c =
     record {
@@ -41,6 +44,13 @@ add-sum c =
 
 counted-requires : tie.Need-counted-requires Inv-loop μ-loop
 counted-requires c κs = (adding-few (c .before .before .before .before .before .loop .inv), omega arith)
+
+cast-weights : tie.Need-cast-weights Inv-loop μ-loop
+cast-weights c =
+    let at-block = c .before .before .before in
+    record {
+      fits = omega (arith, adding-fits (at-block .before .before .before .loop .inv) (element-copy-out-weight at-block), at-block .before .entry-at .ensures .small);
+    }
 
 mul-weights : tie.Need-mul-weights Inv-loop μ-loop
 mul-weights c = record { fits = omega (arith, element-copy-out-weight (c .before .before .before)) }
@@ -73,8 +83,10 @@ add-weights-spec =
     block-of-requires
     mul-weight
     element-copy-out-weight
+    cast-weight
     add-sum
     counted-requires
+    cast-weights
     mul-weights
     element-write-weights
     sub-left

@@ -31,6 +31,9 @@ element-copy-out-weight c =
 mul-weight : tie.Need-mul-weight Inv-loop μ-loop
 mul-weight c = record { fits = omega (arith, element-copy-out-weight c) }
 
+cast-weight : tie.Need-cast-weight Inv-loop μ-loop
+cast-weight c = record { fits = omega (arith, c .before .before .before .before .before .before .before .before .before .pre .light _ (element-copy-out-weight (c .before))) }
+
 with-weight-requires : tie.Need-with-weight-requires Inv-loop μ-loop
 with-weight-requires c κs = tt
 
@@ -66,6 +69,7 @@ common-divisor-spec =
     block-of-requires
     mul-weight
     element-copy-out-weight
+    cast-weight
     with-weight-requires
     returns
     sub-left

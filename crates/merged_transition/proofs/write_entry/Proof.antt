@@ -11,6 +11,9 @@ mul-weight c = search needs
 element-copy-out-weight : tie.Need-element-copy-out-weight
 element-copy-out-weight c = search needs
 
+cast-weight : tie.Need-cast-weight
+cast-weight c = search needs
+
 returns : tie.Need-returns
 returns c = wrote-none (c .before .before .before .pre) (omega arith)
 
@@ -43,6 +46,7 @@ write-entry-spec =
     (tie.spec
     mul-weight
     element-copy-out-weight
+    cast-weight
     returns
     mul-weights
     element-write-weights

@@ -1,2 +1,4 @@
 pub mod Prices
+pub mod Adding
 pub mod PricesLaws
+pub mod AddingLaws

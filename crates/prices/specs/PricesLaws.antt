@@ -30,6 +30,7 @@ use Rattle.transition.specs.Entries.{EntryTaken}
 use Rattle.signed.specs.Terms.{Addable, WithTerm}
 use Rattle.signed.specs.TermsLaws.{abs-add, abs-term, mag-abs, term-is, term-fits}
 use Rattle.prices.specs.Prices.{HoldsPrices, SmallPrices, priceIn, IsPrice, HasPrice, Summable, IsSum}
+use Rattle.prices.specs.Adding.{Summing}
 
 -- a table holds no price at first
 pub none-held : (X : ℕ → ℤ) (table : List ℤ) → length table ≡ limits .states → HoldsPrices 0 X table
@@ -112,13 +113,6 @@ entries-small table (e ∷ es) h =
     let term = pos (e .weight) *ℤ priceIn table (e .state) in
     omega (arith, abs-add term (priceOfEntries es (priceIn table)), abs-term (e .weight) (priceIn table (e .state)) (2 ^ 31) (h .0 .small), entries-small table es (h .1))
 
--- what is known before each entry: the sum so far and the entries left make up the sum over all
-pub record Summing (s : List ℕ) (table : List ℤ) (all : List Entry) (left at : ℕ) (sum : ℤ) : Type 0 where
-  pub whole : at + 3 * left ≤ length s
-  pub prices : Each (HasPrice table) (entriesAt s left at)
-  pub small : natAbs sum + 2 ^ 31 * sumOver (λ (e : Entry). e .weight) (entriesAt s left at) ≤ 2 ^ 31 * 65535
-  pub makesUp : sum +ℤ priceOfEntries (entriesAt s left at) (priceIn table) ≡ priceOfEntries all (priceIn table)
-
 module _ {s : List ℕ} {table : List ℤ} where
   pub summing-start : {count at place : ℕ} → Summable s count at table → place ≡ at → Summing s table (entriesAt s count at) count place (pos 0)
   summing-start {count} {at} h e =
@@ -126,6 +120,12 @@ module _ {s : List ℕ} {table : List ℤ} where
       (record { whole = h .whole; prices = h .prices; small = omega (arith, h .weights); makesUp = +ℤ-idl _ })
 
   module _ {all : List Entry} where
+    -- a sum that the machine reads back from its bits
+    pub summing-back : {left at : ℕ} {sum : ℤ} → Summing s table all left at sum → Summing s table all left at (toZ w64 (ofZ w64 sum))
+    summing-back {left} {at} {sum} h =
+        let fits : SFits w64 sum = record { sfits = omega (arith, mag-abs sum, h .small) } in
+        subst (λ (y : ℤ). Summing s table all left at y) (sym (toZ-ofZ fits)) h
+
     -- the first entry left has a price
     pub summing-price : (left : ℕ) {at : ℕ} {sum : ℤ} {r : read.Entry} → Summing s table all left at sum → 0 < left → EntryTaken s at r → HasPrice table (record { state = r .state; weight = r .weight })
     unfolding Each entriesAt
@@ -159,10 +159,8 @@ module _ {s : List ℕ} {table : List ℤ} where
         let one : left ≡ suc left - 1 = omega arith in
         let light = summing-price _ h some t .small in
         let turned = one-turn left at sum h r t light z (subst (λ (y : ℤ). WithTerm sum (r .weight) y z) (price-read p light) w) in
-        let fits : SFits w64 z = record { sfits = omega (arith, mag-abs z, turned .small) } in
         subst (λ (k : ℕ). Summing s table all k (r .next .at) (toZ w64 (ofZ w64 z))) one
-        (subst (λ (k : ℕ). Summing s table all left k (toZ w64 (ofZ w64 z))) (sym (t .next))
-        (subst (λ (y : ℤ). Summing s table all left (at + 3) y) (sym (toZ-ofZ fits)) turned))
+        (subst (λ (k : ℕ). Summing s table all left k (toZ w64 (ofZ w64 z))) (sym (t .next)) (summing-back turned))
 
     pub summing-end : (left : ℕ) {at : ℕ} {sum : ℤ} → Summing s table all left at sum → left ≤ 0 → IsSum all table sum
     unfolding entriesAt priceOfEntries

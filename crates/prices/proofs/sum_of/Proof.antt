@@ -1,7 +1,8 @@
 -- `sum_of` meets its contract. The invariant is `Summing`.
 use native.Mathlib.Omega.{arith}
 use Rattle.rules.specs.definitions.Reading.{entriesAt}
-use Rattle.prices.specs.PricesLaws.{Summing, summing-start, summing-price, summing-asks, summing-turn, summing-end}
+use Rattle.prices.specs.Adding.{Summing}
+use Rattle.prices.specs.PricesLaws.{summing-start, summing-price, summing-asks, summing-turn, summing-end}
 use mir.Syntax.{w64}
 use mir.Val.{toZ}
 use borrow.Author.Needs.{needs}

@@ -1,44 +1,35 @@
--- `sums_of` meets its contract. The invariant is `Summing`, for each table.
+-- `sums_of` meets its contract. The invariant is `SummingBoth`.
+use mathlib.Core.Path.{refl}
 use native.Mathlib.Omega.{arith}
 use Rattle.rules.specs.definitions.Reading.{entriesAt}
-use Rattle.prices.specs.PricesLaws.{Summing, summing-start, summing-price, summing-asks, summing-turn, summing-end}
-use mir.Syntax.{w64}
-use mir.Val.{toZ}
+use Rattle.prices.specs.Adding.{SummingBoth}
+use Rattle.prices.specs.PricesLaws.{summing-start, summing-back, summing-end}
+use Rattle.prices.specs.AddingLaws.{adds-then, ready, ready-then}
 use borrow.Author.Needs.{needs}
 use Rattle.prices.proofs.sums_of.Statement.{statement}
 use Rattle.prices.proofs.sums_of.Tie as tie
 
 abbrev Inv-loop : tie.InvT-loop
-Inv-loop s at count first second left₀ place₀ one₀ other₀ left place one other =
-    Summing s first (entriesAt s count at) left (place .at) (toZ w64 one)
-    × Summing s second (entriesAt s count at) left (place .at) (toZ w64 other)
+Inv-loop s at count first second left₀ sums₀ left sums = SummingBoth s first second (entriesAt s count at) left sums
 
 abbrev μ-loop : tie.MeasureT-loop
-μ-loop s at count first second left₀ place₀ one₀ other₀ left place one other = left
+μ-loop s at count first second left₀ sums₀ left sums = left
 
 new-requires : tie.Need-new-requires Inv-loop μ-loop
 new-requires c κs = search needs
 
 loop-holds : tie.Need-loop-holds Inv-loop μ-loop
 loop-holds c =
-    (summing-start (c .before .before .pre .0) (c .new .ensures), summing-start (c .before .before .pre .1) (c .new .ensures))
+    record {
+      one = summing-start (c .before .before .pre .0) (c .new .ensures);
+      other = summing-start (c .before .before .pre .1) (c .new .ensures);
+    }
 
-entry-at-requires : tie.Need-entry-at-requires Inv-loop μ-loop
-entry-at-requires c κs = omega arith
+with-two-requires : tie.Need-with-two-requires Inv-loop μ-loop
+with-two-requires c κs = ready (c .before .loop .inv) (omega arith)
 
-price-of-requires : tie.Need-price-of-requires Inv-loop μ-loop
-price-of-requires c κs = summing-price _ (c .before .before .loop .inv .0) (omega arith) (c .entry-at .ensures) .state
-
-price-of-requires-2 : tie.Need-price-of-requires-2 Inv-loop μ-loop
-price-of-requires-2 c κs = price-of-requires (c .before) κs
-
-with-term-requires : tie.Need-with-term-requires Inv-loop μ-loop
-with-term-requires c κs =
-    summing-asks _ (c .before .before .before .before .loop .inv .0) (omega arith) (c .before .before .entry-at .ensures) (c .before .price-of .ensures)
-
-with-term-requires-2 : tie.Need-with-term-requires-2 Inv-loop μ-loop
-with-term-requires-2 c κs =
-    summing-asks _ (c .before .before .before .before .before .loop .inv .1) (omega arith) (c .before .before .before .entry-at .ensures) (c .before .price-of2 .ensures)
+with-two-requires-2 : tie.Need-with-two-requires-2 Inv-loop μ-loop
+with-two-requires-2 c κs = ready-then (ready (c .before .before .loop .inv) (omega arith)) (c .with-two .ensures) refl
 
 sub-left : tie.Need-sub-left Inv-loop μ-loop
 sub-left c = omega arith
@@ -48,14 +39,15 @@ loop-less c = omega arith
 
 loop-again : tie.Need-loop-again Inv-loop μ-loop
 loop-again c =
-    let inv = c .before .before .before .before .before .before .before .loop .inv in
-    let entry = c .before .before .before .before .before .entry-at .ensures in (
-      summing-turn _ (inv .0) (omega arith) entry (c .before .before .before .before .price-of .ensures) (c .before .before .with-term .ensures),
-      summing-turn _ (inv .1) (omega arith) entry (c .before .before .before .price-of2 .ensures) (c .before .with-term2 .ensures),
-    )
+    adds-then (c .before .with-two .ensures) (c .with-two2 .ensures) refl .adds _ _ _ (omega arith) (c .before .before .before .loop .inv)
+
+with-rest-requires : tie.Need-with-rest-requires Inv-loop μ-loop
+with-rest-requires c κs = (omega arith, ready (c .before .loop .inv) (omega arith))
 
 returns : tie.Need-returns Inv-loop μ-loop
-returns c = (summing-end _ (c .before .loop .inv .0) (omega arith), summing-end _ (c .before .loop .inv .1) (omega arith))
+returns c =
+    let summed = c .before .with-rest .ensures .adds _ _ 0 (omega arith) (c .before .before .before .loop .inv) in
+    (summing-end 0 (summing-back (summed .one)) (omega arith), summing-end 0 (summing-back (summed .other)) (omega arith))
 
 pub sums-of-spec : {M : Type 1} → statement M
 sums-of-spec =
@@ -65,12 +57,10 @@ sums-of-spec =
     μ-loop
     new-requires
     loop-holds
-    entry-at-requires
-    price-of-requires
-    price-of-requires-2
-    with-term-requires
-    with-term-requires-2
+    with-two-requires
+    with-two-requires-2
     sub-left
     loop-less
     loop-again
+    with-rest-requires
     returns)

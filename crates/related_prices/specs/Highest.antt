@@ -31,6 +31,15 @@ pub record HighestBelow (rows : List ℕ) (v m : ℕ) (table : List ℤ) (r : �
 abbrev pub IsHighest : List ℕ → ℕ → List ℤ → ℤ → Type 0
 IsHighest rows v = HighestBelow rows v (limits .states)
 
+-- so it is, if v is among the first n states
+pub record IsKnown (n : ℕ) (rows : List ℕ) (v : ℕ) (table : List ℤ) (r : ℤ) : Type 0 where
+  pub highest : v < n → IsHighest rows v table r
+
+-- r is at least the price of each of the first n states
+pub record AboveAll (n : ℕ) (table : List ℤ) (r : ℤ) : Type 0 where
+  pub above : (u : ℕ) → u < n → priceIn table u ≤ℤ r
+  pub small : mag r < 2 ^ 31
+
 -- the answer says, of the pairs that the rows hold, that 'For each related v, u' the price of v in x is at least that of u in g
 pub record AreRelated (n : ℕ) (rows : List ℕ) (x g : List ℤ) (answer : Bool) : Type 0 where
   pub tells : (A : Automaton) (R : Pairs) → A .states ≡ n → HoldsPairs n R rows → answer ≡ allRelated A R (priceIn x) (priceIn g)

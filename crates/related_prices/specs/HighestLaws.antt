@@ -26,7 +26,7 @@ use Rattle.prices.specs.Prices.{priceIn, IsPrice, SmallPrices}
 use Rattle.prices.specs.PricesLaws.{price-back, price-read}
 use Rattle.signed.specs.Larger.{IsLarger}
 use Rattle.signed.specs.LargerLaws.{≤ℤ-trans}
-use Rattle.related_prices.specs.Highest.{Inside, Bounds, HighestBelow, IsHighest, AreRelated}
+use Rattle.related_prices.specs.Highest.{Inside, Bounds, HighestBelow, IsHighest, IsKnown, AboveAll, AreRelated}
 
 -- what is known before each related state of a word of a row: the bits left are those from m on, u is the first of them, and the highest price
 -- below m
@@ -42,6 +42,14 @@ pub record Seeking (rows : List ℕ) (v from rest u : ℕ) (table : List ℤ) (m
 lowest : (x : ℤ) → mag x < 2 ^ 31 → negsuc (2 ^ 31 - 1) ≤ℤ x
 lowest (pos a) h = leZ-yes tt
 lowest (negsuc a) h = leZ-yes (le→leb a (2 ^ 31 - 1) (omega arith))
+
+-- the larger of two numbers of four bytes is one
+larger-small : {a b z : ℤ} → IsLarger a b z → mag a < 2 ^ 31 → mag b < 2 ^ 31 → mag z < 2 ^ 31
+larger-small {a} {b} {z} l first second = go (l .one)
+  where
+    go : (z ≡ a) ⊎ (z ≡ b) → mag z < 2 ^ 31
+    go (inl e) = subst (λ (y : ℤ). mag y < 2 ^ 31) (sym e) first
+    go (inr e) = subst (λ (y : ℤ). mag y < 2 ^ 31) (sym e) second
 
 module _ {rows : List ℕ} {v : ℕ} {table : List ℤ} where
   pub highest-none : HighestBelow rows v 0 table (negsuc (2 ^ 31 - 1))
@@ -77,7 +85,7 @@ module _ {rows : List ℕ} {v : ℕ} {table : List ℤ} where
           record {
             above = λ i below e. from i below e (ℕ-discrete i u);
             least = λ x fits all. least x fits all (l .one);
-            small = small (l .one);
+            small = larger-small l (before .small) (subst (λ (y : ℤ). mag y < 2 ^ 31) (sym back) fits-here);
           }
         where
           before : Bounds rows v u table most
@@ -96,10 +104,6 @@ module _ {rows : List ℕ} {v : ℕ} {table : List ℤ} where
           least : (x : ℤ) → mag x < 2 ^ 31 → ((i : ℕ) → rowBit rows v i ≡ true → priceIn table i ≤ℤ x) → (z ≡ most) ⊎ (z ≡ toZ w64 (ofZ w64 price)) → z ≤ℤ x
           least x fits all (inl e) = subst (λ (y : ℤ). y ≤ℤ x) (sym e) (before .least x fits all)
           least x fits all (inr e) = subst (λ (y : ℤ). y ≤ℤ x) (sym (e ∙ back)) (all u here)
-
-          small : (z ≡ most) ⊎ (z ≡ toZ w64 (ofZ w64 price)) → mag z < 2 ^ 31
-          small (inl e) = subst (λ (y : ℤ). mag y < 2 ^ 31) (sym e) (before .small)
-          small (inr e) = subst (λ (y : ℤ). mag y < 2 ^ 31) (sym (e ∙ back)) fits-here
 
   -- a word of the row, bit by bit
   module _ {from : ℕ} where
@@ -176,15 +180,33 @@ module _ {rows : List ℕ} {v : ℕ} {table : List ℤ} where
             };
       }
 
--- the price of v in x is at least the price in g of each state that is related to v
-pub record Covered (rows : List ℕ) (x g : List ℤ) (v : ℕ) : Type 0 where
-  pub covers : (n : ℕ) → SmallPrices n g → Inside n rows v → (u : ℕ) → rowBit rows v u ≡ true → priceIn g u ≤ℤ priceIn x v
+-- the highest of the prices of all states
+module _ {table : List ℤ} where
+  pub all-none : AboveAll 0 table (negsuc (2 ^ 31 - 1))
+  all-none = record { above = λ u less. absurd (omega arith); small = omega arith }
 
--- what is known before each state: those before it are covered, and the highest price of one of them
-pub record Covering (rows : List ℕ) (x g : List ℤ) (v known : ℕ) (most : ℤ) : Type 0 where
-  pub below : known < limits .states
-  pub highest : IsHighest rows known g most
-  pub covered : (w : ℕ) → w < v → Covered rows x g w
+  pub all-back : {n : ℕ} {z : ℤ} → AboveAll n table z → AboveAll n table (toZ w64 (ofZ w64 z))
+  all-back {n} {z} h = subst (AboveAll n table) (sym (price-back z (h .small))) h
+
+  -- one more state, whose price the machine reads back from its bits
+  pub all-more : {u : ℕ} {most price z : ℤ} → AboveAll u table most → mag (priceIn table u) < 2 ^ 31 → IsPrice table u price → IsLarger most (toZ w64 (ofZ w64 price)) z → AboveAll (u + 1) table (toZ w64 (ofZ w64 z))
+  all-more {u} {most} {price} {z} h fits p l =
+      all-back (record {
+        above = below-more (λ (i : ℕ). priceIn table i ≤ℤ z) u (λ i less. ≤ℤ-trans (h .above i less) (l .first)) (subst (λ (y : ℤ). y ≤ℤ z) back (l .second));
+        small = larger-small l (h .small) (subst (λ (y : ℤ). mag y < 2 ^ 31) (sym back) fits);
+      })
+    where
+      back : toZ w64 (ofZ w64 price) ≡ priceIn table u
+      back = price-read p fits
+
+-- the price of v in x is at least the price in g of each state that is related to v
+pub record Covered (n : ℕ) (rows : List ℕ) (x g : List ℤ) (v : ℕ) : Type 0 where
+  pub covers : Inside n rows v → (u : ℕ) → rowBit rows v u ≡ true → priceIn g u ≤ℤ priceIn x v
+
+-- what is known before each state: those before it are covered, and the highest price of one of them, if it was asked for
+pub record Covering (n : ℕ) (rows : List ℕ) (x g : List ℤ) (v other : ℕ) (most : ℤ) : Type 0 where
+  pub known : IsKnown n rows other g most
+  pub covered : (w : ℕ) → w < v → Covered n rows x g w
 
 -- the rows hold no pair beyond the first n states
 held-inside : {n : ℕ} {R : Pairs} {rows : List ℕ} → HoldsPairs n R rows → n ≤ limits .states → (v : ℕ) → v < n → Inside n rows v
@@ -194,42 +216,54 @@ held-inside {n} {rows = rows} h few v less = record { few = few; inside = λ u e
     go u e (yes l) = l
     go u e (no o) = absurd (false-not (sym (h .rest v u less (omega arith)) ∙ e))
 
+-- the machine reads the price of one of the first n states back from its bits
+price-here : {n v : ℕ} {x : List ℤ} {price : ℤ} → SmallPrices n x → v < n → IsPrice x v price → toZ w64 (ofZ w64 price) ≡ priceIn x v
+price-here {v = v} first less p = price-read p (first .small v less)
+
 module _ {rows : List ℕ} {x g : List ℤ} where
-  pub cover-start : {z : ℤ} → IsHighest rows 0 g z → Covering rows x g 0 0 (toZ w64 (ofZ w64 z))
-  cover-start h = record { below = omega arith; highest = highest-back h; covered = λ w less. absurd (omega arith) }
+  pub cover-start : {n : ℕ} {z : ℤ} → Covering n rows x g 0 n z
+  cover-start = record { known = record { highest = λ less. absurd (omega arith) }; covered = λ w less. absurd (omega arith) }
 
-  module _ {n v : ℕ} {z price : ℤ} (h : IsHighest rows v g z) (first : SmallPrices n x) (few : n ≤ limits .states) (less : v < n) (p : IsPrice x v price) where
-    back : toZ w64 (ofZ w64 price) ≡ priceIn x v
-    back = price-read p (first .small v less)
-
-    pub cover-turn : {known : ℕ} {before : ℤ} → Covering rows x g v known before → ltZ (toZ w64 (ofZ w64 price)) (toZ w64 (ofZ w64 z)) ≡ false → Covering rows x g (v + 1) v (toZ w64 (ofZ w64 z))
-    cover-turn c e =
+  module _ {n v : ℕ} {price : ℤ} (first : SmallPrices n x) (few : n ≤ limits .states) (less : v < n) (p : IsPrice x v price) where
+    -- a price that is at least the highest of all covers every row
+    pub cover-past : {known : ℕ} {most top : ℤ} → Covering n rows x g v known most → AboveAll n g top → leZ (toZ w64 (ofZ w64 top)) (toZ w64 (ofZ w64 price)) ≡ true → Covering n rows x g (v + 1) known most
+    cover-past {top = top} c a e =
         record {
-          below = omega arith;
-          highest = highest-back h;
-          covered = below-more (Covered rows x g) v (c .covered) (record {
-            covers = λ m prices inside u related.
-                ≤ℤ-trans (highest-back h .bounds m prices inside .above u (omega (arith, inside .few, inside .inside u related)) related)
-                (subst (λ (y : ℤ). toZ w64 (ofZ w64 z) ≤ℤ y) back (ltZ-no (holds-T (ap not e))));
+          known = c .known;
+          covered = below-more (Covered n rows x g) v (c .covered) (record {
+            covers = λ inside u related.
+                ≤ℤ-trans (all-back a .above u (inside .inside u related))
+                (subst (λ (y : ℤ). toZ w64 (ofZ w64 top) ≤ℤ y) (price-here first less p) (leZ-yes (holds-T e)));
           });
         }
 
-    pub cover-not : SmallPrices n g → ltZ (toZ w64 (ofZ w64 price)) (toZ w64 (ofZ w64 z)) ≡ true → AreRelated n rows x g false
+    pub cover-turn : {known : ℕ} {before z : ℤ} → IsHighest rows v g z → SmallPrices n g → Covering n rows x g v known before → ltZ (toZ w64 (ofZ w64 price)) (toZ w64 (ofZ w64 z)) ≡ false → Covering n rows x g (v + 1) v (toZ w64 (ofZ w64 z))
+    cover-turn {z = z} h second c e =
+        record {
+          known = record { highest = λ less. highest-back h };
+          covered = below-more (Covered n rows x g) v (c .covered) (record {
+            covers = λ inside u related.
+                ≤ℤ-trans (highest-back h .bounds n second inside .above u (omega (arith, inside .few, inside .inside u related)) related)
+                (subst (λ (y : ℤ). toZ w64 (ofZ w64 z) ≤ℤ y) (price-here first less p) (ltZ-no (holds-T (ap not e))));
+          });
+        }
+
+    pub cover-not : {z : ℤ} → IsHighest rows v g z → SmallPrices n g → ltZ (toZ w64 (ofZ w64 price)) (toZ w64 (ofZ w64 z)) ≡ true → AreRelated n rows x g false
     unfolding allRelated
-    cover-not second e = record { tells = λ A R states held. go A R states held (allRelated A R (priceIn x) (priceIn g)) refl }
+    cover-not {z} h second e = record { tells = λ A R states held. go A R states held (allRelated A R (priceIn x) (priceIn g)) refl }
       where
         go : (A : Automaton) (R : Pairs) → A .states ≡ n → HoldsPairs n R rows → (t : Bool) → allRelated A R (priceIn x) (priceIn g) ≡ t → false ≡ t
         go A R states held false q = refl
         go A R states held true q =
-            clashℤ {a = priceIn x v} (subst (λ (y : ℤ). y <ℤ toZ w64 (ofZ w64 z)) back (ltZ-yes (holds-T e)))
+            clashℤ {a = priceIn x v} (subst (λ (y : ℤ). y <ℤ toZ w64 (ofZ w64 z)) (price-here first less p) (ltZ-yes (holds-T e)))
             (highest-back h .bounds n second (held-inside held few v less) .least (priceIn x v) (first .small v less)
             (λ u related.
             let below : u < n = held-inside held few v less .inside u related in
             leZ-yes (holds-T (isTrue true (sym (held .bits v u less below) ∙ related) refl ∙ all-below (A .states) _ (all-below (A .states) _ q v (omega arith)) u (omega arith)))))
 
-  pub cover-end : {n : ℕ} → n ≤ limits .states → SmallPrices n g → ((w : ℕ) → w < n → Covered rows x g w) → AreRelated n rows x g true
+  pub cover-end : {n : ℕ} → n ≤ limits .states → ((w : ℕ) → w < n → Covered n rows x g w) → AreRelated n rows x g true
   unfolding allRelated
-  cover-end {n} few second all =
+  cover-end {n} few all =
       record {
         tells = λ A R states held. sym (below-all (A .states) _ (λ v less. below-all (A .states) _ (λ u below.
             go R held v u (omega arith) (omega arith) (R v u) refl)));
@@ -237,7 +271,7 @@ module _ {rows : List ℕ} {x g : List ℤ} where
     where
       go : (R : Pairs) → HoldsPairs n R rows → (v u : ℕ) → v < n → u < n → (t : Bool) → R v u ≡ t → ifTrue (R v u) (leZ (priceIn g u) (priceIn x v)) true ≡ true
       go R held v u less below true e =
-          sym (isTrue true e (sym (T-holds _ (all v less .covers n second (held-inside held few v less) u (held .bits v u less below ∙ e) .le))))
+          sym (isTrue true e (sym (T-holds _ (all v less .covers (held-inside held few v less) u (held .bits v u less below ∙ e) .le))))
       go R held v u less below false e = ap (λ (t : Bool). ifTrue t (leZ (priceIn g u) (priceIn x v)) true) e ∙ not-asked
         where
           not-asked : ifTrue false (leZ (priceIn g u) (priceIn x v)) true ≡ true

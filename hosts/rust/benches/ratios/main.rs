@@ -10,8 +10,8 @@ mod plain;
 mod report;
 
 use compare::Numbers;
-use maker::families::{bytes, filled, flow_heavy, flow_heavy_with_costs, half, largest, one_source, parts, refutation_heavy, still, strong_chain};
-use maker::families::strong_loops;
+use maker::families::{bytes, copies, filled, flow_heavy, flow_heavy_with_costs, half, largest, most_copies, one_source, parts, refutation_heavy, still};
+use maker::families::{strong_chain, strong_loops};
 use maker::files::{Certificate, Model, Transition};
 use maker::prism::largest_text;
 use maker::random::random_model;
@@ -169,6 +169,25 @@ fn random_pairs() -> Vec<Files> {
     pairs
 }
 
+/// Accepted pairs of copied random models, always the same ones: so many, each of as many states as `size` makes of those of its model. Their flows
+/// have a k entry and several w entries.
+fn copied_pairs(count: usize, size: fn(usize) -> usize) -> Vec<Files> {
+    let mut numbers = Numbers::new(7);
+    let mut pairs = Vec::new();
+    while pairs.len() < count {
+        let model = random_model(&mut numbers, 8);
+        let k = size(model.n()) / model.n();
+        if k < 2 || most_copies(&model) < k {
+            continue;
+        }
+        let Some(certificate) = maker::certificate(&model, &mut numbers) else { continue };
+        if certificate.refutations.len() * k * k <= TODAY.refutations {
+            pairs.push(bytes(copies(&model, &certificate, k)));
+        }
+    }
+    pairs
+}
+
 /// The largest model with weights whose divisor takes long to find: the first two are neighbours among Fibonacci's numbers.
 fn in_longer_terms() -> Model {
     let model = largest().0;
@@ -207,7 +226,7 @@ const COMPARED: &str = "every record is compared with all before it; the library
 /// The name of a family, and times at each number of states.
 pub type Growth = (&'static str, Vec<(usize, Times)>);
 
-fn cases(random: &[Files]) -> Vec<Case> {
+fn cases(random: &[Files], small: &[Files], large: &[Files]) -> Vec<Case> {
     let (length, no_slower, by_a_third) = (Duration::from_millis(400), 1.0, 2.0 / 3.0);
     let (largest, one_source, once_largest) = (bytes(largest()), bytes(one_source()), filled(64, 4, 4).0.bytes());
     let [refutations, refutations_128] = [64, 128].map(|n| [bytes(refutation_heavy(n))]);
@@ -243,6 +262,8 @@ fn cases(random: &[Files]) -> Vec<Case> {
         case("refutation-heavy: judge, 128 states, 8,128 refutations of 384 prices", judging(length, &refutations_128), by_a_third, ""),
         case("flow-heavy: judge, 128 states, 32,512 flows of one w entry", judging(length, &flows_128), by_a_third, ""),
         case("random accepted pairs: judge, 300 pairs of 1 to 10 states, sum", judging(length, random), no_slower, ""),
+        case("copied random pairs: judge, 200 pairs of 2 to 16 states, sum", judging(length, small), no_slower, ""),
+        case("copied random pairs: judge, 20 pairs of 64 states or nearly, sum", judging(length, large), no_slower, ""),
         case("judge_costs, flow-heavy: 64 states, 16,128 flows of one k and one w entry", judging_costs(length, &paying), by_a_third, ""),
         case("judge_costs, flow-heavy: 128 states, 32,512 flows of one k and one w entry", judging_costs(length, &paying_128), by_a_third, ""),
         case("judge_strong, refutation-heavy: 64 states, 2,016 refutations of 129 prices", judging_strong(length, &strong_apart), by_a_third, ""),
@@ -254,6 +275,9 @@ fn cases(random: &[Files]) -> Vec<Case> {
         case("reduce, the largest model, every state a block", reducing(length, &[largest]), no_slower, ""),
         case("reduce, 256 different transitions of one state", reducing(length, &[one_source]), no_slower, COMPARED),
         case("reduce, flow-heavy, 64 states", reducing(length, &flows), no_slower, ""),
+        case("reduce, flow-heavy, 128 states", reducing(length, &flows_128), no_slower, ""),
+        case("reduce, copied random pairs, 200 of 2 to 16 states, sum", reducing(length, small), no_slower, ""),
+        case("reduce, copied random pairs, 20 of 64 states or nearly, sum", reducing(length, large), no_slower, ""),
         case("join, two models of 64 states, 128 transitions, 1,024 entries", joining(length, &[(half.clone(), half)]), no_slower, ""),
         case("compose, 8 states with 16 to the largest model, every move shared", composing(length, shared), no_slower, ""),
         case("compose, 64 states with 2 to the largest model, every move alone", composing(length, alone), no_slower, ""),
@@ -270,11 +294,16 @@ fn cases(random: &[Files]) -> Vec<Case> {
 }
 
 fn growths() -> Vec<Growth> {
-    let of = |family: fn(usize) -> (Model, Certificate)| {
+    let of = |call: fn(Duration, &[Files]) -> Times, family: fn(usize) -> (Model, Certificate)| {
         let sizes = (8..=zolkirta::STATES).step_by(8);
-        sizes.map(|n| (n, judging(Duration::from_millis(200), &[bytes(family(n))]))).collect()
+        sizes.map(|n| (n, call(Duration::from_millis(200), &[bytes(family(n))]))).collect()
     };
-    vec![("refutation-heavy", of(refutation_heavy)), ("flow-heavy", of(|n| flow_heavy(n, 0)))]
+    vec![
+        ("Judging refutation-heavy", of(judging, refutation_heavy)),
+        ("Judging flow-heavy", of(judging, |n| flow_heavy(n, 0))),
+        ("Judging flow-heavy, a k entry a flow", of(judging, |n| flow_heavy(n, 1))),
+        ("Reducing two transitions a state, every state a block", of(reducing, |n| filled(n, 2, 4))),
+    ]
 }
 
 /// All cases are run so often, so that what disturbs the machine for some seconds disturbs none of them throughout.
@@ -282,11 +311,11 @@ pub const PASSES: usize = 6;
 
 fn main() {
     let asked = |option: &str| std::env::args().any(|argument| argument == option);
-    let random = random_pairs();
-    let (mut least, mut grown) = (cases(&random), growths());
+    let (random, small, large) = (random_pairs(), copied_pairs(200, |n| 2 * n), copied_pairs(20, |n| 64 / n * n));
+    let (mut least, mut grown) = (cases(&random, &small, &large), growths());
     let passes = if asked("--quick") { 1 } else { PASSES };
     for _ in 1..passes {
-        for (case, again) in least.iter_mut().zip(cases(&random)) {
+        for (case, again) in least.iter_mut().zip(cases(&random, &small, &large)) {
             case.times.keep_least(again.times);
         }
         for ((_, sizes), (_, again)) in grown.iter_mut().zip(growths()) {

@@ -41,7 +41,8 @@ fn panel(out: &mut String, (left, top): (f64, f64), (name, growth): &Growth) {
     let step = step(highest);
     let top_value = (highest / step).ceil() * step;
     let at = |n: f64, microseconds: f64| (left + n / STATES * WIDTH, top + HEIGHT * (1.0 - microseconds / top_value));
-    text(out, left + WIDTH / 2.0, top - 14.0, "middle", &format!("{name}: microseconds by number of states n"));
+    text(out, left + WIDTH / 2.0, top - 30.0, "middle", name);
+    text(out, left + WIDTH / 2.0, top - 14.0, "middle", "microseconds by number of states n");
     for tick in 0..=(top_value / step).round() as u32 {
         let value = f64::from(tick) * step;
         let (x, y) = at(0.0, value);
@@ -67,18 +68,22 @@ fn panel(out: &mut String, (left, top): (f64, f64), (name, growth): &Growth) {
     }
 }
 
+/// How many panels stand side by side.
+const COLUMNS: usize = 2;
+
 /// The background is the picture's own, so that it can be read on a white and on a dark page.
 pub fn drawn(growths: &[Growth]) -> String {
-    let (across, down) = (WIDTH + 80.0, HEIGHT + 80.0);
-    let width = across * growths.len() as f64;
+    let (across, down) = (WIDTH + 80.0, HEIGHT + 96.0);
+    let (width, height) = (across * COLUMNS as f64, down * growths.len().div_ceil(COLUMNS) as f64);
     let mut out = format!(
-        "<svg xmlns=\"http://www.w3.org/2000/svg\" viewBox=\"0 0 {width} {down}\" width=\"{width}\" height=\"{down}\" \
+        "<svg xmlns=\"http://www.w3.org/2000/svg\" viewBox=\"0 0 {width} {height}\" width=\"{width}\" height=\"{height}\" \
          font-family=\"sans-serif\" font-size=\"12\" fill=\"#202020\">\n\
-         <title>Time of judging by number of states, library and plain Rust</title>\n\
-         <rect width=\"{width}\" height=\"{down}\" rx=\"8\" fill=\"#ffffff\" stroke=\"#d4d4d4\"/>\n"
+         <title>Time of a call by number of states, library and plain Rust</title>\n\
+         <rect width=\"{width}\" height=\"{height}\" rx=\"8\" fill=\"#ffffff\" stroke=\"#d4d4d4\"/>\n"
     );
-    for (i, growth) in (0..).zip(growths) {
-        panel(&mut out, (60.0 + across * f64::from(i), 44.0), growth);
+    for (i, growth) in growths.iter().enumerate() {
+        let (column, row) = (i % COLUMNS, i / COLUMNS);
+        panel(&mut out, (60.0 + across * column as f64, 60.0 + down * row as f64), growth);
     }
     out + "</svg>\n"
 }

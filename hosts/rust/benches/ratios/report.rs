@@ -56,7 +56,7 @@ pub fn tables(cases: &[Case], growths: &[Growth]) -> String {
     beside_c(&mut out, cases);
     out += "\n## Growth with n\n";
     for (name, sizes) in growths {
-        write!(out, "\nJudging {name}:\n\n| n | library | plain Rust | ratio |\n|---|---|---|---|\n").unwrap();
+        write!(out, "\n{name}:\n\n| n | library | plain Rust | ratio |\n|---|---|---|---|\n").unwrap();
         sizes.iter().for_each(|(n, times)| row(&mut out, &n.to_string(), times, ""));
     }
     out

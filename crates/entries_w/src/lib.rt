@@ -15,8 +15,7 @@ pub struct Matched {
     pub next: Cursor,
 }
 
-// A w entry is in order, its states are there and related, and it is not zero. The order of the tests is that which compiles to the fewest
-// instructions.
+// A w entry is in order, its states are there and related, and it is not zero. Which test comes first is free.
 fn stands(n: usize, rows: &Rows, lowest: usize, v: usize, u: usize, w: usize) -> bool
     requires { ⌜ (n ≤ limits .states) × (v < 256) × (u < 256) ⌝ }
     ensures { λ r. ⌜ TellsW n (now (rows .entry)) lowest v u w r ⌝ }

@@ -52,7 +52,7 @@ next-asked few d = record { other = λ less. d .other (omega arith); some = λ l
 
 pub first-asked : {rows : List ℕ} {n state first past x : ℕ} → n ≤ limits .states → IsFirstDefender rows n state first past x → Asked rows n state x
 first-asked few (noRun e q) = record { other = λ less. absurd (omega arith); some = λ less. absurd (omega arith) }
-first-asked few (asked d) = next-asked few d
+first-asked few (asked o d) = next-asked few d
 
 module _ (rule : FileRule) (s C : List ℕ) (n : ℕ) (rows : List ℕ) (blocks : ℕ) where
   all-left : automatonIn s .states ≡ n → questions (automatonIn s) (blocksIn rule s C n rows blocks) ≡ leftStates rule s C n rows blocks 0
@@ -105,7 +105,7 @@ module _ (rule : FileRule) (s C : List ℕ) (n : ℕ) (rows : List ℕ) (blocks 
       let l : end - r - 1 ≡ end - (r + 1) = omega arith in
       ap (λ (xs : List Question). xs ++ leftDefenders rule s C n rows blocks state (t + 1)) (run-some t (end - r) r (omega arith) ∙ ap (λ (k : ℕ). record { challenger = r; defender = t } ∷ runQuestions t k (r + 1)) l)
 
-  -- the questions left of a state, of which the blocks are those of the related pairs
+  -- the questions left of a state, where the blocks are those of the related pairs
   module _ {count : ℕ} {table : List ℕ} (k : Known s n count table) (agree : BlocksAgree C n rows blocks) (state first past : ℕ) (h : Splits (automatonIn s) count state first) (p : IsPast (automatonIn s) count state first past) (here : state < n) where
     skip : (left t : ℕ) → ((u : ℕ) → t ≤ u → u < t + left → u < n → runEnd (blocksIn rule s C n rows blocks) state u first past ≡ first) → leftDefenders rule s C n rows blocks state t ≡ leftDefenders rule s C n rows blocks state (t + left)
     skip = defenders-skip count state first past (known-transitions k) h p (splits-next k h p)
@@ -152,7 +152,7 @@ module _ {rule : FileRule} {s C : List ℕ} {n : ℕ} {rows : List ℕ} {blocks 
 
       pub going-first : (x : ℕ) → IsFirstDefender rows n state first past x → Going rule s C n rows blocks (leftDefenders rule s C n rows blocks state 0) remainders target at number → Going rule s C n rows blocks (leftDefenders rule s C n rows blocks state x) remainders target at number
       going-first x (noRun e q) g = going-list rule s C n rows blocks (none-left rule s C n rows blocks k agree state first past h p here x e) g
-      going-first x (asked d) g = going-next 0 x d g
+      going-first x (asked o d) g = going-next 0 x d g
 
       pub going-defender : (t : ℕ) → Asked rows n state t → t < n → Going rule s C n rows blocks (leftDefenders rule s C n rows blocks state t) remainders target at number → Going rule s C n rows blocks (leftRun rule s C n rows blocks state t first past) remainders target at number
       going-defender t a less g = going-held rule s C n rows blocks (λ R held. run-left rule s C n rows blocks k agree state first past h p here R held t a less) g

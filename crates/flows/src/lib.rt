@@ -16,7 +16,7 @@ pub enum Judged {
     Refused(Fault),
 }
 
-// The flows from the end of the n blocks on, which are those of the related pairs, and 22.
+// The flows behind the n blocks, and 22. The blocks are those of the related pairs.
 pub fn judge_flows(
     kind: Kind,
     s: &[u8],

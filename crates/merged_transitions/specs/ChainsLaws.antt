@@ -11,7 +11,7 @@ use Rattle.rules.specs.definitions.Model.{automatonOf}
 use Rattle.transition_record.specs.declared.Fields.{Fields}
 use Rattle.transition.specs.Known.{Known, FieldsOf}
 use Rattle.merged_transition.specs.MergedTransition.{BlocksBelow}
-use Rattle.merged_transitions.specs.MergedTransitions.{blockFrom, IsFirst, Chained}
+use Rattle.merged_transitions.specs.MergedTransitions.{blockOfSource, IsFirst, Chained}
 
 -- no transition yet
 pub none-chained : (s blocks : List ℕ) (count : ℕ) → Chained s blocks count count (replicate (limits .states) count) (replicate (limits .transitions) 0)
@@ -35,7 +35,7 @@ in-changed P table at x inside p i f = go (ℕ-discrete i at)
     go (no n) = subst (P i) (sym (getD-set-other table at i x 0 n)) (f n)
 
 -- the transition r before those behind it: the first of its block, and of no other
-pub one-more-chained : {s blocks : List ℕ} {count r b : ℕ} {heads chain : List ℕ} → Chained s blocks count (r + 1) heads chain → r < count → count ≤ limits .transitions → b < limits .states → b ≡ blockFrom s blocks r → Chained s blocks count r (set heads b r) (set chain r (getD heads b 0))
+pub one-more-chained : {s blocks : List ℕ} {count r b : ℕ} {heads chain : List ℕ} → Chained s blocks count (r + 1) heads chain → r < count → count ≤ limits .transitions → b < limits .states → b ≡ blockOfSource s blocks r → Chained s blocks count r (set heads b r) (set chain r (getD heads b 0))
 one-more-chained {s} {blocks} {count} {r} {b} {heads} {chain} c less few some e =
     record {
       heads-size = length-set heads b r ∙ c .heads-size;
@@ -43,7 +43,7 @@ one-more-chained {s} {blocks} {count} {r} {b} {heads} {chain} c less few some e 
       first = λ d h. in-changed (λ (i x : ℕ). IsFirst s blocks count i r x) heads b r (omega (arith, c .heads-size, some)) own d (λ n. other d n _ (c .first d h));
       next =
           λ j from l.
-          in-changed (λ (i x : ℕ). IsFirst s blocks count (blockFrom s blocks i) (i + 1) x) chain r (getD heads b 0) (omega (arith, c .chain-size, less, few)) (subst (λ (d : ℕ). IsFirst s blocks count d (r + 1) (getD heads b 0)) e (c .first b some)) j
+          in-changed (λ (i x : ℕ). IsFirst s blocks count (blockOfSource s blocks i) (i + 1) x) chain r (getD heads b 0) (omega (arith, c .chain-size, less, few)) (subst (λ (d : ℕ). IsFirst s blocks count d (r + 1) (getD heads b 0)) e (c .first b some)) j
           (λ n. c .next j (omega arith) l);
     }
   where
@@ -53,8 +53,8 @@ one-more-chained {s} {blocks} {count} {r} {b} {heads} {chain} c less few some e 
     other : (d : ℕ) → (d ≡ b → ⊥) → (x : ℕ) → IsFirst s blocks count d (r + 1) x → IsFirst s blocks count d r x
     other d n x f = record { from = omega (arith, f .from); to = f .to; none = λ i h l g. go i h l g (ℕ-discrete i r); of = f .of }
       where
-        go : (i : ℕ) → r ≤ i → i < x → blockFrom s blocks i ≡ d → Dec (i ≡ r) → ⊥
-        go i h l g (yes p) = n (sym g ∙ ap (blockFrom s blocks) p ∙ sym e)
+        go : (i : ℕ) → r ≤ i → i < x → blockOfSource s blocks i ≡ d → Dec (i ≡ r) → ⊥
+        go i h l g (yes p) = n (sym g ∙ ap (blockOfSource s blocks) p ∙ sym e)
         go i h l g (no p) = f .none i (omega arith) l g
 
 -- from a number that is the same
@@ -62,11 +62,11 @@ pub chained-at : {s blocks : List ℕ} {count r q : ℕ} {heads chain : List ℕ
 chained-at {s} {blocks} {count} {heads = heads} {chain} c e = subst (λ (x : ℕ). Chained s blocks count x heads chain) e c
 
 -- behind a transition of the block b, the next of b
-pub behind : {s blocks : List ℕ} {count r b : ℕ} {heads chain : List ℕ} → Chained s blocks count 0 heads chain → r < count → blockFrom s blocks r ≡ b → IsFirst s blocks count b (r + 1) (getD chain r 0)
+pub behind : {s blocks : List ℕ} {count r b : ℕ} {heads chain : List ℕ} → Chained s blocks count 0 heads chain → r < count → blockOfSource s blocks r ≡ b → IsFirst s blocks count b (r + 1) (getD chain r 0)
 behind {s} {blocks} {count} {r} {chain = chain} c less e = subst (λ (d : ℕ). IsFirst s blocks count d (r + 1) (getD chain r 0)) e (c .next r (omega arith) less)
 
 -- the block of a transition's source, found by its fields
-pub block-found : {s : List ℕ} (blocks : List ℕ) {r : ℕ} {f : Fields} {x : ℕ} → FieldsOf s r f → x ≡ getD blocks (f .source) 0 → x ≡ blockFrom s blocks r
+pub block-found : {s : List ℕ} (blocks : List ℕ) {r : ℕ} {f : Fields} {x : ℕ} → FieldsOf s r f → x ≡ getD blocks (f .source) 0 → x ≡ blockOfSource s blocks r
 unfolding automatonOf
 block-found blocks t e = e ∙ ap (λ (v : ℕ). getD blocks v 0) (t .source)
 

@@ -18,22 +18,22 @@ abbrev pub transitionsIn : List ℕ → List Transition
 transitionsIn s = modelAt s .transitions
 
 -- the block of the source of the transition r
-abbrev pub blockFrom : (s blocks : List ℕ) (r : ℕ) → ℕ
-blockFrom s blocks r = getD blocks (getD (transitionsIn s) r noTransition .source) 0
+abbrev pub blockOfSource : (s blocks : List ℕ) (r : ℕ) → ℕ
+blockOfSource s blocks r = getD blocks (getD (transitionsIn s) r noTransition .source) 0
 
 -- the first transition from r on that leaves a member of the block b, or their count
 pub record IsFirst (s blocks : List ℕ) (count b r x : ℕ) : Type 0 where
   pub from : r ≤ x
   pub to : x ≤ count
-  pub none : (i : ℕ) → r ≤ i → i < x → blockFrom s blocks i ≡ b → ⊥
-  pub of : x < count → blockFrom s blocks x ≡ b
+  pub none : (i : ℕ) → r ≤ i → i < x → blockOfSource s blocks i ≡ b → ⊥
+  pub of : x < count → blockOfSource s blocks x ≡ b
 
 -- the transitions from r on chained: the first of each block, and behind each one the next of its block
 pub record Chained (s blocks : List ℕ) (count r : ℕ) (heads chain : List ℕ) : Type 0 where
   pub heads-size : length heads ≡ limits .states
   pub chain-size : length chain ≡ limits .transitions
   pub first : (b : ℕ) → b < limits .states → IsFirst s blocks count b r (getD heads b 0)
-  pub next : (j : ℕ) → r ≤ j → j < count → IsFirst s blocks count (blockFrom s blocks j) (j + 1) (getD chain j 0)
+  pub next : (j : ℕ) → r ≤ j → j < count → IsFirst s blocks count (blockOfSource s blocks j) (j + 1) (getD chain j 0)
 
 -- the records of these transitions stand at the start of the buffer, and no other
 pub record Holds (done : List Transition) (out : List ℕ) (kept : Kept) : Type 0 where
@@ -60,7 +60,7 @@ pub record CanKeep (s places : List ℕ) (n count : ℕ) (blocks : List ℕ) (k 
   pub merging : BlocksBelow n k blocks
   pub block : b < k
   pub less : r < count
-  pub of : blockFrom s blocks r ≡ b
+  pub of : blockOfSource s blocks r ≡ b
   pub none : NoWeights weights
   pub large : records ≤ length out
   pub held : InBlock s blocks b r start out kept

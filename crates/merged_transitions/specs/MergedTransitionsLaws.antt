@@ -27,7 +27,7 @@ use Rattle.writer.specs.AppendsLaws.{front-kept, appended-part, appended-front,
 use Rattle.merged_transition.specs.MergedTransition.{BlocksBelow, CanMerge, Merged}
 use Rattle.same_transition.specs.SameTransition.{StandAs, IsRepeated}
 use Rattle.merged_transitions.specs.declared.Kept.{Kept}
-use Rattle.merged_transitions.specs.MergedTransitions.{transitionsIn, blockFrom, IsFirst, Holds, before, here, InBlock, CanKeep, Keeps}
+use Rattle.merged_transitions.specs.MergedTransitions.{transitionsIn, blockOfSource, IsFirst, Holds, before, here, InBlock, CanKeep, Keeps}
 use Rattle.merged_transitions.specs.DistinctLaws.{distinct-more, from-more, by-block-more}
 use Rattle.merged_transitions.specs.RoomLaws.{sizeOf, each-first, room}
 
@@ -96,8 +96,8 @@ module _ {s places : List ℕ} {n count : ℕ} (k : Known s n count places) wher
     block-sound : (c r : ℕ) → Each (TransitionRules (blockCount blocks) (modelAt s .actions)) (fromBlock blocks (take r (transitionsIn s)) c)
     block-sound = block-each _ merged-sound
 
--- where none of so many transitions from r on is of the block b, those of the block among the first r are those with them too
-none-between : (s blocks : List ℕ) (b r left : ℕ) → r + left ≤ length (transitionsIn s) → ((i : ℕ) → r ≤ i → i < r + left → blockFrom s blocks i ≡ b → ⊥) → here blocks (transitionsIn s) b r ≡ here blocks (transitionsIn s) b (r + left)
+-- where none of the `left` transitions from r on is of the block b, those of b among the first r are those among the first r + left
+none-between : (s blocks : List ℕ) (b r left : ℕ) → r + left ≤ length (transitionsIn s) → ((i : ℕ) → r ≤ i → i < r + left → blockOfSource s blocks i ≡ b → ⊥) → here blocks (transitionsIn s) b r ≡ here blocks (transitionsIn s) b (r + left)
 none-between s blocks b r zero h none = let e : r ≡ r + 0 = omega arith in ap (here blocks (transitionsIn s) b) e
 none-between s blocks b r (suc left) h none =
     let e : r + left + 1 ≡ r + suc left = omega arith in

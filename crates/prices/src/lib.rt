@@ -121,7 +121,7 @@ fn with_last(s: &[u8], sums: Running, first: &Prices, second: &Prices, left: usi
     with_entry(s, sums, first, second)
 }
 
-// With the last three at most.
+// With the rest, three at most.
 fn with_rest(s: &[u8], sums: Running, first: &Prices, second: &Prices, left: usize) -> Running
     requires { ⌜ (left < 4) × Ready (now s) (now first) (now second) left sums ⌝ }
     ensures { λ r. ⌜ Adds (now (s .entry)) (now (first .entry)) (now (second .entry)) left sums r ⌝ }

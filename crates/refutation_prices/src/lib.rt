@@ -17,8 +17,8 @@ use pairs::Rows;
 use prices::Prices;
 use rule_kind::Kind;
 
-// 15 and 16, of a challenger with the action a. Where there is no move the prices y are x. Called twice, it stays out of line, and its first parameters
-// are those that its loops read most: they come in registers.
+// 15 and 16, of a challenger with the action a. Where there is no move the prices y are x. First come the parameters that its loops read most,
+// in registers.
 fn conditions_fault(
     x: &Prices,
     y: &Prices,

@@ -180,7 +180,7 @@ module _ {rows : List ℕ} {v : ℕ} {table : List ℤ} where
             };
       }
 
--- the highest of the prices of all states
+-- a bound of the prices of all states
 module _ {table : List ℤ} where
   pub all-none : AboveAll 0 table (negsuc (2 ^ 31 - 1))
   all-none = record { above = λ u less. absurd (omega arith); small = omega arith }

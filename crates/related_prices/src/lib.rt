@@ -47,7 +47,7 @@ fn highest_after(rows: &Rows, v: usize, known: usize, most: i64, g: &Prices) -> 
     highest(rows, v, g)
 }
 
-// The highest of the prices g of all states.
+// The highest of the prices g of all states. It is enough to know that none is above it.
 fn highest_of_all(n: usize, g: &Prices) -> i64
     requires { ⌜ (n ≤ limits .states) × SmallPrices n (now g) ⌝ }
     ensures { λ r. ⌜ AboveAll n (now (g .entry)) r ⌝ }

@@ -28,10 +28,10 @@ pub record IsDefender (rows : List ℕ) (state t x : ℕ) : Type 0 where
   pub other : x < limits .states → state ≡ x → ⊥
   pub some : x < limits .states → rowBit rows state x ≡ true
 
--- x is the first of n states that the run from `first` to `past` asks: none where it is empty
+-- x is the first state that the run from `first` to `past` asks; n where the run is empty
 pub data IsFirstDefender (rows : List ℕ) (n state first past x : ℕ) : Type 0 where
   noRun : first ≡ past → x ≡ n → IsFirstDefender rows n state first past x
-  asked : IsDefender rows state 0 x → IsFirstDefender rows n state first past x
+  asked : (first ≡ past → ⊥) → IsDefender rows state 0 x → IsFirstDefender rows n state first past x
 
 -- the questions of so many transitions, counted from r on, against t
 unfoldable pub runQuestions : ℕ → (left r : ℕ) → List Question

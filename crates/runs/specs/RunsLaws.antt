@@ -1,9 +1,9 @@
 -- Laws of the runs: the questions of a state against t are those of its run.
 use Prim.Native.Nat.{ℕ, zero, suc, _+_, _-_, _≤_, _<_}
-use mathlib.Core.Path.{_≡_, refl, sym, _∙_, ap, ap₂, subst}
+use mathlib.Core.Path.{_≡_, refl, sym, _∙_, ap, ap₂}
 use mathlib.Core.Logic.{_⊎_, inl, inr}
 use mathlib.Core.Bool.{Bool, true, false}
-use mathlib.Core.List.{List, [], _∷_, _++_, append-assoc, append-nil}
+use mathlib.Core.List.{List, [], _∷_, _++_, append-nil}
 use lib.ListN.{length, getD}
 use native.Mathlib.Omega.{arith}
 use native.Mathlib.Decide.{ℕ-discrete, decLt}
@@ -12,7 +12,6 @@ use Rattle.bisimulation.specs.argument.ChoiceLaws.{same, notSame, isTrue, isFal
 use Rattle.bisimulation.specs.definitions.Automaton.{Automaton}
 use Rattle.rules.specs.definitions.Certificate.{sameBlock}
 use Rattle.rules.specs.definitions.Judging.{Question, questionsOfPair, questionsOfState, questionsFrom}
-use Rattle.rules.specs.definitions.Limits.{limits}
 use Rattle.rules.specs.definitions.Model.{Transition, automatonOf, noTransition}
 use Rattle.rules.specs.definitions.Reading.{modelAt}
 use Rattle.rules.specs.definitions.SoundModel.{Along}
@@ -169,7 +168,7 @@ module _ (rows : List ℕ) (state t next : ℕ) (n : IsNext (rowBit rows state) 
       go u above less other (yes l) = n .none u above l
       go u above less other (no l) = m .none u (omega (arith, other)) less
 
--- no run, or none that t asks, has no question
+-- an empty run, or one that does not ask t, ends where it begins
 pub end-empty : (blocks : List ℕ) (state t : ℕ) {first past : ℕ} → first ≡ past → runEnd blocks state t first past ≡ first
 unfolding runEnd
 end-empty blocks state t {first} {past} e =
@@ -183,7 +182,7 @@ pub end-unrelated : (blocks : List ℕ) (state t first past : ℕ) → (state �
 unfolding runEnd
 end-unrelated blocks state t first past o e = sym (notSame first o (isFalse past e refl))
 
--- one that t asks has all
+-- one that asks t goes to its end
 pub end-asked : (blocks : List ℕ) (state t first past : ℕ) → (state ≡ t → ⊥) → sameBlock blocks state t ≡ true → runEnd blocks state t first past ≡ past
 unfolding runEnd
 end-asked blocks state t first past o e = sym (notSame first o (isTrue first e refl))

@@ -35,7 +35,7 @@ pub fn next_defender(rows: &Rows, state: usize, t: usize) -> usize
     pairs::next_related(rows, state, next + 1)
 }
 
-// The first that a run of a state asks, of n states: none where the run is empty.
+// The first state that the run from `first` to `past` asks; n where the run is empty.
 pub fn first_defender(rows: &Rows, n: usize, state: usize, first: usize, past: usize) -> usize
     requires { ⌜ state < limits .states ⌝ }
     ensures { λ r. ⌜ IsFirstDefender (now (rows .entry)) n state first past r ⌝ }

@@ -6,7 +6,7 @@ use lib.ListN.{length, getD}
 use denote.Ref.{now}
 use Rattle.transition.specs.KnownLaws.{few-transitions}
 use Rattle.merged_transition.specs.MergedTransition.{NoWeights}
-use Rattle.merged_transitions.specs.MergedTransitions.{blockFrom, IsFirst, InBlock}
+use Rattle.merged_transitions.specs.MergedTransitions.{blockOfSource, IsFirst, InBlock}
 use Rattle.merged_transitions.specs.ChainsLaws.{behind}
 use Rattle.merged_transitions.specs.MergedTransitionsLaws.{count-is, skip-others, block-begins, block-ends}
 use Rattle.merged_transitions.proofs.write_block.Statement.{statement}
@@ -14,7 +14,7 @@ use Rattle.merged_transitions.proofs.write_block.Tie as tie
 
 abbrev Inv-loop : tie.InvT-loop
 Inv-loop s n count places blocks k b heads chain weights₀ out₀ start kept₀ r₀ weights out kept r =
-    (length out ≡ length out₀) × NoWeights weights × InBlock s blocks b r start out kept × (r ≤ count) × (r < count → blockFrom s blocks r ≡ b)
+    (length out ≡ length out₀) × NoWeights weights × InBlock s blocks b r start out kept × (r ≤ count) × (r < count → blockOfSource s blocks r ≡ b)
 
 abbrev μ-loop : tie.MeasureT-loop
 μ-loop s n count places blocks k b heads chain weights₀ out₀ start kept₀ r₀ weights out kept r = count - r
@@ -44,10 +44,11 @@ keep-of-block-requires c κs =
     let less = c .before .before .loop-test .taken in
     record { known = p .known; merging = p .merging; block = p .block; less = less; of = inv .4 less; none = inv .1; large = omega (arith, p .large, inv .0); held = inv .2 }
 
--- the next transition of the block
+-- what is known before the first turn
 abbrev start-of : tie.After-slice-known2 Inv-loop μ-loop → tie.Start Inv-loop μ-loop
 start-of c = c .before .before .before .before .before .before .before .before .before .before .before
 
+-- the next transition of the block
 next-of : (c : tie.After-slice-known2 Inv-loop μ-loop) → let a = start-of c .args in let r = c .before .before .before .before .before .before .loop .r in IsFirst (now (a .s)) (now (a .blocks)) (a .count) (a .b) (r + 1) (getD (now (a .chain)) r 0)
 next-of c =
     let turn = c .before .before .before .before .before in

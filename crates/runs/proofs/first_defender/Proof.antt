@@ -12,7 +12,7 @@ next-defender-requires : tie.Need-next-defender-requires
 next-defender-requires c κs = search needs
 
 returns-2 : tie.Need-returns-2
-returns-2 c = asked (c .next-defender .ensures)
+returns-2 c = asked (c .before .if1 .left) (c .next-defender .ensures)
 
 pub first-defender-spec : {M : Type 1} → statement M
 first-defender-spec = tie.close (tie.spec returns next-defender-requires returns-2)

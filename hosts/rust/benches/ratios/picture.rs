@@ -1,4 +1,4 @@
-//! The growth with n as a drawing: a panel for each family, a curve for the library and one for plain Rust.
+//! The growth with n as a drawing: a panel for each table, a curve for the library and one for plain Rust.
 
 use crate::{Growth, Times};
 use std::fmt::Write;

@@ -84,7 +84,7 @@ Measured on {}, with {}, bench profile.
 Each of {PASSES} passes runs every case for 0.4 seconds and every size of the growth tables for 0.2, in rounds that alternate between the
 two. A round is as many calls as take plain Rust about 0.2 ms, at least one. The figure is the least time of a call over all rounds of all
 passes. Before they are timed both must answer alike. The library is called through the C interface, with buffers long enough. The random
-pairs are made by the tests' certificate maker from a fixed seed.
+pairs, and those that are copied, are made by the tests' certificate maker from fixed seeds.
 
 A ratio below 1 means that the library is faster. The goal is to be no slower than plain Rust in any case (1.00), and faster by a third on
 refutation-heavy and flow-heavy (0.67).

@@ -1,4 +1,6 @@
 // Whether a state of the first part of a joined model behaves as one of the second: the pair judged, the states' parts, and their blocks.
+#![tactic(auto)]
+
 ghost use Rattle.std.specs.Prelude.{◌<◌, ◌≡◌, length, get_or};
 ghost use Rattle.bisimulation.specs.definitions.Choice.{if_same};
 ghost use Rattle.joined.specs.definitions.AlikeAnswer.{parts_number};

@@ -1,4 +1,6 @@
 // What a call answers, and how its stretch is handed back.
+#![tactic(auto)]
+
 ghost use Rattle.std.specs.Prelude.{◌≤◌, [], ◌∷◌};
 ghost use Rattle.rules.specs.definitions.Answers.{refusal_in, answer_without_place};
 ghost use Rattle.fault.specs.Faults.{fault_of};

@@ -1,1 +1,2 @@
 // The block sheet, in definitions and laws: no code.
+#![tactic(auto)]

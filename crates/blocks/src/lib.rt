@@ -1,4 +1,6 @@
 // The blocks record judged: 11, 12, 17 and 18.
+#![tactic(auto)]
+
 ghost use Rattle.std.specs.Prelude.{◌+◌, ◌≤◌, length, ◌≡◌};
 ghost use Rattle.bisimulation.specs.definitions.Choice.{if_same};
 ghost use Rattle.rules.specs.definitions.Limits.{limits};

@@ -1,6 +1,8 @@
 // Sends every case of data/cases through the judging program or one of the other calls, and prints the answers. A case is a tag of one byte, three
 // numbers (the state to fetch; or the first's count and the two states) and the lengths of the two files, in four bytes each, most significant
 // first, and then the files.
+#![tactic(auto)]
+
 use answer::Answer;
 use field::Cursor;
 use judging_program::{CERTIFICATE, MODEL};

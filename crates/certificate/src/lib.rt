@@ -1,4 +1,6 @@
 // The certificate file judged: head, refutations, blocks, flows.
+#![tactic(auto)]
+
 ghost use Rattle.std.specs.Prelude.{◌+◌, ◌≤◌, ◌<◌, ◌≡◌, length};
 ghost use Rattle.rules.specs.definitions.Limits.{limits};
 ghost use Rattle.rules.specs.definitions.CertificateAt.{blocks_place};

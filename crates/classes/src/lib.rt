@@ -1,4 +1,6 @@
 // The related pairs by classes, the states with one byte: pairs of equal labels at the start, and blocks at the end.
+#![tactic(auto)]
+
 ghost use Rattle.std.specs.Prelude.{◌≤◌, ◌<◌, length, get_or, ◌≡◌};
 ghost use Rattle.rules.specs.definitions.Limits.{limits};
 ghost use Rattle.limits.specs.Sizes.{row_words};

@@ -1,4 +1,6 @@
 // Two models composed: working side by side.
+#![tactic(auto)]
+
 ghost use Rattle.std.specs.Prelude.{◌≡◌};
 ghost use Rattle.rules.specs.definitions.Reading.{model_at};
 ghost use Rattle.answer.specs.Answered.{FileWritten};

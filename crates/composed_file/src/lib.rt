@@ -1,4 +1,6 @@
 // The file of the composition of two models, written from their bytes in one pass. Each function hands back the place after what it wrote.
+#![tactic(auto)]
+
 ghost use Rattle.rules.specs.definitions.Reading.{model_at};
 ghost use Rattle.writer.specs.Appends.{Appends};
 ghost use Rattle.transition.specs.Known.{automaton_in};

@@ -1,5 +1,7 @@
 // The transition records of the moves of a composition, appended to a lent buffer from the two models' bytes. Each function hands back the
 // place after what it wrote.
+#![tactic(auto)]
+
 ghost use Rattle.writer.specs.Appends.{Appends};
 ghost use Rattle.composed_moves.specs.MoveRecords.{left_record, right_record, together_record, pairs_at, CanWriteLeft, CanWriteRight, CanWriteTogether, CanWritePairs};
 

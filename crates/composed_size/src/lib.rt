@@ -1,5 +1,7 @@
 // How large the composition of two sound models is, before anything of it is written: its transitions and entries, pair by pair, and its
 // highest label.
+#![tactic(auto)]
+
 ghost use Rattle.std.specs.Prelude.{◌+◌, ◌*◌, ◌≤◌, ◌<◌, ◌≡◌, length};
 ghost use Rattle.bisimulation.specs.definitions.Composed.{highest_label};
 ghost use Rattle.rules.specs.definitions.Limits.{limits};

@@ -1,5 +1,7 @@
 // The records of the moves from one state (s,e) of a composition, appended to a lent buffer from the two models' bytes. Each function hands
 // back the place after what it wrote.
+#![tactic(auto)]
+
 ghost use Rattle.std.specs.Prelude.{◌<◌};
 ghost use Rattle.writer.specs.Appends.{Appends};
 ghost use Rattle.transition.specs.Known.{automaton_in};

@@ -1,4 +1,6 @@
 // The price conditions of a refutation.
+#![tactic(auto)]
+
 ghost use Rattle.std.specs.Prelude.{◌+◌, ◌*◌, ◌^◌, ◌≤◌, ◌<◌, pos, nat_abs, ◌+ℤ◌, ◌-ℤ◌, ◌*ℤ◌, ◌≡◌};
 ghost use Rattle.std.specs.Int.Signed.{mag, le_z};
 ghost use Rattle.rules.specs.definitions.Limits.{limits};

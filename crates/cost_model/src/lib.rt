@@ -1,4 +1,6 @@
 // The file of a cost model (document 02, K6): its model's records, and behind them the cost record.
+#![tactic(auto)]
+
 ghost use Rattle.std.specs.Prelude.{◌≡◌, length, ◌≤◌};
 ghost use Rattle.rules.specs.definitions.Limits.{limits};
 ghost use Rattle.rules.specs.definitions.Reading.{head_fault, sound, refuse_bytes_left};

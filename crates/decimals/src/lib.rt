@@ -1,4 +1,6 @@
 // Numbers in decimal, appended to what stands in a lent buffer. Each function hands back the place after what it wrote.
+#![tactic(auto)]
+
 ghost use Rattle.std.specs.Prelude.{◌+◌, ◌≤◌, ◌≡◌, length, nat_abs};
 ghost use Rattle.numbers.specs.definitions.Decimal.{decimal};
 ghost use Rattle.sentences.specs.definitions.Sentence.{signed_decimal};

@@ -1,4 +1,6 @@
 // The greatest common divisor of each transition's weights, in a table.
+#![tactic(auto)]
+
 ghost use Rattle.rules.specs.definitions.Reading.{states_of};
 ghost use Rattle.transition.specs.Known.{Known};
 ghost use Rattle.divisors.specs.Table.{HoldsDivisors};

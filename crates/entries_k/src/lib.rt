@@ -1,4 +1,6 @@
 // The k entries of a flow judged, and taken into its equations.
+#![tactic(auto)]
+
 ghost use Rattle.rule_kind.specs.Kinds.{rule_of, cost_in};
 ghost use Rattle.rule_kind.specs.Steps.{in_question_by};
 ghost use Rattle.transition.specs.Known.{automaton_in};

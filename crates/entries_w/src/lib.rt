@@ -1,4 +1,6 @@
 // The w entries of a flow judged, and taken into its equations.
+#![tactic(auto)]
+
 ghost use Rattle.std.specs.Prelude.{◌≤◌, ◌<◌};
 ghost use Rattle.rules.specs.definitions.Limits.{limits};
 ghost use Rattle.entries_w.specs.Matching.{TellsW, CanTakeWs, TookWs};

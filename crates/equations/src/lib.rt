@@ -1,4 +1,6 @@
 // What the remainders of a flow's entries say of its equations.
+#![tactic(auto)]
+
 ghost use Rattle.std.specs.Prelude.{◌+◌, ◌≤◌, ◌≡◌};
 ghost use Rattle.rules.specs.definitions.Limits.{limits};
 ghost use Rattle.rules.specs.definitions.Faults.{first_of, fault};

@@ -1,4 +1,6 @@
 // What is wrong, as every part hands it up to the call: one type from the leaf to the answer.
+#![tactic(auto)]
+
 ghost use Rattle.std.specs.Prelude.{◌<◌, ◌≡◌};
 ghost use Rattle.rules.specs.definitions.Faults as rules;
 ghost use Rattle.fault.specs.Faults.{fault_of, Placed};

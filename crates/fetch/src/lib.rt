@@ -1,4 +1,6 @@
 // The run of the model's bytes that holds the transitions of a state.
+#![tactic(auto)]
+
 ghost use Rattle.std.specs.Prelude.{◌-◌, ◌≤◌, ◌<◌, ◌≡◌};
 ghost use Rattle.rules.specs.definitions.Limits.{limits, current};
 ghost use Rattle.rules.specs.definitions.Reading.{states_of, first_not_below};

@@ -1,4 +1,6 @@
 // A reading place in a file, by value. Each method hands back the field that it read with the cursor moved past it.
+#![tactic(auto)]
+
 ghost use Rattle.std.specs.Prelude.{◌+◌, ◌<◌, length, ◌≡◌};
 ghost use Rattle.rules.specs.definitions.Bytes.{byte_at, two_at, four_at};
 ghost use Rattle.field.specs.Taken.{Taken, IsByte, IsLowered, Priced};

@@ -1,4 +1,6 @@
 // A flow record judged: its entries, and its equations as one signed number a state, left less right.
+#![tactic(auto)]
+
 ghost use Rattle.std.specs.Prelude.{◌+◌, ◌≤◌, ◌<◌, length};
 ghost use Rattle.rules.specs.definitions.Faults as rules;
 ghost use Rattle.rule_kind.specs.Kinds.{rule_of, KindStands};

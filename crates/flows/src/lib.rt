@@ -1,4 +1,6 @@
 // The flows of a certificate judged, for each question in its order, and what is left after them.
+#![tactic(auto)]
+
 ghost use Rattle.std.specs.Prelude.{◌+◌, ◌≤◌, length};
 ghost use Rattle.rule_kind.specs.Kinds.{rule_of, KindStands};
 ghost use Rattle.transition.specs.Known.{Known};

@@ -1,4 +1,6 @@
 // The greatest common divisor of two numbers, by Euclid's way.
+#![tactic(auto)]
+
 ghost use Rattle.std.specs.Prelude.{◌≡◌};
 ghost use Rattle.numbers.specs.definitions.Divisor as numbers;
 

@@ -1,4 +1,6 @@
 // A model with the external actions of a set made internal.
+#![tactic(auto)]
+
 ghost use Rattle.std.specs.Prelude.{◌≤◌, ◌<◌, ◌≡◌, ◌++◌, length, drop};
 ghost use Rattle.rules.specs.definitions.Reading.{model_at};
 ghost use Rattle.composition.specs.definitions.Hiding.{hidden_file};

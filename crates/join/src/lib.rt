@@ -1,4 +1,6 @@
 // Two models written as one.
+#![tactic(auto)]
+
 ghost use Rattle.std.specs.Prelude.{◌≡◌};
 ghost use Rattle.two_models.specs.TwoModels.{BothSound};
 ghost use Rattle.join.specs.Join.{JoinAnswered, JoinsSound, passes_sizes};

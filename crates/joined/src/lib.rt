@@ -1,1 +1,2 @@
 // Two models as one, in definitions and laws: no code.
+#![tactic(auto)]

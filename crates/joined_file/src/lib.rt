@@ -1,4 +1,6 @@
 // The file of two models written as one.
+#![tactic(auto)]
+
 ghost use Rattle.std.specs.Prelude.{◌+◌, ◌≤◌, ◌++◌, length, drop};
 ghost use Rattle.rules.specs.definitions.Reading.{model_at};
 ghost use Rattle.joined.specs.definitions.Joined.{joined_file};

@@ -1,4 +1,6 @@
 // Judges pa.bin and ct.bin.
+#![tactic(auto)]
+
 fn main() {
     judging_program::judge_files();
 }

@@ -1,4 +1,6 @@
 // The one way in of all calls that judge: a pair's model read, and its certificate judged.
+#![tactic(auto)]
+
 ghost use Rattle.std.specs.Prelude.{◌≡◌, length};
 ghost use Rattle.limits.specs.Sizes as sizes;
 ghost use Rattle.rules.specs.definitions.Limits.{limits};

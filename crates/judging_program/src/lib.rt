@@ -1,4 +1,6 @@
 // Document 01's judging program, as functions that programs call.
+#![tactic(auto)]
+
 ghost use Rattle.io.specs.Counts.{IsPrefixLen};
 
 use libc::{STDERR_FILENO, STDOUT_FILENO};

@@ -1,4 +1,6 @@
 // The pair of files with the most flow records for n states and so many transitions (document 02, K13).
+#![tactic(auto)]
+
 ghost use Rattle.std.specs.Prelude.{◌+◌, ◌*◌, ◌-◌, ◌≤◌, ◌<◌, length, replicate, ◌≡◌};
 ghost use Rattle.rules.specs.definitions.Limits.{current};
 ghost use Rattle.rules.specs.definitions.Model.{transitions_bytes};

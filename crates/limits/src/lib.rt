@@ -1,4 +1,6 @@
 // The limits since document 02, K7, and the sizes of tables that follow from them.
+#![tactic(auto)]
+
 pub const STATES: usize = 128;
 
 pub const ACTIONS: usize = 32;

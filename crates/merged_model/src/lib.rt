@@ -1,4 +1,6 @@
 // The merged model: one state for each block, and its file.
+#![tactic(auto)]
+
 ghost use Rattle.std.specs.Prelude.{◌+◌, ◌≤◌, ◌<◌, ◌≡◌, length};
 ghost use Rattle.bisimulation.specs.definitions.Choice.{if_less};
 ghost use Rattle.rules.specs.definitions.Reading.{model_at};

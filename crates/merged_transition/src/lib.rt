@@ -1,4 +1,6 @@
 // One transition merged by blocks: its weights added up by target block, and its record appended to a buffer in lowest terms.
+#![tactic(auto)]
+
 ghost use Rattle.std.specs.Prelude.{◌+◌, ◌/◌, ◌≤◌, ◌<◌, ◌≡◌, length, get_or};
 ghost use Rattle.bisimulation.specs.definitions.Choice.{if_same};
 ghost use Rattle.numbers.specs.definitions.Divisor as numbers;

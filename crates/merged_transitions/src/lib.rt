@@ -1,4 +1,6 @@
 // The transitions of the merged model: by block and then by original place, of those of a block that are the same the first.
+#![tactic(auto)]
+
 ghost use Rattle.std.specs.Prelude.{◌≤◌, ◌<◌, length};
 ghost use Rattle.limits.specs.Sizes.{records};
 ghost use Rattle.transition.specs.Known.{Known};

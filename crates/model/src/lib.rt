@@ -1,4 +1,6 @@
 // The model file of document 01: its records in their order, and the places of its transitions.
+#![tactic(auto)]
+
 ghost use Rattle.std.specs.Prelude.{◌+◌, ◌≤◌, length, ◌≡◌};
 ghost use Rattle.rules.specs.definitions.Limits.{limits};
 ghost use Rattle.rules.specs.definitions.Reading.{head_fault, states_of, sound, scan_transitions, scan_model, refuse_bytes_left, scan_whole};

@@ -1,4 +1,6 @@
 // The head and the labels of the model file of document 01, judged in the order of the table 'Refused, and where'.
+#![tactic(auto)]
+
 ghost use Rattle.std.specs.Prelude.{◌+◌, ◌≤◌, ◌<◌, length, ◌≡◌};
 ghost use Rattle.rules.specs.definitions.Limits.{limits};
 ghost use Rattle.rules.specs.definitions.Reading.{head_fault, label_fault, labels_fault, range_fault};

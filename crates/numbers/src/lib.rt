@@ -1,1 +1,2 @@
 // Numbers in decimal, and the greatest common divisor: no code.
+#![tactic(auto)]

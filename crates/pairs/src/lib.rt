@@ -1,4 +1,6 @@
 // The related pairs, as a row of one bit for each state. Where the words of a row stand only this crate knows; it hands one out by `part`.
+#![tactic(auto)]
+
 ghost use Rattle.std.specs.Prelude.{◌+◌, ◌*◌, ◌≤◌, ◌<◌, ◌≡◌};
 ghost use Rattle.bisimulation.specs.definitions.Choice.{count_below};
 ghost use Rattle.rules.specs.definitions.Limits.{limits};

@@ -1,4 +1,6 @@
 // The phrase of a number, from a table of constants.
+#![tactic(auto)]
+
 ghost use Rattle.std.specs.Prelude.{◌+◌, ◌≤◌, ◌≡◌, length};
 ghost use Rattle.sentences.specs.definitions.Phrases.{phrase_of};
 ghost use Rattle.writer.specs.Appends.{Appends};

@@ -1,4 +1,6 @@
 // Entries of a model file with their states placed and their weights multiplied, appended to a lent buffer.
+#![tactic(auto)]
+
 ghost use Rattle.std.specs.Prelude.{map};
 ghost use Rattle.rules.specs.definitions.Model.{entries_bytes};
 ghost use Rattle.rules.specs.definitions.Reading.{entries_at};

@@ -1,4 +1,6 @@
 // The prices of a refutation: tables of them, and their sums over the entries of a transition.
+#![tactic(auto)]
+
 ghost use Rattle.std.specs.Prelude.{◌+◌, ◌*◌, ◌≤◌, ◌<◌, length, ◌≡◌};
 ghost use Rattle.rules.specs.definitions.Limits.{limits};
 ghost use Rattle.rules.specs.definitions.Bytes.{signed_at};

@@ -1,4 +1,6 @@
 // The record of a choice that has ended.
+#![tactic(auto)]
+
 ghost use Rattle.std.specs.Prelude.{◌+◌, ◌*◌, ◌≤◌, map, length};
 ghost use Rattle.rules.specs.definitions.Model.{entries_bytes, transition_bytes};
 ghost use Rattle.prism.specs.definitions.HeldModel.{entry_over};

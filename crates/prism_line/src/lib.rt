@@ -1,4 +1,6 @@
 // A line of a PRISM text, by its fields.
+#![tactic(auto)]
+
 ghost use Rattle.std.specs.Prelude.{◌≡◌};
 ghost use Rattle.prism_line.specs.LineRead.{LineRead, HeadRead};
 ghost use Rattle.prism_line.specs.LineParts.{NoLine, TwoFields, none_head, head_within};

@@ -1,4 +1,6 @@
 // The names of a PRISM text by first sight, kept as places in it.
+#![tactic(auto)]
+
 ghost use Rattle.std.specs.Prelude.{◌+◌, ◌≤◌, ◌<◌, ◌≡◌, length};
 ghost use Rattle.rules.specs.definitions.Limits.{limits};
 ghost use Rattle.prism.specs.definitions.Reading.{action_of};

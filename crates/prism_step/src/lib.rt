@@ -1,5 +1,7 @@
 // A line of a PRISM text after those before it: it begins a choice or goes on with one, and a choice that has ended is appended as the record of a
 // transition.
+#![tactic(auto)]
+
 ghost use Rattle.std.specs.Prelude.{◌+◌, ◌*◌, ◌≤◌, ◌<◌, ◌≡◌, false, length};
 ghost use Rattle.rules.specs.definitions.Limits.{limits};
 ghost use Rattle.writer.specs.Appends.{Appends};

@@ -1,4 +1,6 @@
 // The lines of a PRISM text in their order, each judged once.
+#![tactic(auto)]
+
 ghost use Rattle.std.specs.Prelude.{◌≤◌, length};
 ghost use Rattle.rules.specs.definitions.Limits.{limits};
 ghost use Rattle.prism_text.specs.LinesRead.{EndSays, CanRead, LinesRead};

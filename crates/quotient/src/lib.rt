@@ -1,1 +1,2 @@
 // The merged model, in definitions and laws: no code.
+#![tactic(auto)]

@@ -1,4 +1,6 @@
 // The transition records of a sound model with its states raised, appended to a lent buffer.
+#![tactic(auto)]
+
 ghost use Rattle.rules.specs.definitions.Model.{transition_bytes};
 ghost use Rattle.rules.specs.definitions.Reading.{transition_at, model_at, place_of};
 ghost use Rattle.joined.specs.definitions.Joined.{raised_transition};

@@ -1,4 +1,6 @@
 // The call that reads a PRISM text: its lines judged, and the model that it holds written.
+#![tactic(auto)]
+
 ghost use Rattle.std.specs.Prelude.{◌≤◌, length};
 ghost use Rattle.rules.specs.definitions.Faults as rules;
 ghost use Rattle.rules.specs.definitions.Answers.{refusal_in};

@@ -1,4 +1,6 @@
 // A record opened: two bytes, its mark, its fixed part.
+#![tactic(auto)]
+
 ghost use Rattle.std.specs.Prelude.{◌≤◌, length, ◌≡◌};
 ghost use Rattle.rules.specs.definitions.Faults.{model_record, certificate_record, open_fault};
 ghost use Rattle.fault.specs.Faults.{fault_of};

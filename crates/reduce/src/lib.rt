@@ -1,4 +1,6 @@
 // The call that reduces: a pair judged, and its model written with each block merged into one state.
+#![tactic(auto)]
+
 ghost use Rattle.std.specs.Prelude.{[], ◌∷◌};
 ghost use Rattle.rules.specs.definitions.Reading.{model_at};
 ghost use Rattle.rules.specs.definitions.Answers.{files_outcome};

@@ -1,4 +1,6 @@
 // A refutation judged: its fixed fields, its pair, and its prices.
+#![tactic(auto)]
+
 ghost use Rattle.std.specs.Prelude.{◌+◌, ◌≤◌, length};
 ghost use Rattle.rule_kind.specs.Kinds.{rule_of, KindStands};
 ghost use Rattle.fault.specs.Faults.{fault_of, Placed};

@@ -1,4 +1,6 @@
 // The price condition of related states.
+#![tactic(auto)]
+
 ghost use Rattle.std.specs.Prelude.{◌+◌, ◌*◌, ◌≤◌, ◌<◌};
 ghost use Rattle.rules.specs.definitions.Limits.{limits};
 ghost use Rattle.word.specs.Bits.{word_bits};

@@ -1,4 +1,6 @@
 // A table of signed numbers, one a state before and one after a flow's move, with the count of those that are not zero.
+#![tactic(auto)]
+
 ghost use Rattle.std.specs.Prelude.{◌+◌, ◌<◌, ◌^◌, ◌≡◌, pos, neg_ℤ};
 ghost use Rattle.transition.specs.Known.{automaton_in, entries_of};
 ghost use Rattle.remainders.specs.Remainders.{AllZero};

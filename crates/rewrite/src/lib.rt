@@ -1,4 +1,6 @@
 // The calls that rewrite a stored pair in lowest terms (document 02, K10): it is judged by the rules without 34, and both files are written.
+#![tactic(auto)]
+
 ghost use Rattle.std.specs.Prelude.{◌≡◌, false};
 ghost use Rattle.rules.specs.definitions.Limits.{limits};
 ghost use Rattle.rules.specs.definitions.Reading.{head_fault};

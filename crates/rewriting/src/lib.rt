@@ -1,1 +1,2 @@
 // Document 02, K10: a stored pair rewritten in lowest terms. No code: the definitions are in specs.
+#![tactic(auto)]

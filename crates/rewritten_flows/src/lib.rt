@@ -1,5 +1,7 @@
 // The flows of an accepted certificate with each k multiplied by the divisor of its transition: the first with a k too large, and the file written.
 // Records keep their places.
+#![tactic(auto)]
+
 ghost use Rattle.std.specs.Prelude.{◌≤◌, ◌≡◌, length};
 ghost use Rattle.rules.specs.definitions.Encoding.{list_bytes, k_bytes, flow_bytes};
 ghost use Rattle.rules.specs.definitions.CertificateAt.{flow_record_at};

@@ -1,5 +1,7 @@
 // The file of a sound model with each transition in lowest terms, written into a buffer with room for it. What stands behind the transitions, the
 // costs of a cost model, stays.
+#![tactic(auto)]
+
 ghost use Rattle.std.specs.Prelude.{◌≡◌, ◌≤◌, ◌++◌, map, length, drop};
 ghost use Rattle.rules.specs.definitions.Model.{entries_bytes, transition_bytes};
 ghost use Rattle.rules.specs.definitions.LowestTerms.{divided_entry, in_lowest};

@@ -1,4 +1,6 @@
 // The step rule that a pair is judged by: all that the code asks of it, by its kind and by the challenger, which is told by its action.
+#![tactic(auto)]
+
 ghost use Rattle.std.specs.Prelude.{◌+◌, ◌*◌, ◌≤◌, length, ◌≡◌};
 ghost use Rattle.rules.specs.definitions.Limits.{limits};
 ghost use Rattle.rule_kind.specs.Kinds.{is_strong, has_costs, mark_of, CostAsked, CostIs};

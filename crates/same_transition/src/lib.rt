@@ -1,5 +1,7 @@
 // Whether a transition record is the same as one of those before it. All are in lowest terms, so those that are the same are the same bytes
 // from the action on.
+#![tactic(auto)]
+
 ghost use Rattle.std.specs.Prelude.{◌+◌, ◌≤◌, length, ◌≡◌};
 ghost use Rattle.same_transition.specs.SameTransition.{Stand, IsRepeated, CanPass, Passed, same_bytes};
 

@@ -1,4 +1,6 @@
 // A sentence that tells an answer's five values.
+#![tactic(auto)]
+
 ghost use Rattle.std.specs.Prelude.{◌+◌, ◌≤◌, ◌++◌, length};
 ghost use Rattle.numbers.specs.definitions.Decimal.{decimal};
 ghost use Rattle.sentences.specs.definitions.Sentence.{sentence};

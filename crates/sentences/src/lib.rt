@@ -1,1 +1,2 @@
 // Sentences for answers, in definitions and laws: no code.
+#![tactic(auto)]

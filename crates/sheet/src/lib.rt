@@ -1,4 +1,6 @@
 // The call that writes the block sheet: a pair judged, the rows of its blocks, and the sheet where there is room for it.
+#![tactic(auto)]
+
 ghost use Rattle.std.specs.Prelude.{[], ◌∷◌};
 ghost use Rattle.rules.specs.definitions.Answers.{files_outcome};
 ghost use Rattle.answer.specs.Answered.{Gives};

@@ -1,4 +1,6 @@
 // The length of the block sheet, and its lines for all blocks.
+#![tactic(auto)]
+
 ghost use Rattle.std.specs.Prelude.{◌+◌, ◌≤◌, ◌<◌, ◌≡◌, eqb, length, get_or};
 ghost use Rattle.answer.specs.Answered.{FileWritten};
 ghost use Rattle.writer.specs.Appends.{Appends};

@@ -1,4 +1,6 @@
 // The lines of a block on the sheet, appended to what stands in a lent buffer. The members of a block are the states related to one of them.
+#![tactic(auto)]
+
 ghost use Rattle.std.specs.Prelude.{◌+◌, ◌*◌, ◌≤◌, ◌<◌, ◌≡◌, ◌++◌, length};
 ghost use Rattle.rules.specs.definitions.Limits.{limits};
 ghost use Rattle.pairs.specs.Rows.{row_bit};

@@ -1,4 +1,6 @@
 // Arithmetic of numbers with a sign: a sum with one more term, an amount with its sign turned, and the larger of two.
+#![tactic(auto)]
+
 ghost use Rattle.std.specs.Prelude.{◌<◌, ◌^◌, ◌≡◌, pos, neg_ℤ};
 ghost use Rattle.signed.specs.Terms.{Addable, WithTerm};
 ghost use Rattle.signed.specs.Larger.{IsLarger};

@@ -1,1 +1,2 @@
 // The strong step rule, in definitions and laws: no code.
+#![tactic(auto)]

@@ -1,1 +1,2 @@
 // Strong certificates, in definitions and laws: no code.
+#![tactic(auto)]

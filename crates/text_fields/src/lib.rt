@@ -1,4 +1,6 @@
 // The fields of a text: pieces between bytes that part them, numbers, probabilities, names.
+#![tactic(auto)]
+
 ghost use Rattle.std.specs.Prelude.{◌*◌, ◌-◌, ◌^◌, ◌≤◌, ◌<◌, ◌≡◌, [], ◌∷◌, length, drop};
 ghost use Rattle.bisimulation.specs.definitions.Choice.{if_same};
 ghost use Rattle.prism.specs.definitions.Lines.{ten_thousandths, is_name};

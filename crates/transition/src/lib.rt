@@ -1,4 +1,6 @@
 // A transition of a sound model by its number: its fields, and its entries in their order.
+#![tactic(auto)]
+
 ghost use Rattle.std.specs.Prelude.{◌+◌, ◌<◌, length};
 ghost use Rattle.transition.specs.Known.{Known, KnownModel, KnownTransition, FieldsOf};
 ghost use Rattle.transition.specs.Entries.{EntryTaken};

@@ -1,4 +1,6 @@
 // The entries of a transition record, judged in the order of the table 'Refused, and where'.
+#![tactic(auto)]
+
 ghost use Rattle.std.specs.Prelude.{◌+◌, ◌*◌, ◌≤◌, ◌<◌, length};
 ghost use Rattle.transition_entries.specs.EntriesRead.{EntriesRead};
 

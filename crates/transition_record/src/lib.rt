@@ -1,4 +1,6 @@
 // A transition record of the model file of document 01, judged in the order of the table 'Refused, and where'.
+#![tactic(auto)]
+
 ghost use Rattle.std.specs.Prelude.{◌+◌, ◌≤◌, ◌<◌, length, ◌≡◌};
 ghost use Rattle.rules.specs.definitions.Limits.{limits};
 ghost use Rattle.rules.specs.definitions.Reading.{fixed_fault_at, after_transition};

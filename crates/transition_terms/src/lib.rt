@@ -1,4 +1,6 @@
 // The terms that a transition is written in (document 02, K10): the greatest common divisor of its weights, and 34.
+#![tactic(auto)]
+
 ghost use Rattle.std.specs.Prelude.{◌+◌, ◌*◌, ◌≤◌, length, ◌≡◌};
 ghost use Rattle.numbers.specs.definitions.Divisor.{divisor};
 ghost use Rattle.rules.specs.definitions.Limits.{lowest_terms};

@@ -1,4 +1,6 @@
 // Two models read in the order named: the first is file 1, the second file 3; and the larger of two numbers.
+#![tactic(auto)]
+
 ghost use Rattle.std.specs.Prelude.{◌≡◌, length};
 ghost use Rattle.bisimulation.specs.definitions.Joined as joined;
 ghost use Rattle.limits.specs.Sizes as sizes;

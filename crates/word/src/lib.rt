@@ -1,4 +1,6 @@
 // The bits of one of the machine's words.
+#![tactic(auto)]
+
 ghost use Rattle.std.specs.Prelude.{◌*◌, ◌<◌, ◌≡◌};
 ghost use Rattle.bisimulation.specs.definitions.Choice.{count_below};
 ghost use Rattle.word.specs.Bits.{word_bits, bit_of, set_bit, clear_bit, AreSame, IsNextBelow};

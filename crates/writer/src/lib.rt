@@ -1,5 +1,7 @@
 // The model writer: the records of a model appended to what stands in a lent buffer. Each function hands back the place after what it
 // wrote.
+#![tactic(auto)]
+
 ghost use Rattle.std.specs.Prelude.{◌+◌, ◌≤◌, ◌<◌, length, [], ◌∷◌};
 ghost use Rattle.rules.specs.definitions.Bytes.{two_bytes};
 ghost use Rattle.rules.specs.definitions.Encoding.{four_bytes};

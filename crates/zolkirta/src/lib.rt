@@ -1,5 +1,7 @@
 // The product: the calls for C and Rust, over byte slices and plain numbers; a stretch by where it starts in its file and how long it is.
 // No public entry has a `requires`.
+#![tactic(auto)]
+
 ghost use Rattle.rule_kind.specs.declared.Kind.TheVariants.{Plain, Costs, Strong};
 ghost use Rattle.fetch.specs.Fetched.{FetchAnswered};
 ghost use Rattle.judge.specs.Judge.{JudgeAnswered};

@@ -25,12 +25,12 @@ judge-files-requires c κs = c.before.before.head-answer.ensures.good c.if1.fals
 enum-known-found : tie.Need-enum-known-found
 enum-known-found c = search rules
 
-add-compare : tie.Need-overflow-add-compare
+add-compare : tie.Need-overflow_add-compare
 add-compare c =
     let files = c.before.before.before in
     omega (arith, (found-accepted files.judge-files.ensures c.before.found.given.1).inside, files.before.before.before.before.before.before.well-formed.1.1.0.0)
 
-sub-compare : tie.Need-overflow-sub-compare
+sub-compare : tie.Need-overflow_sub-compare
 sub-compare c = search rules
 
 part-compare-start : tie.Need-slice-bounds-compare-start
@@ -59,8 +59,8 @@ returns-3 c =
     pair-refused (λ i h. omega (arith, files.before.before.before.before.before.shared-slice-known.given i)) (λ i h. omega (arith, files.before.before.before.before.shared-slice-known2.given i)) _
     (found-refused files.judge-files.ensures c.before.found2.given.1) refl
 
-pub alike-answer-spec : {M : Type 1} → statement M
-alike-answer-spec =
+pub alike_answer_spec : {M : Type 1} → statement M
+alike_answer_spec =
     tie.close
     (tie.spec
     head-answer-requires

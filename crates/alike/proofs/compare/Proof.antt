@@ -35,5 +35,5 @@ returns-2 c =
       said = λ z. c.same_block.ensures;
     }
 
-pub compare-spec : {M : Type 1} → statement M
-compare-spec = tie.close (tie.spec parts-number-requires without-place-requires returns same-block-requires returns-2)
+pub compare_spec : {M : Type 1} → statement M
+compare_spec = tie.close (tie.spec parts-number-requires without-place-requires returns same-block-requires returns-2)

@@ -26,5 +26,5 @@ returns-5 : tie.Need-returns-5
 unfolding parts_number
 returns-5 c = not_less _ (omega arith) (less _ (omega arith) (not_less _ (omega arith) (less _ (omega arith) refl)))
 
-pub parts-number-spec : {M : Type 1} → statement M
-parts-number-spec = tie.close (tie.spec returns returns-2 returns-3 returns-4 returns-5)
+pub parts_number_spec : {M : Type 1} → statement M
+parts_number_spec = tie.close (tie.spec returns returns-2 returns-3 returns-4 returns-5)

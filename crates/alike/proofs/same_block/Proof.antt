@@ -17,6 +17,6 @@ returns c = same _ c.if1.true refl
 returns-2 : tie.Need-returns-2
 returns-2 c = not_same _ c.if1.false refl
 
-pub same-block-spec : {M : Type 1} → statement M
-same-block-spec =
+pub same_block_spec : {M : Type 1} → statement M
+same_block_spec =
     tie.close (tie.spec shared-slice-read-if1 shared-slice-read-if1-2 returns returns-2)

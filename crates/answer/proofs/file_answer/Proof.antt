@@ -17,5 +17,5 @@ without-place-requires-2 c κs = search rules
 returns-2 : tie.Need-returns-2
 returns-2 c = record { few = λ h. absurd (omega arith); enough = λ h. without-as 0 _ c.without-place2.ensures (omega arith) (omega arith) }
 
-pub file-answer-spec : {M : Type 1} → statement M
-file-answer-spec = tie.close (tie.spec without-place-requires returns without-place-requires-2 returns-2)
+pub file_answer_spec : {M : Type 1} → statement M
+file_answer_spec = tie.close (tie.spec without-place-requires returns without-place-requires-2 returns-2)

@@ -8,5 +8,5 @@ returns : tie.Need-returns
 unfolding answer_without_place
 returns c = record { answer = refl; wrote = refl }
 
-pub without-place-spec : {M : Type 1} → statement M
-without-place-spec = tie.close (tie.spec returns)
+pub without_place_spec : {M : Type 1} → statement M
+without_place_spec = tie.close (tie.spec returns)

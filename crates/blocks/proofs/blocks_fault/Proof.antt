@@ -12,7 +12,7 @@ use borrow.Author.Tests.{not-true, not-false}
 use Rattle.blocks.proofs.blocks_fault.Statement.{statement}
 use Rattle.blocks.proofs.blocks_fault.Tie as tie
 
-add-open-certificate : tie.Need-overflow-add-open-certificate
+add-open-certificate : tie.Need-overflow_add-open-certificate
 add-open-certificate c = search rules
 
 open-certificate-requires : tie.Need-open-certificate-requires
@@ -26,7 +26,7 @@ returns c =
     let opening = c.before.before.before.open-certificate in
     not_opened _ _ _ opening.result opening.ensures c.before.if1.true c.at.ensures
 
-add_start : tie.Need-overflow-add-start
+add_start : tie.Need-overflow_add-start
 add_start c = let opening = c.before.before.open-certificate in omega (arith, whole _ _ _ opening.result opening.ensures c.if1.false)
 
 numbered-fault-requires : tie.Need-numbered-fault-requires
@@ -43,13 +43,13 @@ returns-2 c =
     let numbered = c.before.before.before.numbered-fault in
     not-numbered _ _ _ opening.result opening.ensures past.if1.false numbered.result numbered.ensures c.before.if2.true c.at2.ensures
 
-add-agrees : tie.Need-overflow-add-agrees
+add-agrees : tie.Need-overflow_add-agrees
 add-agrees c =
     let past = c.before.before.before in
     let opening = past.before.before.open-certificate in
     omega (arith, whole _ _ _ opening.result opening.ensures past.if1.false)
 
-sub-agrees : tie.Need-overflow-sub-agrees
+sub-agrees : tie.Need-overflow_sub-agrees
 sub-agrees c = search rules
 
 part-agrees-start : tie.Need-slice-bounds-agrees-start
@@ -110,8 +110,8 @@ returns-4 c =
     compare.agrees.ensures part (omega arith) c.before.none.result
     (is_true _ (not-false _ c.before.before.if3.false) c.before.none.ensures) c.at4.ensures
 
-pub blocks-fault-spec : {M : Type 1} → statement M
-blocks-fault-spec =
+pub blocks_fault_spec : {M : Type 1} → statement M
+blocks_fault_spec =
     tie.close
     (tie.spec
     add-open-certificate

@@ -40,7 +40,7 @@ returns c =
 seen-after-requires : tie.Need-seen-after-requires invariant-loop decreases-loop
 seen-after-requires c κs = omega arith
 
-sub-left : tie.Need-overflow-sub-left invariant-loop decreases-loop
+sub-left : tie.Need-overflow_sub-left invariant-loop decreases-loop
 sub-left c = omega arith
 
 loop-less : tie.Need-loop-smaller invariant-loop decreases-loop
@@ -71,8 +71,8 @@ returns-2 c =
     let l = c.before.before.loop in
     via (numbered-end _ l.left l.place.at l.seen (omega arith)) c.none.ensures ∙ l.invariant.2
 
-pub numbered-fault-spec : {M : Type 1} → statement M
-numbered-fault-spec =
+pub numbered_fault_spec : {M : Type 1} → statement M
+numbered_fault_spec =
     tie.close
     (tie.spec
     invariant-loop

@@ -6,7 +6,7 @@ use borrow.Author.Rules.{rules}
 use Rattle.blocks.proofs.seen_after.Statement.{statement}
 use Rattle.blocks.proofs.seen_after.Tie as tie
 
-add-result : tie.Need-overflow-add-result
+add-result : tie.Need-overflow_add-result
 add-result c = search rules
 
 returns : tie.Need-returns
@@ -15,5 +15,5 @@ returns c = same _ (omega arith) refl
 returns-2 : tie.Need-returns-2
 returns-2 c = not_same _ (omega (arith, c.if1.false)) refl
 
-pub seen-after-spec : {M : Type 1} → statement M
-seen-after-spec = tie.close (tie.spec add-result returns returns-2)
+pub seen_after_spec : {M : Type 1} → statement M
+seen_after_spec = tie.close (tie.spec add-result returns returns-2)

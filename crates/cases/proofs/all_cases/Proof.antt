@@ -15,7 +15,7 @@ loop-holds c = tt
 one-case-requires : tie.Need-one-case-requires invariant-loop decreases-loop
 one-case-requires c κs = tt
 
-sub-turns : tie.Need-overflow-sub-turns invariant-loop decreases-loop
+sub-turns : tie.Need-overflow_sub-turns invariant-loop decreases-loop
 sub-turns c = omega arith
 
 loop-less : tie.Need-loop-smaller invariant-loop decreases-loop
@@ -30,8 +30,8 @@ returns c = tt
 returns-2 : tie.Need-returns-2 invariant-loop decreases-loop
 returns-2 c = tt
 
-pub all-cases-spec : {M : Type 1} → statement M
-all-cases-spec =
+pub all_cases_spec : {M : Type 1} → statement M
+all_cases_spec =
     tie.close
     (tie.spec
     invariant-loop

@@ -21,7 +21,7 @@ shared-slice-read-print-byte c = omega arith
 print-byte-requires : tie.Need-print-byte-requires invariant-loop decreases-loop
 print-byte-requires c κs = search rules
 
-add-i : tie.Need-overflow-add-i invariant-loop decreases-loop
+add-i : tie.Need-overflow_add-i invariant-loop decreases-loop
 add-i c = omega arith
 
 loop-less : tie.Need-loop-smaller invariant-loop decreases-loop
@@ -39,8 +39,8 @@ print-requires c κs = search rules
 returns : tie.Need-returns invariant-loop decreases-loop
 returns c = search rules
 
-pub print-bytes-spec : {M : Type 1} → statement M
-print-bytes-spec =
+pub print_bytes_spec : {M : Type 1} → statement M
+print_bytes_spec =
     tie.close
     (tie.spec
     invariant-loop

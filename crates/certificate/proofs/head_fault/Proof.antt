@@ -70,8 +70,8 @@ returns-3 c =
           c.before.none.result c.at3.ensures c.before.before.if2.false c.before.none.ensures;
     }
 
-pub head-fault-spec : {M : Type 1} → statement M
-head-fault-spec =
+pub head_fault_spec : {M : Type 1} → statement M
+head_fault_spec =
     tie.close
     (tie.spec
     mark-requires

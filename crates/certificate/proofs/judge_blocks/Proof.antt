@@ -22,7 +22,7 @@ returns c =
     let p = c.before.before.before.before.before.requires in
     blocks-stops _ p.0 judged.result judged.ensures c.if1.true p.1
 
-add_start : tie.Need-overflow-add-start
+add_start : tie.Need-overflow_add-start
 add_start c = omega (arith, c.before.before.blocks-fault.ensures.inside c.if1.false)
 
 -- what judging the flows asks once the blocks have passed, by whichever kind stands
@@ -76,8 +76,8 @@ returns-4 c =
     rw c.before.enum-told3.given.1
     (blocks-passes _ passed.before.before.before.before.before.requires.0 judged.result judged.ensures passed.if1.false c.judge-flows3.ensures)
 
-pub judge-blocks-spec : {M : Type 1} → statement M
-judge-blocks-spec =
+pub judge_blocks_spec : {M : Type 1} → statement M
+judge_blocks_spec =
     tie.close
     (tie.spec
     blocks-fault-requires

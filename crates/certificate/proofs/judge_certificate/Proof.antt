@@ -25,10 +25,10 @@ returns c =
 no-rows-requires : tie.Need-no-rows-requires
 no-rows-requires c κs = tt
 
-add_start : tie.Need-overflow-add-start
+add_start : tie.Need-overflow_add-start
 add_start c = omega (arith, few-states c.before.before.before.before.before.before.requires.0)
 
-sub-start : tie.Need-overflow-sub-start
+sub-start : tie.Need-overflow_sub-start
 sub-start c = omega arith
 
 part-start-start : tie.Need-slice-bounds-start-start
@@ -86,8 +86,8 @@ returns-3 c =
     let judged = c.before.before.before.before.before in
     refuting-ends _ _ _ _ (judged.judge-refutations.ensures.passes c.before.before.if2.false) (omega arith) c.judge-blocks.ensures
 
-pub judge-certificate-spec : {M : Type 1} → statement M
-judge-certificate-spec =
+pub judge_certificate_spec : {M : Type 1} → statement M
+judge_certificate_spec =
     tie.close
     (tie.spec
     head-fault-requires

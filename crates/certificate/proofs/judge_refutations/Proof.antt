@@ -40,7 +40,7 @@ remove-requires c κs =
     let few = few-states start.requires.0 in
     (omega (arith, pair.first, few), omega (arith, pair.second, few))
 
-sub-left : tie.Need-overflow-sub-left invariant-loop decreases-loop
+sub-left : tie.Need-overflow_sub-left invariant-loop decreases-loop
 sub-left c =
     let past = c.before.before.before in
     omega (arith, past.before.before.before.before.before.before.before.before.loop-test.true)
@@ -64,8 +64,8 @@ none-requires c κs = tt
 returns-2 : tie.Need-returns-2 invariant-loop decreases-loop
 returns-2 c = refutations-pass c.none.result c.none.ensures c.before.before.loop.invariant.0 (omega arith)
 
-pub judge-refutations-spec : {M : Type 1} → statement M
-judge-refutations-spec =
+pub judge_refutations_spec : {M : Type 1} → statement M
+judge_refutations_spec =
     tie.close
     (tie.spec
     invariant-loop

@@ -38,7 +38,7 @@ returns c =
     let same = c.before.same_in.ensures in
     agrees-not members.ensures a.requires.2 v _ (omega arith) (omega arith) (λ all. same.differ (not-true _ c.if1.true) (λ i l. all i))
 
-add-v : tie.Need-overflow-add-v invariant-loop decreases-loop
+add-v : tie.Need-overflow_add-v invariant-loop decreases-loop
 add-v c = omega arith
 
 loop-less : tie.Need-loop-smaller invariant-loop decreases-loop
@@ -56,8 +56,8 @@ returns-2 c =
     let e : c.before.loop.v ≡ a.args.n = omega arith in
     agrees-all c.before.before.classes.ensures a.requires.2 (rw e at c.before.loop.invariant.1)
 
-pub agrees-spec : {M : Type 1} → statement M
-agrees-spec =
+pub agrees_spec : {M : Type 1} → statement M
+agrees_spec =
     tie.close
     (tie.spec
     invariant-loop

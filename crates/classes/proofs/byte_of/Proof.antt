@@ -8,11 +8,11 @@ use Rattle.classes.proofs.byte_of.Tie as tie
 shared-slice-read-result : tie.Need-shared-slice-read-result
 shared-slice-read-result c = search rules
 
-cast-result : tie.Need-overflow-cast-result
+cast-result : tie.Need-overflow_cast-result
 cast-result c = omega (arith, c.before.requires.2.small _ c.before.requires.0)
 
 returns : tie.Need-returns
 returns c = (refl, c.before.requires.2.small _ c.before.requires.0)
 
-pub byte-of-spec : {M : Type 1} → statement M
-byte-of-spec = tie.close (tie.spec shared-slice-read-result cast-result returns)
+pub byte_of_spec : {M : Type 1} → statement M
+byte_of_spec = tie.close (tie.spec shared-slice-read-result cast-result returns)

@@ -22,7 +22,7 @@ byte-of-requires c κs = (omega arith, omega arith, c.before.before.before.requi
 relate-requires : tie.Need-relate-requires invariant-loop decreases-loop
 relate-requires c κs = omega arith
 
-add-u : tie.Need-overflow-add-u invariant-loop decreases-loop
+add-u : tie.Need-overflow_add-u invariant-loop decreases-loop
 add-u c = omega arith
 
 loop-less : tie.Need-loop-smaller invariant-loop decreases-loop
@@ -39,8 +39,8 @@ returns c =
     let e : c.before.loop.u ≡ c.before.before.before.args.n = omega arith in
     rw e at c.before.loop.invariant.1
 
-pub classes-spec : {M : Type 1} → statement M
-classes-spec =
+pub classes_spec : {M : Type 1} → statement M
+classes_spec =
     tie.close
     (tie.spec
     invariant-loop

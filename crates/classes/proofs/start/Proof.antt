@@ -29,7 +29,7 @@ byte-of-requires c κs = (omega arith, omega arith, c.before.before.before.befor
 copy-row-requires : tie.Need-copy-row-requires invariant-loop decreases-loop
 copy-row-requires c κs = omega arith
 
-add-v : tie.Need-overflow-add-v invariant-loop decreases-loop
+add-v : tie.Need-overflow_add-v invariant-loop decreases-loop
 add-v c = omega arith
 
 loop-less : tie.Need-loop-smaller invariant-loop decreases-loop

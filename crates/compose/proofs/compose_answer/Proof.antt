@@ -43,8 +43,8 @@ returns-2 c =
     (λ i h. omega (arith, read.before.before.before.before.shared-slice-known2.given i)) _
     (found-refused _ read.read-two.ensures c.before.read2.given.1)
 
-pub compose-answer-spec : {M : Type 1} → statement M
-compose-answer-spec =
+pub compose_answer_spec : {M : Type 1} → statement M
+compose_answer_spec =
     tie.close
     (tie.spec
     no-places-requires

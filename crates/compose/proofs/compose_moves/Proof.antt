@@ -49,8 +49,8 @@ returns-2 c =
     (moves-within limit.before.before.before.before.before.before.before.requires limit.before.count-moves.ensures within)
     written.write-file.ensures c.file-answer.ensures
 
-pub compose-moves-spec : {M : Type 1} → statement M
-compose-moves-spec =
+pub compose_moves_spec : {M : Type 1} → statement M
+compose_moves_spec =
     tie.close
     (tie.spec
     places-of-requires

@@ -17,20 +17,20 @@ highest-label-requires-2 c κs =
     let known = c.before.before.before.before.requires.known in
     (known.states, known.labels)
 
-mul-passes-states : tie.Need-overflow-mul-passes-states
+mul-passes-states : tie.Need-overflow_mul-passes-states
 mul-passes-states c = omega (arith, few-pairs c.before.before.before.before.before.before.before.requires)
 
-add-passes-states : tie.Need-overflow-add-passes-states
+add-passes-states : tie.Need-overflow_add-passes-states
 add-passes-states c =
     let a = c.before.before.before.before.before.before.before in
     omega (arith, small-highest a.requires c.before.before.before.highest-label.ensures c.before.before.highest-label2.ensures)
 
-mul-passes-states-2 : tie.Need-overflow-mul-passes-states-2
+mul-passes-states-2 : tie.Need-overflow_mul-passes-states-2
 mul-passes-states-2 c =
     let a = c.before.before.before.before.before.before.before in
     omega (arith, small-label a.requires c.before.before.before.highest-label.ensures c.before.before.highest-label2.ensures)
 
-add-passes-states-2 : tie.Need-overflow-add-passes-states-2
+add-passes-states-2 : tie.Need-overflow_add-passes-states-2
 add-passes-states-2 c =
     let a = c.before.before.before.before.before.before.before in
     let own = c.before.before.before.highest-label.ensures in
@@ -52,7 +52,7 @@ returns c =
     limit-passed _ (many-pairs a.requires labels.before.highest-label.ensures labels.highest-label2.ensures over)
     (without-as 37 0 c.without-place.ensures (omega arith) (omega arith))
 
-add-compose-moves : tie.Need-overflow-add-compose-moves
+add-compose-moves : tie.Need-overflow_add-compose-moves
 add-compose-moves c =
     let labels = c.before.before.before.before in
     let a = labels.before.before.before.before.before in
@@ -72,8 +72,8 @@ same_length c = search rules
 returns-2 : tie.Need-returns-2
 returns-2 c = search rules
 
-pub compose-sound-spec : {M : Type 1} → statement M
-compose-sound-spec =
+pub compose_sound_spec : {M : Type 1} → statement M
+compose_sound_spec =
     tie.close
     (tie.spec
     highest-label-requires

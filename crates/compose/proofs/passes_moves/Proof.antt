@@ -22,5 +22,5 @@ returns-4 : tie.Need-returns-4
 unfolding passes_moves
 returns-4 c = not_less _ (omega arith) (not_less _ (omega arith) (not_less _ (omega arith) refl))
 
-pub passes-moves-spec : {M : Type 1} → statement M
-passes-moves-spec = tie.close (tie.spec returns returns-2 returns-3 returns-4)
+pub passes_moves_spec : {M : Type 1} → statement M
+passes_moves_spec = tie.close (tie.spec returns returns-2 returns-3 returns-4)

@@ -18,5 +18,5 @@ returns-3 : tie.Need-returns-3
 unfolding passes_states
 returns-3 c = not_less _ (omega arith) (not_less _ (omega arith) refl)
 
-pub passes-states-spec : {M : Type 1} → statement M
-passes-states-spec = tie.close (tie.spec returns returns-2 returns-3)
+pub passes_states_spec : {M : Type 1} → statement M
+passes_states_spec = tie.close (tie.spec returns returns-2 returns-3)

@@ -8,22 +8,22 @@ use borrow.Author.Rules.{rules}
 use Rattle.compose.proofs.write_file.Statement.{statement}
 use Rattle.compose.proofs.write_file.Tie as tie
 
-mul-size : tie.Need-overflow-mul-size
+mul-size : tie.Need-overflow_mul-size
 mul-size c = omega (arith, few-sizes c.before.before.before.before.before.requires)
 
-add-size : tie.Need-overflow-add-size
+add-size : tie.Need-overflow_add-size
 add-size c = omega (arith, few-sizes c.before.before.before.before.before.requires)
 
-mul-size-2 : tie.Need-overflow-mul-size-2
+mul-size-2 : tie.Need-overflow_mul-size-2
 mul-size-2 c = search rules
 
-add-size-2 : tie.Need-overflow-add-size-2
+add-size-2 : tie.Need-overflow_add-size-2
 add-size-2 c = omega (arith, few-sizes c.before.before.before.before.before.before.requires)
 
-mul-size-3 : tie.Need-overflow-mul-size-3
+mul-size-3 : tie.Need-overflow_mul-size-3
 mul-size-3 c = search rules
 
-add-size-3 : tie.Need-overflow-add-size-3
+add-size-3 : tie.Need-overflow_add-size-3
 add-size-3 c = omega (arith, few-sizes c.before.before.before.before.before.before.before.requires)
 
 write-composed-requires : tie.Need-write-composed-requires
@@ -40,8 +40,8 @@ returns c =
 returns-2 : tie.Need-returns-2
 returns-2 c = written-short _ (composed-size c.before.before.before.before.before.before.before.before.requires refl) (omega arith)
 
-pub write-file-spec : {M : Type 1} → statement M
-write-file-spec =
+pub write_file_spec : {M : Type 1} → statement M
+write_file_spec =
     tie.close
     (tie.spec
     mul-size

@@ -8,7 +8,7 @@ use Rattle.composed_file.proofs.write_composed.Tie as tie
 larger-requires : tie.Need-larger-requires
 larger-requires c κs = search rules
 
-mul-head : tie.Need-overflow-mul-head
+mul-head : tie.Need-overflow_mul-head
 mul-head c = omega (arith, states-fit c.before.before.before.before.before.before.before.requires)
 
 head-requires : tie.Need-head-requires
@@ -41,8 +41,8 @@ returns c =
     file-written larger.before.before.before.before.requires larger.larger.ensures
     head.head.ensures labels.write-labels.ensures records.write_moves.ensures
 
-pub write-composed-spec : {M : Type 1} → statement M
-write-composed-spec =
+pub write_composed_spec : {M : Type 1} → statement M
+write_composed_spec =
     tie.close
     (tie.spec
     larger-requires

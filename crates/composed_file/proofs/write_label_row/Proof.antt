@@ -17,19 +17,19 @@ decreases-loop label factor right n out₀ at e₀ next₀ out e next = n - e
 loop-holds : tie.Need-loop-init invariant-loop decreases-loop
 loop-holds c = gathering-start c.before.before.requires.room
 
-mul-byte : tie.Need-overflow-mul-byte invariant-loop decreases-loop
+mul-byte : tie.Need-overflow_mul-byte invariant-loop decreases-loop
 mul-byte c = let l = c.before.before in omega (arith, label-fits l.before.before.before.requires l.loop.invariant (omega arith))
 
-add-byte : tie.Need-overflow-add-byte invariant-loop decreases-loop
+add-byte : tie.Need-overflow_add-byte invariant-loop decreases-loop
 add-byte c = omega arith
 
 shared-slice-read-byte : tie.Need-shared-slice-read-byte invariant-loop decreases-loop
 shared-slice-read-byte c = omega arith
 
-cast-byte : tie.Need-overflow-cast-byte invariant-loop decreases-loop
+cast-byte : tie.Need-overflow_cast-byte invariant-loop decreases-loop
 cast-byte c = omega (arith, c.shared-slice-known2.given (8 + c.before.before.before.loop.e))
 
-add-byte-2 : tie.Need-overflow-add-byte-2 invariant-loop decreases-loop
+add-byte-2 : tie.Need-overflow_add-byte-2 invariant-loop decreases-loop
 unfolding byte_at
 add-byte-2 c = let l = c.before.before.before in omega (arith, label-fits l.before.before.before.requires l.loop.invariant (omega arith))
 
@@ -37,7 +37,7 @@ byte-requires : tie.Need-byte-requires invariant-loop decreases-loop
 unfolding byte_at
 byte-requires c κs = let l = c.before.before.before in label-fits l.before.before.before.requires l.loop.invariant (omega arith)
 
-add-e : tie.Need-overflow-add-e invariant-loop decreases-loop
+add-e : tie.Need-overflow_add-e invariant-loop decreases-loop
 add-e c = omega arith
 
 loop-less : tie.Need-loop-smaller invariant-loop decreases-loop
@@ -55,8 +55,8 @@ same_length c = c.before.loop.invariant.appended.size
 returns : tie.Need-returns invariant-loop decreases-loop
 returns c = gathering-all c.before.loop.invariant (omega arith)
 
-pub write-label-row-spec : {M : Type 1} → statement M
-write-label-row-spec =
+pub write_label_row_spec : {M : Type 1} → statement M
+write_label_row_spec =
     tie.close
     (tie.spec
     invariant-loop

@@ -18,20 +18,20 @@ decreases-loop left left-states factor right right-states out₀ at s₀ next₀
 loop-holds : tie.Need-loop-init invariant-loop decreases-loop
 loop-holds c = labels-start c.before.before.before.requires
 
-add-write-label-row : tie.Need-overflow-add-write-label-row invariant-loop decreases-loop
+add-write-label-row : tie.Need-overflow_add-write-label-row invariant-loop decreases-loop
 add-write-label-row c = omega arith
 
 shared-slice-read-write-label-row : tie.Need-shared-slice-read-write-label-row invariant-loop decreases-loop
 shared-slice-read-write-label-row c = omega arith
 
-cast-write-label-row : tie.Need-overflow-cast-write-label-row invariant-loop decreases-loop
+cast-write-label-row : tie.Need-overflow_cast-write-label-row invariant-loop decreases-loop
 cast-write-label-row c = omega (arith, c.shared-slice-known3.given (8 + c.before.before.loop.s))
 
 write-label-row-requires : tie.Need-write-label-row-requires invariant-loop decreases-loop
 unfolding byte_at
 write-label-row-requires c κs = let l = c.before.before.before in labels-ask l.before.before.before.before.requires l.loop.invariant (omega arith)
 
-add-s : tie.Need-overflow-add-s invariant-loop decreases-loop
+add-s : tie.Need-overflow_add-s invariant-loop decreases-loop
 add-s c = omega arith
 
 loop-less : tie.Need-loop-smaller invariant-loop decreases-loop
@@ -49,8 +49,8 @@ same_length c = c.before.loop.invariant.appended.size
 returns : tie.Need-returns invariant-loop decreases-loop
 returns c = let l = c.before in labels-end l.before.before.before.before.requires l.loop.invariant (omega arith)
 
-pub write-labels-spec : {M : Type 1} → statement M
-write-labels-spec =
+pub write_labels_spec : {M : Type 1} → statement M
+write_labels_spec =
     tie.close
     (tie.spec
     invariant-loop

@@ -35,7 +35,7 @@ write-row-requires c κs =
       states-run k (all-parts _ _) l.loop.invariant (omega arith) run.run_past.ensures,
     )
 
-add-s : tie.Need-overflow-add-s invariant-loop decreases-loop
+add-s : tie.Need-overflow_add-s invariant-loop decreases-loop
 add-s c =
     let l = c.before.before.before.before.before.before in
     omega (arith, few-states (left-known l.before.before.before.before.requires.models))
@@ -59,8 +59,8 @@ returns c =
     let l = c.before in
     states-end (left-known l.before.before.before.before.requires.models) (all-parts _ _) l.loop.invariant (omega arith)
 
-pub write-moves-spec : {M : Type 1} → statement M
-write-moves-spec =
+pub write_moves_spec : {M : Type 1} → statement M
+write_moves_spec =
     tie.close
     (tie.spec
     invariant-loop

@@ -36,7 +36,7 @@ write-state-requires c κs =
       states-run k (row-parts _ _ _) l.loop.invariant (omega arith) run.run_past.ensures,
     )
 
-add-e : tie.Need-overflow-add-e invariant-loop decreases-loop
+add-e : tie.Need-overflow_add-e invariant-loop decreases-loop
 add-e c =
     let l = c.before.before.before.before.before.before in
     omega (arith, few-states (right-known l.before.before.before.before.requires.0.models))
@@ -60,8 +60,8 @@ returns c =
     let l = c.before in
     states-end (right-known l.before.before.before.before.requires.0.models) (row-parts _ _ _) l.loop.invariant (omega arith)
 
-pub write-row-spec : {M : Type 1} → statement M
-write-row-spec =
+pub write_row_spec : {M : Type 1} → statement M
+write_row_spec =
     tie.close
     (tie.spec
     invariant-loop

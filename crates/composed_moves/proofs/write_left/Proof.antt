@@ -12,10 +12,10 @@ use Rattle.composed_moves.proofs.write_left.Tie as tie
 fields-of-requires : tie.Need-fields-of-requires
 fields-of-requires c κs = search rules
 
-mul-fixed : tie.Need-overflow-mul-fixed
+mul-fixed : tie.Need-overflow_mul-fixed
 mul-fixed c = let fields = c.before.before in omega (arith, left-source fields.before.before.before.requires fields.fields-of.ensures)
 
-add-fixed : tie.Need-overflow-add-fixed
+add-fixed : tie.Need-overflow_add-fixed
 add-fixed c = let fields = c.before.before in omega (arith, left-source fields.before.before.before.requires fields.fields-of.ensures)
 
 fixed-requires : tie.Need-fixed-requires
@@ -46,7 +46,7 @@ returns c =
     let fields = fixed.before.before.before in
     left-record fields.before.before.before.requires fields.fields-of.ensures fixed.fixed.ensures refl refl refl refl entries.write_entries.ensures
 
-pub write-left-spec : {M : Type 1} → statement M
-write-left-spec =
+pub write_left_spec : {M : Type 1} → statement M
+write_left_spec =
     tie.close
     (tie.spec fields-of-requires mul-fixed add-fixed fixed-requires write-entries-requires same_length returns)

@@ -18,7 +18,7 @@ loop-holds c = pairing-start c.before.before.before.requires
 entry-at-requires : tie.Need-entry-at-requires invariant-loop decreases-loop
 entry-at-requires c κs = omega arith
 
-mul-write-entries : tie.Need-overflow-mul-write-entries invariant-loop decreases-loop
+mul-write-entries : tie.Need-overflow_mul-write-entries invariant-loop decreases-loop
 mul-write-entries c =
     let taken = c.before in
     omega (arith, row-state _ taken.before.before.loop.invariant (omega arith) taken.entry_at.ensures)
@@ -28,7 +28,7 @@ write-entries-requires c κs =
     let taken = c.before.before in
     row-asks _ taken.before.before.loop.invariant (omega arith) taken.entry_at.ensures
 
-sub-ahead : tie.Need-overflow-sub-ahead invariant-loop decreases-loop
+sub-ahead : tie.Need-overflow_sub-ahead invariant-loop decreases-loop
 sub-ahead c = omega arith
 
 loop-less : tie.Need-loop-smaller invariant-loop decreases-loop
@@ -46,8 +46,8 @@ same_length c = c.before.loop.invariant.ahead.size
 returns : tie.Need-returns invariant-loop decreases-loop
 returns c = pairing-end _ c.before.loop.invariant (omega arith)
 
-pub write-pairs-spec : {M : Type 1} → statement M
-write-pairs-spec =
+pub write_pairs_spec : {M : Type 1} → statement M
+write_pairs_spec =
     tie.close
     (tie.spec
     invariant-loop

@@ -12,10 +12,10 @@ use Rattle.composed_moves.proofs.write_right.Tie as tie
 fields-of-requires : tie.Need-fields-of-requires
 fields-of-requires c κs = search rules
 
-mul-fixed : tie.Need-overflow-mul-fixed
+mul-fixed : tie.Need-overflow_mul-fixed
 mul-fixed c = search rules
 
-add-fixed : tie.Need-overflow-add-fixed
+add-fixed : tie.Need-overflow_add-fixed
 add-fixed c = search rules
 
 fixed-requires : tie.Need-fixed-requires
@@ -26,7 +26,7 @@ fixed-requires c κs =
     let small = fields-small m.transition u in
     (omega (arith, right-room m u), omega (arith, m.states, m.all, u.from), small.0, u.small, small.1)
 
-mul-write-entries : tie.Need-overflow-mul-write-entries
+mul-write-entries : tie.Need-overflow_mul-write-entries
 mul-write-entries c = search rules
 
 write-entries-requires : tie.Need-write-entries-requires
@@ -49,7 +49,7 @@ returns c =
     let fields = fixed.before.before.before in
     right-record fields.before.before.before.requires fields.fields-of.ensures fixed.fixed.ensures refl refl refl refl entries.write_entries.ensures
 
-pub write-right-spec : {M : Type 1} → statement M
-write-right-spec =
+pub write_right_spec : {M : Type 1} → statement M
+write_right_spec =
     tie.close
     (tie.spec fields-of-requires mul-fixed add-fixed fixed-requires mul-write-entries write-entries-requires same_length returns)

@@ -14,25 +14,25 @@ fields-of-requires c κs = search rules
 fields-of-requires-2 : tie.Need-fields-of-requires-2
 fields-of-requires-2 c κs = search rules
 
-mul-fixed : tie.Need-overflow-mul-fixed
+mul-fixed : tie.Need-overflow_mul-fixed
 mul-fixed c =
     let second = c.before.before in
     let first = second.before in
     omega (arith, together-fits first.before.before.before.before.requires first.fields-of.ensures second.fields-of2.ensures)
 
-add-fixed : tie.Need-overflow-add-fixed
+add-fixed : tie.Need-overflow_add-fixed
 add-fixed c =
     let second = c.before.before.before in
     let first = second.before in
     omega (arith, together-fits first.before.before.before.before.requires first.fields-of.ensures second.fields-of2.ensures)
 
-mul-fixed-2 : tie.Need-overflow-mul-fixed-2
+mul-fixed-2 : tie.Need-overflow_mul-fixed-2
 mul-fixed-2 c =
     let second = c.before.before.before.before.before in
     let first = second.before in
     omega (arith, together-fits first.before.before.before.before.requires first.fields-of.ensures second.fields-of2.ensures)
 
-mul-fixed-3 : tie.Need-overflow-mul-fixed-3
+mul-fixed-3 : tie.Need-overflow_mul-fixed-3
 mul-fixed-3 c =
     let second = c.before.before.before.before.before.before.before in
     let first = second.before in
@@ -71,8 +71,8 @@ returns c =
     let first = second.before in
     together-record first.before.before.before.before.requires first.fields-of.ensures second.fields-of2.ensures fixed.fixed.ensures refl refl refl refl pairs.write-pairs.ensures
 
-pub write-together-spec : {M : Type 1} → statement M
-write-together-spec =
+pub write_together_spec : {M : Type 1} → statement M
+write_together_spec =
     tie.close
     (tie.spec
     fields-of-requires

@@ -29,7 +29,7 @@ added-requires c κs =
     may_add c.before.before.before.loop.invariant.1 c.count-left-move.ensures
     (omega (arith, few-transitions c.before.before.before.before.before.before.before.requires.first.known)) (omega arith)
 
-add-q : tie.Need-overflow-add-q invariant-loop decreases-loop
+add-q : tie.Need-overflow_add-q invariant-loop decreases-loop
 add-q c = omega arith
 
 loop-less : tie.Need-loop-smaller invariant-loop decreases-loop
@@ -44,8 +44,8 @@ returns c =
     let e : l.q ≡ c.before.before.before.before.before.before.args.m.transitions = omega arith in
     rw e at l.invariant.1
 
-pub count-left-spec : {M : Type 1} → statement M
-count-left-spec =
+pub count_left_spec : {M : Type 1} → statement M
+count_left_spec =
     tie.close
     (tie.spec
     invariant-loop

@@ -35,8 +35,8 @@ returns-2 c =
     let test = c.before.before in
     left-own a.requires.0 test.before.fields-of.ensures test.is_shared.ensures c.before.if1.false c.count-alone.ensures
 
-pub count-left-move-spec : {M : Type 1} → statement M
-count-left-move-spec =
+pub count_left_move_spec : {M : Type 1} → statement M
+count_left_move_spec =
     tie.close
     (tie.spec
     fields-of-requires

@@ -26,6 +26,6 @@ returns c =
     let left = c.before.before in
     moves-counted left.before.before.before.requires left.count_left.ensures c.before.count-right.ensures c.added.ensures
 
-pub count-moves-spec : {M : Type 1} → statement M
-count-moves-spec =
+pub count_moves_spec : {M : Type 1} → statement M
+count_moves_spec =
     tie.close (tie.spec count-left-requires count-right-requires added-requires returns)

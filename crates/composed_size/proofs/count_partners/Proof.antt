@@ -35,7 +35,7 @@ added-requires c κs =
     may_add l.invariant.1 (partner-counted c.before.fields-of.ensures c.count-pair.ensures)
     (omega (arith, few-transitions c.before.before.before.before.before.before.before.requires.1.known)) (omega arith)
 
-add_r : tie.Need-overflow-add-r invariant-loop decreases-loop
+add_r : tie.Need-overflow_add-r invariant-loop decreases-loop
 add_r c = omega arith
 
 loop-less : tie.Need-loop-smaller invariant-loop decreases-loop
@@ -52,8 +52,8 @@ returns c =
     let e : l.r ≡ c.before.before.before.before.before.args.k.transitions = omega arith in
     rw e at l.invariant.1
 
-pub count-partners-spec : {M : Type 1} → statement M
-count-partners-spec =
+pub count_partners_spec : {M : Type 1} → statement M
+count_partners_spec =
     tie.close
     (tie.spec
     invariant-loop

@@ -32,7 +32,7 @@ added-requires c κs =
     may_add c.before.before.before.loop.invariant.1 c.count-right-move.ensures
     (omega (arith, few-transitions c.before.before.before.before.before.before.requires.1.known)) (omega arith)
 
-add_r : tie.Need-overflow-add-r invariant-loop decreases-loop
+add_r : tie.Need-overflow_add-r invariant-loop decreases-loop
 add_r c = omega arith
 
 loop-less : tie.Need-loop-smaller invariant-loop decreases-loop
@@ -47,8 +47,8 @@ returns c =
     let e : l.r ≡ c.before.before.before.before.before.args.k.transitions = omega arith in
     rw e at l.invariant.1
 
-pub count-right-spec : {M : Type 1} → statement M
-count-right-spec =
+pub count_right_spec : {M : Type 1} → statement M
+count_right_spec =
     tie.close
     (tie.spec
     invariant-loop

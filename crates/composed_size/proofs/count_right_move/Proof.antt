@@ -32,8 +32,8 @@ returns-2 c =
     let test = c.before.before in
     right-own a.args.m a.requires.1 test.before.fields-of.ensures test.is_shared.ensures c.before.if1.false c.count-alone.ensures
 
-pub count-right-move-spec : {M : Type 1} → statement M
-count-right-move-spec =
+pub count_right_move_spec : {M : Type 1} → statement M
+count_right_move_spec =
     tie.close
     (tie.spec
     fields-of-requires

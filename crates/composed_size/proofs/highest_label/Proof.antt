@@ -21,19 +21,19 @@ loop-holds : tie.Need-loop-init invariant-loop decreases-loop
 unfolding highest
 loop-holds c = (omega arith, refl)
 
-add-larger : tie.Need-overflow-add-larger invariant-loop decreases-loop
+add-larger : tie.Need-overflow_add-larger invariant-loop decreases-loop
 add-larger c = omega arith
 
 shared-slice-read-larger : tie.Need-shared-slice-read-larger invariant-loop decreases-loop
 shared-slice-read-larger c = omega arith
 
-cast-larger : tie.Need-overflow-cast-larger invariant-loop decreases-loop
+cast-larger : tie.Need-overflow_cast-larger invariant-loop decreases-loop
 cast-larger c = omega (arith, c.shared-slice-known2.given (8 + c.before.before.loop.v))
 
 larger-requires : tie.Need-larger-requires invariant-loop decreases-loop
 larger-requires c κs = search rules
 
-add-v : tie.Need-overflow-add-v invariant-loop decreases-loop
+add-v : tie.Need-overflow_add-v invariant-loop decreases-loop
 add-v c = omega arith
 
 loop-less : tie.Need-loop-smaller invariant-loop decreases-loop
@@ -53,8 +53,8 @@ returns c =
     let e : l.v ≡ (automaton_in a.args.s.now).states = omega (arith, a.requires, automaton-states a.args.s.now (omega (arith, a.requires))) in
     l.invariant.1 ∙ ap (λ (k : ℕ). highest k (automaton_in a.args.s.now).label) e
 
-pub highest-label-spec : {M : Type 1} → statement M
-highest-label-spec =
+pub highest_label_spec : {M : Type 1} → statement M
+highest_label_spec =
     tie.close
     (tie.spec
     invariant-loop

@@ -11,5 +11,5 @@ returns c = less _ (omega arith) refl
 returns-2 : tie.Need-returns-2
 returns-2 c = not_less _ (omega arith) refl
 
-pub is-long-spec : {M : Type 1} → statement M
-is-long-spec = tie.close (tie.spec returns returns-2)
+pub is_long_spec : {M : Type 1} → statement M
+is_long_spec = tie.close (tie.spec returns returns-2)

@@ -23,5 +23,5 @@ returns-4 : tie.Need-returns-4
 unfolding shared_below
 returns-4 c = less _ (omega arith) (less _ (omega arith) (less _ (omega arith) refl))
 
-pub is-shared-spec : {M : Type 1} → statement M
-is-shared-spec = tie.close (tie.spec returns returns-2 returns-3 returns-4)
+pub is_shared_spec : {M : Type 1} → statement M
+is_shared_spec = tie.close (tie.spec returns returns-2 returns-3 returns-4)

@@ -46,8 +46,8 @@ returns-2 c =
     alone-written p.0 p.1 p.2 fields.fields-of.ensures
     written.before.before.before.is_shared.ensures written.before.before.if1.false written.write-left.ensures
 
-pub write-left-move-spec : {M : Type 1} → statement M
-write-left-move-spec =
+pub write_left_move_spec : {M : Type 1} → statement M
+write_left_move_spec =
     tie.close
     (tie.spec
     fields-of-requires

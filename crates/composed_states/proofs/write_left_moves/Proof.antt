@@ -22,7 +22,7 @@ loop-holds c = let p = c.before.before.before.requires in run-start (left-of-run
 write-left-move-requires : tie.Need-write-left-move-requires invariant-loop decreases-loop
 write-left-move-requires c κs = let l = c.before.before.before in left-ask l.before.before.before.before.requires l.loop.invariant (omega arith)
 
-add-q : tie.Need-overflow-add-q invariant-loop decreases-loop
+add-q : tie.Need-overflow_add-q invariant-loop decreases-loop
 add-q c = omega arith
 
 loop-less : tie.Need-loop-smaller invariant-loop decreases-loop
@@ -42,8 +42,8 @@ returns c =
     let l = c.before.before in
     run_end (left-of-run _ _ _ l.before.before.before.before.requires.1) l.loop.invariant (omega arith)
 
-pub write-left-moves-spec : {M : Type 1} → statement M
-write-left-moves-spec =
+pub write_left_moves_spec : {M : Type 1} → statement M
+write_left_moves_spec =
     tie.close
     (tie.spec
     invariant-loop

@@ -30,8 +30,8 @@ returns-2 c =
     own-written fields.before.before.before.requires fields.fields-of.ensures
     written.before.before.before.is_shared.ensures written.before.before.if1.false written.write-right.ensures
 
-pub write-own-move-spec : {M : Type 1} → statement M
-write-own-move-spec =
+pub write_own_move_spec : {M : Type 1} → statement M
+write_own_move_spec =
     tie.close
     (tie.spec
     fields-of-requires

@@ -21,7 +21,7 @@ loop-holds c = let p = c.before.before.requires in run-start (own-of-run _ _ _ p
 write-own-move-requires : tie.Need-write-own-move-requires invariant-loop decreases-loop
 write-own-move-requires c κs = let l = c.before.before.before in owns-ask l.before.before.before.requires l.loop.invariant (omega arith)
 
-add_r : tie.Need-overflow-add-r invariant-loop decreases-loop
+add_r : tie.Need-overflow_add-r invariant-loop decreases-loop
 add_r c = omega arith
 
 loop-less : tie.Need-loop-smaller invariant-loop decreases-loop
@@ -41,8 +41,8 @@ returns c =
     let l = c.before.before in
     run_end (own-of-run _ _ _ l.before.before.before.requires.leaving) l.loop.invariant (omega arith)
 
-pub write-own-moves-spec : {M : Type 1} → statement M
-write-own-moves-spec =
+pub write_own_moves_spec : {M : Type 1} → statement M
+write_own_moves_spec =
     tie.close
     (tie.spec
     invariant-loop

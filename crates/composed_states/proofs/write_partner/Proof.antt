@@ -27,6 +27,6 @@ returns-2 c =
     partner-written fields.before.before.before.before.requires fields.fields-of.ensures
     written.before.before.if1.false written.write-together.ensures
 
-pub write-partner-spec : {M : Type 1} → statement M
-write-partner-spec =
+pub write_partner_spec : {M : Type 1} → statement M
+write_partner_spec =
     tie.close (tie.spec fields-of-requires returns write-together-requires same_length returns-2)

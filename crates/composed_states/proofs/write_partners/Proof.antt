@@ -22,7 +22,7 @@ loop-holds c = let p = c.before.before.before.requires in run-start (partners-of
 write-partner-requires : tie.Need-write-partner-requires invariant-loop decreases-loop
 write-partner-requires c κs = let l = c.before.before.before in partners-ask l.before.before.before.before.requires l.loop.invariant (omega arith)
 
-add-partner : tie.Need-overflow-add-partner invariant-loop decreases-loop
+add-partner : tie.Need-overflow_add-partner invariant-loop decreases-loop
 add-partner c = omega arith
 
 loop-less : tie.Need-loop-smaller invariant-loop decreases-loop
@@ -42,8 +42,8 @@ returns c =
     let l = c.before.before in
     run_end (partners-of-run _ _ _ l.before.before.before.before.requires.leaving) l.loop.invariant (omega arith)
 
-pub write-partners-spec : {M : Type 1} → statement M
-write-partners-spec =
+pub write_partners_spec : {M : Type 1} → statement M
+write_partners_spec =
     tie.close
     (tie.spec
     invariant-loop

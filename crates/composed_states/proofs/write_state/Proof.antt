@@ -21,6 +21,6 @@ returns c =
     let written = own.before.before.before.before in
     state-written written.before.before.before.before.before.requires written.write-left-moves.ensures own.write-own-moves.ensures
 
-pub write-state-spec : {M : Type 1} → statement M
-write-state-spec =
+pub write_state_spec : {M : Type 1} → statement M
+write_state_spec =
     tie.close (tie.spec write-left-moves-requires write-own-moves-requires same_length returns)

@@ -38,7 +38,7 @@ returns c =
     (not-all _ _ c.before.before.before.loop.r (omega arith) (sym c.before.fair-to.ensures ∙ not-true _ c.if1.true)
     ∙ all-of-count start.requires.0.known _ _ _ _ _ _ _)
 
-add_r : tie.Need-overflow-add-r invariant-loop decreases-loop
+add_r : tie.Need-overflow_add-r invariant-loop decreases-loop
 add_r c = omega arith
 
 loop-less : tie.Need-loop-smaller invariant-loop decreases-loop
@@ -56,8 +56,8 @@ returns-2 c =
     rw (to_z-of_z start.ranges.l) at
     (sym (below_all _ _ (rw e at c.before.loop.invariant.1)) ∙ all-of-count start.requires.0.known _ _ _ _ _ _ _)
 
-pub all-fair-spec : {M : Type 1} → statement M
-all-fair-spec =
+pub all_fair_spec : {M : Type 1} → statement M
+all_fair_spec =
     tie.close
     (tie.spec
     invariant-loop

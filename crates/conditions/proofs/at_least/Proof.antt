@@ -9,10 +9,10 @@ use Rattle.conditions.proofs.at_least.Tie as tie
 price-of-requires : tie.Need-price-of-requires
 price-of-requires c κs = search rules
 
-cast-result : tie.Need-overflow-cast-result
+cast-result : tie.Need-overflow_cast-result
 cast-result c = search rules
 
-mul-result : tie.Need-overflow-mul-result
+mul-result : tie.Need-overflow_mul-result
 mul-result c =
     let a = c.before.args in
     let p = c.before.requires in
@@ -24,6 +24,6 @@ returns c =
     let p = c.before.requires in
     rw (to_z-of_z (mul-result c), to_z-of_z c.before.ranges.sum, product_is a.d c.price-of.ensures p.0 p.2) refl
 
-pub at-least-spec : {M : Type 1} → statement M
-at-least-spec =
+pub at_least_spec : {M : Type 1} → statement M
+at_least_spec =
     tie.close (tie.spec price-of-requires cast-result mul-result returns)

@@ -13,16 +13,16 @@ use Rattle.conditions.proofs.excess.Tie as tie
 price-of-requires : tie.Need-price-of-requires
 price-of-requires c κs = search rules
 
-cast-result : tie.Need-overflow-cast-result
+cast-result : tie.Need-overflow_cast-result
 cast-result c = search rules
 
-mul-result : tie.Need-overflow-mul-result
+mul-result : tie.Need-overflow_mul-result
 mul-result c =
     let a = c.before.args in
     let p = c.before.requires.0 in
     product-fits a.d c.price-of.ensures p.0 p.2
 
-sub-result : tie.Need-overflow-sub-result
+sub-result : tie.Need-overflow_sub-result
 sub-result c =
     let a = c.before.args in
     let p = c.before.requires.0 in
@@ -35,6 +35,6 @@ returns c =
     let p = c.before.requires.0 in
     rw (to_z-of_z (sub-result c), to_z-of_z (mul-result c), to_z-of_z c.before.ranges.sum, product_is a.d c.price-of.ensures p.0 p.2) refl
 
-pub excess-spec : {M : Type 1} → statement M
-excess-spec =
+pub excess_spec : {M : Type 1} → statement M
+excess_spec =
     tie.close (tie.spec price-of-requires cast-result mul-result sub-result returns)

@@ -30,7 +30,7 @@ returns c =
     ∙ condition-is start.args.x.now fields
     (side-is start.requires.0 fields c.before.before.sum_of.ensures c.before.with-cost.ensures start.requires.2)
 
-pub fair-spec : {M : Type 1} → statement M
-fair-spec =
+pub fair_spec : {M : Type 1} → statement M
+fair_spec =
     tie.close
     (tie.spec fields-of-requires sum-of-requires with-cost-requires at-least-requires returns)

@@ -60,7 +60,7 @@ returns-3 c =
     let fields = told.before.fields-of.ensures in
     fair-unasked _ _ _ _ _ _ _ _ _ told.condition-of.ensures fields.source fields.action (neither _ c.before.match.keys2 c.match2.keys2)
 
-pub fair-to-spec : {M : Type 1} → statement M
-fair-to-spec =
+pub fair_to_spec : {M : Type 1} → statement M
+fair_to_spec =
     tie.close
     (tie.spec fields-of-requires condition-of-requires enum_told fair-requires returns enum-told-2 fair-twice-requires returns-2 returns-3)

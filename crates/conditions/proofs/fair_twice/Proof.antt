@@ -59,8 +59,8 @@ returns-2 c =
     (sym (past.before.at_least_lem.ensures ∙ condition-is start.args.x.now fields side) ∙ not-false _ past.if1.false)
     (c.at-least2.ensures ∙ condition-is start.args.y.now fields other)
 
-pub fair-twice-spec : {M : Type 1} → statement M
-fair-twice-spec =
+pub fair_twice_spec : {M : Type 1} → statement M
+fair_twice_spec =
     tie.close
     (tie.spec
     fields-of-requires

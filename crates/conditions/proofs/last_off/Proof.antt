@@ -32,7 +32,7 @@ returns c =
     ∙ off-is start.args.x.now start.args.t fields
     (side-is start.requires.challenger fields c.before.before.sum_of.ensures c.before.with-cost.ensures start.requires.third))
 
-pub last-off-spec : {M : Type 1} → statement M
-last-off-spec =
+pub last_off_spec : {M : Type 1} → statement M
+last_off_spec =
     tie.close
     (tie.spec fields-of-requires sum-of-requires with-cost-requires excess-requires returns)

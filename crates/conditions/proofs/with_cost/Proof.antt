@@ -12,7 +12,7 @@ returns : tie.Need-returns
 returns c =
     no-term c.before.before.before.requires c.before.cost-of.ensures c.if1.true
 
-mul-with-term : tie.Need-overflow-mul-with-term
+mul-with-term : tie.Need-overflow_mul-with-term
 mul-with-term c =
     record { fits = omega (arith, weight-small c.before.before.before.requires c.before.cost-of.ensures) }
 
@@ -24,6 +24,6 @@ returns-2 : tie.Need-returns-2
 returns-2 c =
     with-its-term c.before.before.before.before.requires c.before.before.cost-of.ensures c.with-term.ensures
 
-pub with-cost-spec : {M : Type 1} → statement M
-with-cost-spec =
+pub with_cost_spec : {M : Type 1} → statement M
+with_cost_spec =
     tie.close (tie.spec cost-of-requires returns mul-with-term with-term-requires returns-2)

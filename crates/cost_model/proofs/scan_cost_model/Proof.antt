@@ -22,6 +22,6 @@ returns c = cost-scans _ c.before.before.before.before.scan-model.ensures c.scan
 returns-2 : tie.Need-returns-2
 returns-2 c = cost-refused _ c.before.before.before.scan-model.ensures c.before.scanned2.given.1
 
-pub scan-cost-model-spec : {M : Type 1} → statement M
-scan-cost-model-spec =
+pub scan_cost_model_spec : {M : Type 1} → statement M
+scan_cost_model_spec =
     tie.close (tie.spec scan-model-requires enum-known-scanned scan-costs-requires enum-known-scanned-2 returns returns-2)

@@ -27,7 +27,7 @@ decreases-loop s m count left₀ place₀ left place = left
 inside : (s : List ℕ) (count at : ℕ) (o : Fault) → fault_of o ≡ open_fault model_record 0x434F (2 + count) s at → o.number ≡ 0 → at + (2 + count) ≤ length s
 inside s count at o e z = (opened model_record 0x434F (2 + count) s at model-refuses (none_is o e z)).whole
 
-add-open-model : tie.Need-overflow-add-open-model invariant-loop decreases-loop
+add-open-model : tie.Need-overflow_add-open-model invariant-loop decreases-loop
 add-open-model c = omega (arith, c.before.requires.1)
 
 open-model-requires : tie.Need-open-model-requires invariant-loop decreases-loop
@@ -41,7 +41,7 @@ returns c =
     let at_open = c.before.before.before in
     ap₂ refused c.at.ensures.is c.at.ensures.at ∙ record-stops _ _ _ _ _ at_open.open-model.ensures c.before.if1.true
 
-add-new : tie.Need-overflow-add-new invariant-loop decreases-loop
+add-new : tie.Need-overflow_add-new invariant-loop decreases-loop
 add-new c =
     let at_open = c.before.before.before in
     omega (arith, at_open.before.before.well-formed.0.0, inside _ _ _ at_open.open-model.result at_open.open-model.ensures c.before.if1.false)
@@ -74,7 +74,7 @@ returns-2 c =
     ∙ record-high _ _ _ _ _ at_open.open-model.ensures at-if1.if1.false
     (costs-refused l.left l.invariant (omega arith) at_byte.byte.ensures.value (omega arith))
 
-sub-left : tie.Need-overflow-sub-left invariant-loop decreases-loop
+sub-left : tie.Need-overflow_sub-left invariant-loop decreases-loop
 sub-left c = omega arith
 
 loop-less : tie.Need-loop-smaller invariant-loop decreases-loop
@@ -97,8 +97,8 @@ returns-3 c =
     c.whole.ensures
     ∙ record-whole _ _ _ _ _ at_open.open-model.ensures at-if1.if1.false (omega (arith, l.invariant.ends)) (costs-end l.left l.invariant (omega arith))
 
-pub scan-costs-spec : {M : Type 1} → statement M
-scan-costs-spec =
+pub scan_costs_spec : {M : Type 1} → statement M
+scan_costs_spec =
     tie.close
     (tie.spec
     invariant-loop

@@ -16,22 +16,22 @@ invariant-loop out at x digits₀ from₀ left₀ digits from left = Filling x d
 abbrev decreases-loop : tie.decreases-loop
 decreases-loop out at x digits₀ from₀ left₀ digits from left = left
 
-sub-from : tie.Need-overflow-sub-from invariant-loop decreases-loop
+sub-from : tie.Need-overflow_sub-from invariant-loop decreases-loop
 sub-from c = search rules
 
 loop-holds : tie.Need-loop-init invariant-loop decreases-loop
 loop-holds c = filling-start _ (omega arith)
 
-add-digits : tie.Need-overflow-add-digits invariant-loop decreases-loop
+add-digits : tie.Need-overflow_add-digits invariant-loop decreases-loop
 add-digits c = search rules
 
-cast-digits : tie.Need-overflow-cast-digits invariant-loop decreases-loop
+cast-digits : tie.Need-overflow_cast-digits invariant-loop decreases-loop
 cast-digits c = search rules
 
 array-write-digits : tie.Need-array-write-digits invariant-loop decreases-loop
 array-write-digits c = search rules
 
-sub-from-2 : tie.Need-overflow-sub-from-2 invariant-loop decreases-loop
+sub-from-2 : tie.Need-overflow_sub-from-2 invariant-loop decreases-loop
 sub-from-2 c = omega (arith, filling-room c.before.loop.invariant (omega arith))
 
 loop-less : tie.Need-loop-smaller invariant-loop decreases-loop
@@ -40,16 +40,16 @@ loop-less c = search rules
 loop-again : tie.Need-loop-preserved invariant-loop decreases-loop
 loop-again c = filling-turn c.before.loop.invariant (omega arith)
 
-add-digits-2 : tie.Need-overflow-add-digits-2 invariant-loop decreases-loop
+add-digits-2 : tie.Need-overflow_add-digits-2 invariant-loop decreases-loop
 add-digits-2 c = search rules
 
-cast-digits-2 : tie.Need-overflow-cast-digits-2 invariant-loop decreases-loop
+cast-digits-2 : tie.Need-overflow_cast-digits-2 invariant-loop decreases-loop
 cast-digits-2 c = search rules
 
 array-write-digits-2 : tie.Need-array-write-digits-2 invariant-loop decreases-loop
 array-write-digits-2 c = search rules
 
-sub_part : tie.Need-overflow-sub-part invariant-loop decreases-loop
+sub_part : tie.Need-overflow_sub-part invariant-loop decreases-loop
 sub_part c = search rules
 
 part-part-start : tie.Need-slice-bounds-part-start invariant-loop decreases-loop
@@ -71,8 +71,8 @@ returns c =
     let l = c.before.before.before.before.before.before.before in
     appended-as (sym (filling-end l.loop.invariant (omega arith))) c.before.before.part.ensures
 
-pub write-decimal-spec : {M : Type 1} → statement M
-write-decimal-spec =
+pub write_decimal_spec : {M : Type 1} → statement M
+write_decimal_spec =
     tie.close
     (tie.spec
     invariant-loop

@@ -50,8 +50,8 @@ returns-2 c =
     let b = digits.before.before.before in
     appended-as (signed_above (to_z-of_z b.before.before.ranges.z) b.magnitude.ensures digits.before.before.if1.false) digits.write-decimal2.ensures
 
-pub write-signed-spec : {M : Type 1} → statement M
-write-signed-spec =
+pub write_signed_spec : {M : Type 1} → statement M
+write_signed_spec =
     tie.close
     (tie.spec
     magnitude-requires

@@ -23,13 +23,13 @@ fields-of-requires c κs = known-transition c.before.before.before.requires (ome
 divisor-of-requires : tie.Need-divisor-of-requires invariant-loop decreases-loop
 divisor-of-requires c κs = omega (arith, entries-known {r = c.before.before.loop.r} (known-transition c.before.before.before.before.requires (omega arith)), c.fields-of.ensures)
 
-mul-divisors : tie.Need-overflow-mul-divisors invariant-loop decreases-loop
+mul-divisors : tie.Need-overflow_mul-divisors invariant-loop decreases-loop
 mul-divisors c = omega (arith, few-transitions c.before.before.before.before.before.requires)
 
 array-write-divisors : tie.Need-array-write-divisors invariant-loop decreases-loop
 array-write-divisors c = omega (arith, few-transitions c.before.before.before.before.before.requires)
 
-add_r : tie.Need-overflow-add-r invariant-loop decreases-loop
+add_r : tie.Need-overflow_add-r invariant-loop decreases-loop
 add_r c = omega (arith, few-transitions c.before.before.before.before.before.requires)
 
 loop-less : tie.Need-loop-smaller invariant-loop decreases-loop
@@ -45,8 +45,8 @@ loop-again c =
 returns : tie.Need-returns invariant-loop decreases-loop
 returns c = let l = c.before.loop in subst (λ (k : ℕ). HoldsDivisors c.before.before.before.args.s.now k l.divisors) (omega arith) l.invariant.0
 
-pub divisors-of-spec : {M : Type 1} → statement M
-divisors-of-spec =
+pub divisors_of_spec : {M : Type 1} → statement M
+divisors_of_spec =
     tie.close
     (tie.spec
     invariant-loop

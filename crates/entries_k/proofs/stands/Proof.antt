@@ -9,10 +9,10 @@ use Rattle.entries_k.specs.KEntriesLaws.{asked_by, tells-wrong, tells-right}
 use Rattle.entries_k.proofs.stands.Statement.{statement}
 use Rattle.entries_k.proofs.stands.Tie as tie
 
-mul-key : tie.Need-overflow-mul-key
+mul-key : tie.Need-overflow_mul-key
 mul-key c = omega arith
 
-add-key : tie.Need-overflow-add-key
+add-key : tie.Need-overflow_add-key
 add-key c = omega arith
 
 returns : tie.Need-returns
@@ -38,8 +38,8 @@ returns-5 c =
     tells-right
     (record { ordered = omega arith; present = omega arith; asked_is = asked_by (in_question_by _ _ _ _) c.before.before.in-question.ensures c.before.before.before.fields-of.ensures.source c.before.before.before.fields-of.ensures.action (not-false _ c.before.if3.false); some = omega arith })
 
-pub stands-spec : {M : Type 1} → statement M
-stands-spec =
+pub stands_spec : {M : Type 1} → statement M
+stands_spec =
     tie.close
     (tie.spec
     mul-key

@@ -5,7 +5,7 @@ use borrow.Author.Rules.{rules}
 use Rattle.entries_k.proofs.take_k.Statement.{statement}
 use Rattle.entries_k.proofs.take_k.Tie as tie
 
-cast-arrive : tie.Need-overflow-cast-arrive
+cast-arrive : tie.Need-overflow_cast-arrive
 cast-arrive c = search rules
 
 arrival-requires : tie.Need-arrival-requires
@@ -37,8 +37,8 @@ returns c =
     let e = rw (minus-back c.before.before.before.minus.ensures a.requires.small, c.before.before.departure.ensures) at c.leave.ensures in
     took-k a.requires a.args.layer b e
 
-pub take-k-spec : {M : Type 1} → statement M
-take-k-spec =
+pub take_k_spec : {M : Type 1} → statement M
+take_k_spec =
     tie.close
     (tie.spec
     cast-arrive

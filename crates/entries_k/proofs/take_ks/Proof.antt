@@ -81,16 +81,16 @@ take-k-requires c κs = ks-asks (standing c.before)
 pay-requires : tie.Need-pay-requires invariant-loop decreases-loop
 pay-requires c κs = ks-pays (standing c.before.before) _ (start_of c.before.before.before.before).pre.stands
 
-mul-lowest : tie.Need-overflow-mul-lowest invariant-loop decreases-loop
+mul-lowest : tie.Need-overflow_mul-lowest invariant-loop decreases-loop
 mul-lowest c = search rules
 
-add-lowest : tie.Need-overflow-add-lowest invariant-loop decreases-loop
+add-lowest : tie.Need-overflow_add-lowest invariant-loop decreases-loop
 add-lowest c = search rules
 
-add-lowest-2 : tie.Need-overflow-add-lowest-2 invariant-loop decreases-loop
+add-lowest-2 : tie.Need-overflow_add-lowest-2 invariant-loop decreases-loop
 add-lowest-2 c = search rules
 
-sub-left : tie.Need-overflow-sub-left invariant-loop decreases-loop
+sub-left : tie.Need-overflow_sub-left invariant-loop decreases-loop
 sub-left c = omega arith
 
 loop-less : tie.Need-loop-smaller invariant-loop decreases-loop
@@ -107,8 +107,8 @@ loop-again c =
 returns-2 : tie.Need-returns-2 invariant-loop decreases-loop
 returns-2 c = ks-end _ c.before.loop.invariant (omega arith) refl refl refl refl
 
-pub take-ks-spec : {M : Type 1} → statement M
-take-ks-spec =
+pub take_ks_spec : {M : Type 1} → statement M
+take_ks_spec =
     tie.close
     (tie.spec
     invariant-loop

@@ -7,10 +7,10 @@ use Rattle.entries_w.specs.WEntriesLaws.{tells-wrong}
 use Rattle.entries_w.proofs.stands.Statement.{statement}
 use Rattle.entries_w.proofs.stands.Tie as tie
 
-mul-pair : tie.Need-overflow-mul-pair
+mul-pair : tie.Need-overflow_mul-pair
 mul-pair c = search rules
 
-add-pair : tie.Need-overflow-add-pair
+add-pair : tie.Need-overflow_add-pair
 add-pair c = search rules
 
 returns : tie.Need-returns
@@ -42,5 +42,5 @@ returns-5 c =
           };
     }
 
-pub stands-spec : {M : Type 1} → statement M
-stands-spec = tie.close (tie.spec mul-pair add-pair returns returns-2 returns-3 returns-4 related-requires returns-5)
+pub stands_spec : {M : Type 1} → statement M
+stands_spec = tie.close (tie.spec mul-pair add-pair returns returns-2 returns-3 returns-4 related-requires returns-5)

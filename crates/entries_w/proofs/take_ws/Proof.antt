@@ -39,7 +39,7 @@ returns c =
     let turn = at_byte.before.before in
     ws-refused _ turn.loop.invariant (omega arith) (w-read at_byte.byte.ensures at-byte2.byte2.ensures at-quad.quad.ensures) (c.before.stands.ensures.wrong (not-true _ c.if1.true)) refl
 
-add-take : tie.Need-overflow-add-take invariant-loop decreases-loop
+add-take : tie.Need-overflow_add-take invariant-loop decreases-loop
 add-take c = omega arith
 
 take-requires : tie.Need-take-requires invariant-loop decreases-loop
@@ -62,16 +62,16 @@ give-requires c κs =
       omega arith,
     )
 
-mul-lowest : tie.Need-overflow-mul-lowest invariant-loop decreases-loop
+mul-lowest : tie.Need-overflow_mul-lowest invariant-loop decreases-loop
 mul-lowest c = search rules
 
-add-lowest : tie.Need-overflow-add-lowest invariant-loop decreases-loop
+add-lowest : tie.Need-overflow_add-lowest invariant-loop decreases-loop
 add-lowest c = search rules
 
-add-lowest-2 : tie.Need-overflow-add-lowest-2 invariant-loop decreases-loop
+add-lowest-2 : tie.Need-overflow_add-lowest-2 invariant-loop decreases-loop
 add-lowest-2 c = search rules
 
-sub-left : tie.Need-overflow-sub-left invariant-loop decreases-loop
+sub-left : tie.Need-overflow_sub-left invariant-loop decreases-loop
 sub-left c = omega arith
 
 loop-less : tie.Need-loop-smaller invariant-loop decreases-loop
@@ -90,8 +90,8 @@ loop-again c =
 returns-2 : tie.Need-returns-2 invariant-loop decreases-loop
 returns-2 c = ws-end _ c.before.loop.invariant (omega arith) refl refl refl refl
 
-pub take-ws-spec : {M : Type 1} → statement M
-take-ws-spec =
+pub take_ws_spec : {M : Type 1} → statement M
+take_ws_spec =
     tie.close
     (tie.spec
     invariant-loop

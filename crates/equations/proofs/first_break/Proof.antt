@@ -21,10 +21,10 @@ decreases-loop number remainders first n left₀ v₀ left v = left
 loop-holds : tie.Need-loop-init invariant-loop decreases-loop
 loop-holds c = (omega arith, refl)
 
-add-remainder : tie.Need-overflow-add-remainder invariant-loop decreases-loop
+add-remainder : tie.Need-overflow_add-remainder invariant-loop decreases-loop
 add-remainder c = omega arith
 
-mul-remainder : tie.Need-overflow-mul-remainder invariant-loop decreases-loop
+mul-remainder : tie.Need-overflow_mul-remainder invariant-loop decreases-loop
 mul-remainder c = omega arith
 
 element-copy-out-remainder : tie.Need-element-copy-out-remainder invariant-loop decreases-loop
@@ -41,10 +41,10 @@ returns c =
     let one = not-zero-bits (remainder_at a.remainders.now (a.first + l.v)) c.before.if1.true in
     via (break-turn _ _ _ l.left l.v (omega arith)) (not_same _ (λ z. omega (arith, z, one)) (c.broken.ensures ∙ ap (fault_by a.number l.v) (search rules))) ∙ l.invariant.1
 
-add-v : tie.Need-overflow-add-v invariant-loop decreases-loop
+add-v : tie.Need-overflow_add-v invariant-loop decreases-loop
 add-v c = omega arith
 
-sub-left : tie.Need-overflow-sub-left invariant-loop decreases-loop
+sub-left : tie.Need-overflow_sub-left invariant-loop decreases-loop
 sub-left c = omega arith
 
 loop-less : tie.Need-loop-smaller invariant-loop decreases-loop
@@ -63,8 +63,8 @@ returns-2 c =
     let l = c.before.before.loop in
     c.none.ensures ∙ break-end _ _ _ l.left l.v (omega arith) ∙ l.invariant.1
 
-pub first-break-spec : {M : Type 1} → statement M
-first-break-spec =
+pub first_break_spec : {M : Type 1} → statement M
+first_break_spec =
     tie.close
     (tie.spec
     invariant-loop

@@ -14,5 +14,5 @@ refusal-requires c κs = search rules
 returns-2 : tie.Need-returns-2
 returns-2 c = first_passes _ _ refl c.before.if1.false c.refusal.ensures
 
-pub or-number-spec : {M : Type 1} → statement M
-or-number-spec = tie.close (tie.spec returns refusal-requires returns-2)
+pub or_number_spec : {M : Type 1} → statement M
+or_number_spec = tie.close (tie.spec returns refusal-requires returns-2)

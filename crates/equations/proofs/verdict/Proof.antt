@@ -61,8 +61,8 @@ returns-5 c =
     let paid = c.before in
     same _ paid.before.before.if1.false (same _ paid.before.if3.false (same _ paid.if4.false c.none.ensures))
 
-pub verdict-spec : {M : Type 1} → statement M
-verdict-spec =
+pub verdict_spec : {M : Type 1} → statement M
+verdict_spec =
     tie.close
     (tie.spec
     first-break-requires

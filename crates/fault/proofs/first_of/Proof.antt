@@ -11,5 +11,5 @@ returns c = first_stops _ _ refl c.if1.true
 returns-2 : tie.Need-returns-2
 returns-2 c = first_passes _ _ refl c.if1.false refl
 
-pub first-of-spec : {M : Type 1} → statement M
-first-of-spec = tie.close (tie.spec returns returns-2)
+pub first_of_spec : {M : Type 1} → statement M
+first_of_spec = tie.close (tie.spec returns returns-2)

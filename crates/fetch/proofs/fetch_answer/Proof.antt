@@ -64,8 +64,8 @@ returns-3 c =
     told _ _ _ (λ i h. omega (arith, c.before.before.before.before.before.shared-slice-known.given i)) (refusal-as _ 1 _ _ c.refusal-in.ensures (omega arith) (omega arith)) (sym (ap (answer_of _) c.before.before.fetched2.given.1))
     c.before.before.before.before.fetch-run.ensures (omega arith)
 
-pub fetch-answer-spec : {M : Type 1} → statement M
-fetch-answer-spec =
+pub fetch_answer_spec : {M : Type 1} → statement M
+fetch_answer_spec =
     tie.close
     (tie.spec
     fetch-run-requires

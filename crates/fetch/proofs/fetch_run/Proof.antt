@@ -70,8 +70,8 @@ returns-4 c =
     let q = sym (ap scan_of same) ∙ told.answer in
     fetch-refused current s _ _ _ q
 
-pub fetch-run-spec : {M : Type 1} → statement M
-fetch-run-spec =
+pub fetch_run_spec : {M : Type 1} → statement M
+fetch_run_spec =
     tie.close
     (tie.spec
     head-fault-requires

@@ -18,7 +18,7 @@ invariant-loop s state r count places ahead₀ at₀ ahead at =
 abbrev decreases-loop : tie.decreases-loop
 decreases-loop s state r count places ahead₀ at₀ ahead at = ahead
 
-sub-ahead : tie.Need-overflow-sub-ahead invariant-loop decreases-loop
+sub-ahead : tie.Need-overflow_sub-ahead invariant-loop decreases-loop
 sub-ahead c = omega arith
 
 loop-holds : tie.Need-loop-init invariant-loop decreases-loop
@@ -35,10 +35,10 @@ returns c =
     let source = automaton-source s l.at (omega (arith, k.transitions)) in
     via (first_not_below-turn s _ l.ahead l.at (omega arith)) (not_less _ (omega (arith, source, c.before.fields-of.ensures.source)) refl) ∙ l.invariant.1
 
-add_at : tie.Need-overflow-add-at invariant-loop decreases-loop
+add_at : tie.Need-overflow_add-at invariant-loop decreases-loop
 add_at c = omega arith
 
-sub-ahead-2 : tie.Need-overflow-sub-ahead-2 invariant-loop decreases-loop
+sub-ahead-2 : tie.Need-overflow_sub-ahead-2 invariant-loop decreases-loop
 sub-ahead-2 c = omega arith
 
 loop-less : tie.Need-loop-smaller invariant-loop decreases-loop
@@ -57,7 +57,7 @@ returns-2 c =
     let l = c.before.loop in
     via (first_not_below-end _ _ l.ahead l.at (omega arith)) refl ∙ l.invariant.1
 
-pub first-not-below-spec : {M : Type 1} → statement M
-first-not-below-spec =
+pub first_not_below_spec : {M : Type 1} → statement M
+first_not_below_spec =
     tie.close
     (tie.spec invariant-loop decreases-loop sub-ahead loop-holds fields-of-requires returns add_at sub-ahead-2 loop-less loop-again returns-2)

@@ -7,7 +7,7 @@ use borrow.Author.Rules.{rules}
 use Rattle.fetch.proofs.run_from.Statement.{statement}
 use Rattle.fetch.proofs.run_from.Tie as tie
 
-sub-t4 : tie.Need-overflow-sub-t4
+sub-t4 : tie.Need-overflow_sub-t4
 sub-t4 c = search rules
 
 returns : tie.Need-returns
@@ -21,5 +21,5 @@ returns-2 : tie.Need-returns-2
 unfolding run_answer
 returns-2 c = record { answer = not_less _ (omega arith) c.without-place.ensures.answer; wrote = c.without-place.ensures.wrote ∙ omega arith }
 
-pub run-from-spec : {M : Type 1} → statement M
-run-from-spec = tie.close (tie.spec sub-t4 returns without-place-requires returns-2)
+pub run_from_spec : {M : Type 1} → statement M
+run_from_spec = tie.close (tie.spec sub-t4 returns without-place-requires returns-2)

@@ -30,19 +30,19 @@ module _ (s table : List ℕ) (state count : ℕ) {n : ℕ} (w : Known s n count
 first-not-below-requires : tie.Need-first-not-below-requires
 first-not-below-requires c κs = search rules
 
-add-first-not-below : tie.Need-overflow-add-first-not-below
+add-first-not-below : tie.Need-overflow_add-first-not-below
 add-first-not-below c = search rules
 
 first-not-below-requires-2 : tie.Need-first-not-below-requires-2
 first-not-below-requires-2 c κs = (first-most _ _ _ _ c.before.before.requires.1 _ c.first-not-below.ensures, c.before.before.requires.1)
 
-mul-t7 : tie.Need-overflow-mul-t7
+mul-t7 : tie.Need-overflow_mul-t7
 mul-t7 c = omega (arith, first-most _ _ _ _ c.before.before.before.requires.1 _ c.before.first-not-below.ensures, few-transitions c.before.before.before.requires.1, c.before.before.before.requires.1.size)
 
 element-copy-out-t10 : tie.Need-element-copy-out-t10
 element-copy-out-t10 c = omega (arith, first-most _ _ _ _ c.before.before.before.requires.1 _ c.before.first-not-below.ensures, few-transitions c.before.before.before.requires.1, c.before.before.before.requires.1.size)
 
-mul-t11 : tie.Need-overflow-mul-t11
+mul-t11 : tie.Need-overflow_mul-t11
 mul-t11 c = omega (arith, past-most _ _ _ _ c.before.before.before.before.requires.1 _ _ _ (first-is _ _ _ _ c.before.before.before.before.requires.1 _ c.before.before.first-not-below.ensures) c.before.first-not-below2.ensures (omega arith), few-transitions c.before.before.before.before.requires.1, c.before.before.before.before.requires.1.size)
 
 element-copy-out-t14 : tie.Need-element-copy-out-t14
@@ -58,8 +58,8 @@ returns c =
       end = w.places.held _ (omega (arith, past-most _ _ _ _ c.before.before.before.before.before.requires.1 _ _ _ (first-is _ _ _ _ c.before.before.before.before.before.requires.1 _ c.before.before.before.first-not-below.ensures) c.before.before.first-not-below2.ensures (omega arith))) ∙ ap (place_of s) (past_is _ _ _ _ c.before.before.before.before.before.requires.1 _ _ _ (first-is _ _ _ _ c.before.before.before.before.before.requires.1 _ c.before.before.before.first-not-below.ensures) c.before.before.first-not-below2.ensures (omega arith));
     }
 
-pub run-of-spec : {M : Type 1} → statement M
-run-of-spec =
+pub run_of_spec : {M : Type 1} → statement M
+run_of_spec =
     tie.close
     (tie.spec
     first-not-below-requires

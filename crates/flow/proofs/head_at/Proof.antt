@@ -6,7 +6,7 @@ use borrow.Author.Rules.{rules}
 use Rattle.flow.proofs.head_at.Statement.{statement}
 use Rattle.flow.proofs.head_at.Tie as tie
 
-add-new : tie.Need-overflow-add-new
+add-new : tie.Need-overflow_add-new
 add-new c = search rules
 
 new-requires : tie.Need-new-requires
@@ -28,5 +28,5 @@ returns c =
     let new = at-quad.before.new.ensures in
     record { d = taken_at size _ new; small = size.small; entries = taken_at count _ (omega (arith, new, size.next)); few = count.small; first = omega (arith, new, size.next, count.next) }
 
-pub head-at-spec : {M : Type 1} → statement M
-head-at-spec = tie.close (tie.spec add-new new-requires quad-requires pair-requires returns)
+pub head_at_spec : {M : Type 1} → statement M
+head_at_spec = tie.close (tie.spec add-new new-requires quad-requires pair-requires returns)

@@ -72,7 +72,7 @@ returns c =
 good : (c : tie.Else1) → c.before.before.take-ks.result.good ≡ true
 good c = not-false _ c.if1.false
 
-sub-if2 : tie.Need-overflow-sub-if2
+sub-if2 : tie.Need-overflow_sub-if2
 sub-if2 c = middle-inside (ks c.before.before) (good c.before)
 
 refused-with-requires-2 : tie.Need-refused-with-requires-2
@@ -106,10 +106,10 @@ Count c =
 count : (c : tie.After-pair) → Count c
 count c = record { ks = ks (ks-at c); good = good c.before.before.before; read = c.pair.ensures; there = there c.before }
 
-sub-if3 : tie.Need-overflow-sub-if3
+sub-if3 : tie.Need-overflow_sub-if3
 sub-if3 c = omega (arith, c.before.pair.ensures.next, there c.before.before)
 
-mul-if3 : tie.Need-overflow-mul-if3
+mul-if3 : tie.Need-overflow_mul-if3
 mul-if3 c = omega (arith, c.before.before.pair.ensures.small)
 
 refused-with-requires-3 : tie.Need-refused-with-requires-3
@@ -176,7 +176,7 @@ returns-4 c =
 cost-of-requires : tie.Need-cost-of-requires
 cost-of-requires c κs = can-owe (began c.before).requires
 
-mul-owed : tie.Need-overflow-mul-owed
+mul-owed : tie.Need-overflow_mul-owed
 mul-owed c = record { fits = owes (began c.before.before.before).requires c.before.cost-of.ensures }
 
 verdict-requires : tie.Need-verdict-requires
@@ -193,8 +193,8 @@ returns-5 c =
     let at-ws = at-if4.before in
     judged (asks (asks_at at-ws)) at-ws.before.take-ws.ensures (not-false _ at-if4.if4.false) at-cost.cost-of.ensures at-verdict.verdict.result at-verdict.verdict.ensures c.at.ensures refl
 
-pub judge-entries-spec : {M : Type 1} → statement M
-judge-entries-spec =
+pub judge_entries_spec : {M : Type 1} → statement M
+judge_entries_spec =
     tie.close
     (tie.spec
     fields-of-requires

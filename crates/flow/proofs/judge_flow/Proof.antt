@@ -59,12 +59,12 @@ head_of c = c.before.before
 some : (c : tie.Else2) → four_at (start_of (head_of c).before).args.cert.now ((start_of (head_of c).before).args.place.at + 2) ≡ 0 → ⊥
 some c z = omega (arith, z, (head_of c).head_at.ensures.d, c.if2.false)
 
-sub-if3 : tie.Need-overflow-sub-if3
+sub-if3 : tie.Need-overflow_sub-if3
 sub-if3 c =
     let at_head = head_of c.before in
     omega (arith, at_head.head_at.ensures.first, whole at_head.before)
 
-mul-if3 : tie.Need-overflow-mul-if3
+mul-if3 : tie.Need-overflow_mul-if3
 mul-if3 c = omega (arith, (head_of c.before.before).head_at.ensures.few)
 
 refused-with-requires-2 : tie.Need-refused-with-requires-2
@@ -99,8 +99,8 @@ judge-entries-requires c κs =
 returns-4 : tie.Need-returns-4
 returns-4 c = c.judge-entries.ensures
 
-pub judge-flow-spec : {M : Type 1} → statement M
-judge-flow-spec =
+pub judge_flow_spec : {M : Type 1} → statement M
+judge_flow_spec =
     tie.close
     (tie.spec
     open-certificate-requires

@@ -13,5 +13,5 @@ refused-requires c κs = search rules
 returns : tie.Need-returns
 returns c = placed-as c.refused.ensures c.before.refusal.ensures
 
-pub refused-with-spec : {M : Type 1} → statement M
-refused-with-spec = tie.close (tie.spec refusal-requires refused-requires returns)
+pub refused_with_spec : {M : Type 1} → statement M
+refused_with_spec = tie.close (tie.spec refusal-requires refused-requires returns)

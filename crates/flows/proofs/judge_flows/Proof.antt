@@ -47,7 +47,7 @@ no-remainders-requires c κs = tt
 no-remainders-requires-2 : tie.Need-no-remainders-requires-2 invariant-loop2 decreases-loop2 invariant-loop decreases-loop invariant-flows decreases-flows
 no-remainders-requires-2 c κs = tt
 
-add-new : tie.Need-overflow-add-new invariant-loop2 decreases-loop2 invariant-loop decreases-loop invariant-flows decreases-flows
+add-new : tie.Need-overflow_add-new invariant-loop2 decreases-loop2 invariant-loop decreases-loop invariant-flows decreases-flows
 add-new c =
     let start = c.before.before.before.before in
     omega (arith, start.requires.1, start.well-formed)
@@ -121,7 +121,7 @@ judge-flow-requires c κs =
       start.requires.2,
     )
 
-add_r : tie.Need-overflow-add-r invariant-loop2 decreases-loop2 invariant-loop decreases-loop invariant-flows decreases-flows
+add_r : tie.Need-overflow_add-r invariant-loop2 decreases-loop2 invariant-loop decreases-loop invariant-flows decreases-flows
 add_r c =
     let at-loop2-test = c.before.before.before.before.before.before.before in
     let at-past = at-loop2-test.before.before.before.before.before in
@@ -148,7 +148,7 @@ loop2-again c =
       going-passes _ _ _ _ _ _ asked at-judge.judge-flow.ensures (omega (arith, at-if1.if1.false)),
     )
 
-add-next-defender : tie.Need-overflow-add-next-defender invariant-loop2 decreases-loop2 invariant-loop decreases-loop invariant-flows decreases-flows
+add-next-defender : tie.Need-overflow_add-next-defender invariant-loop2 decreases-loop2 invariant-loop decreases-loop invariant-flows decreases-flows
 add-next-defender c =
     let at-loop-test = c.before.before in
     let start = at-loop-test.before.before.before.before.before.before.before.before.before.before.before.before in
@@ -180,7 +180,7 @@ loop-again c =
       going_next start.requires.0 start.requires.3 at-flows.flows.state at-flows.flows.first _ at-flows.flows.invariant.1 at-past.run_past.ensures (omega (arith, at-flows-test.flows-test)) _ _ c.next-defender.ensures ended,
     )
 
-add-state : tie.Need-overflow-add-state invariant-loop2 decreases-loop2 invariant-loop decreases-loop invariant-flows decreases-flows
+add-state : tie.Need-overflow_add-state invariant-loop2 decreases-loop2 invariant-loop decreases-loop invariant-flows decreases-flows
 add-state c =
     let at-flows-test = c.before.before.before.before in
     let start = at-flows-test.before.before.before.before.before.before.before.before in
@@ -249,8 +249,8 @@ returns-3 c =
     (λ x. absurd (omega (arith, x.12.taken, ap (λ (f : Fault). f.number) x.14, at-if2.if2.false)))
     at-flows-test.flows-test.branch
 
-pub judge-flows-spec : {M : Type 1} → statement M
-judge-flows-spec =
+pub judge_flows_spec : {M : Type 1} → statement M
+judge_flows_spec =
     tie.close
     (tie.spec
     invariant-loop2

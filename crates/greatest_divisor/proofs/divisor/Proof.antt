@@ -30,6 +30,6 @@ returns c =
     let last : c.before.loop.low ≡ 0 = omega arith in
     sym (divisor-last _) ∙ ap (numbers.divisor _) (sym last) ∙ c.before.loop.invariant
 
-pub divisor-spec : {M : Type 1} → statement M
-divisor-spec =
+pub divisor_spec : {M : Type 1} → statement M
+divisor_spec =
     tie.close (tie.spec invariant-loop decreases-loop loop-holds rem-rest loop-less loop-again returns)

@@ -17,5 +17,5 @@ returns-2 : tie.Need-returns-2
 unfolding hidden_action
 returns-2 c = is_false _ c.if1.false refl
 
-pub hidden-action-spec : {M : Type 1} → statement M
-hidden-action-spec = tie.close (tie.spec element-copy-out-if1 returns returns-2)
+pub hidden_action_spec : {M : Type 1} → statement M
+hidden_action_spec = tie.close (tie.spec element-copy-out-if1 returns returns-2)

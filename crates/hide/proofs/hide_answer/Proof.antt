@@ -51,8 +51,8 @@ returns-2 c =
     model-refused _ _ _ (λ i h. omega (arith, scan.before.before.before.before.before.shared-slice-known.given i)) _
     told.0 told.1 (refusal-as _ 1 _ _ c.refusal-in.ensures (omega arith) (omega arith))
 
-pub hide-answer-spec : {M : Type 1} → statement M
-hide-answer-spec =
+pub hide_answer_spec : {M : Type 1} → statement M
+hide_answer_spec =
     tie.close
     (tie.spec
     no-places-requires

@@ -16,5 +16,5 @@ same_length c = search rules
 returns : tie.Need-returns
 returns c = file-stretch 38 _ _ c.before.before.before.write-file.ensures c.file-answer.ensures
 
-pub hide-sound-spec : {M : Type 1} → statement M
-hide-sound-spec = tie.close (tie.spec write-file-requires file-answer-requires same_length returns)
+pub hide_sound_spec : {M : Type 1} → statement M
+hide_sound_spec = tie.close (tie.spec write-file-requires file-answer-requires same_length returns)

@@ -19,13 +19,13 @@ loop-holds c = members-start _
 shared-slice-read-members : tie.Need-shared-slice-read-members invariant-loop decreases-loop
 shared-slice-read-members c = omega arith
 
-cast-members : tie.Need-overflow-cast-members invariant-loop decreases-loop
+cast-members : tie.Need-overflow_cast-members invariant-loop decreases-loop
 cast-members c = omega (arith, c.shared-slice-known.given c.before.before.loop.i)
 
 array-write-members : tie.Need-array-write-members invariant-loop decreases-loop
 array-write-members c = omega (arith, c.shared-slice-known.given c.before.before.loop.i)
 
-add-i : tie.Need-overflow-add-i invariant-loop decreases-loop
+add-i : tie.Need-overflow_add-i invariant-loop decreases-loop
 add-i c = omega arith
 
 loop-less : tie.Need-loop-smaller invariant-loop decreases-loop
@@ -37,8 +37,8 @@ loop-again c = let l = c.before.before.loop in members-turn l.invariant (omega a
 returns : tie.Need-returns invariant-loop decreases-loop
 returns c = members-end c.before.loop.invariant (omega arith)
 
-pub members-of-spec : {M : Type 1} → statement M
-members-of-spec =
+pub members_of_spec : {M : Type 1} → statement M
+members_of_spec =
     tie.close
     (tie.spec
     invariant-loop

@@ -20,5 +20,5 @@ returns c =
 returns-2 : tie.Need-returns-2
 returns-2 c = written-short _ (hidden-size _ c.before.before.before.before.requires) (omega arith)
 
-pub write-file-spec : {M : Type 1} → statement M
-write-file-spec = tie.close (tie.spec write-hidden-requires same_length returns returns-2)
+pub write_file_spec : {M : Type 1} → statement M
+write_file_spec = tie.close (tie.spec write-hidden-requires same_length returns returns-2)

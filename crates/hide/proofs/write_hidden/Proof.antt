@@ -28,13 +28,13 @@ loop-holds c =
     let copied = c.before.before in
     (hiding-start _ copied.before.before.before.before.before.before.requires.0 copied.part.ensures, refl)
 
-mul_at : tie.Need-overflow-mul-at invariant-loop decreases-loop
+mul_at : tie.Need-overflow_mul-at invariant-loop decreases-loop
 mul_at c = let l = c.before in omega (arith, few-transitions l.before.before.before.before.before.before.before.before.before.requires.0.known)
 
 element-copy-out-at : tie.Need-element-copy-out-at invariant-loop decreases-loop
 element-copy-out-at c = let l = c.before in omega (arith, few-transitions l.before.before.before.before.before.before.before.before.before.requires.0.known)
 
-add_at : tie.Need-overflow-add-at invariant-loop decreases-loop
+add_at : tie.Need-overflow_add-at invariant-loop decreases-loop
 add_at c = let l = c.before.before in omega (arith, record-placed l.before.before.before.before.before.before.before.before.before.requires.0 l.loop.r (omega arith))
 
 shared-slice-read-hidden-action : tie.Need-shared-slice-read-hidden-action invariant-loop decreases-loop
@@ -54,7 +54,7 @@ slice-write-out c =
     let placed = record-placed l.before.before.before.before.before.before.before.before.before.requires.0 l.loop.r (omega arith) in
     omega (arith, placed, l.loop.invariant.1, l.before.before.before.part.ensures.size)
 
-add_r : tie.Need-overflow-add-r invariant-loop decreases-loop
+add_r : tie.Need-overflow_add-r invariant-loop decreases-loop
 add_r c = omega arith
 
 loop-less : tie.Need-loop-smaller invariant-loop decreases-loop
@@ -78,8 +78,8 @@ same_length c = let l = c.before in l.loop.invariant.1 ∙ l.before.before.befor
 returns : tie.Need-returns invariant-loop decreases-loop
 returns c = let l = c.before in hiding-end _ l.before.before.before.part.ensures l.loop.invariant.0 (omega arith)
 
-pub write-hidden-spec : {M : Type 1} → statement M
-write-hidden-spec =
+pub write_hidden_spec : {M : Type 1} → statement M
+write_hidden_spec =
     tie.close
     (tie.spec
     invariant-loop

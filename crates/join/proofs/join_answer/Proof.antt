@@ -41,8 +41,8 @@ returns-2 c =
     two-refused (λ i h. omega (arith, read.before.before.before.before.before.shared-slice-known.given i)) (λ i h. omega (arith, read.before.before.before.before.shared-slice-known2.given i)) _
     (found-refused _ read.read-two.ensures c.before.read2.given.1)
 
-pub join-answer-spec : {M : Type 1} → statement M
-join-answer-spec =
+pub join_answer_spec : {M : Type 1} → statement M
+join_answer_spec =
     tie.close
     (tie.spec
     no-places-requires

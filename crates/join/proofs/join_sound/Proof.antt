@@ -8,25 +8,25 @@ use borrow.Author.Rules.{rules}
 use Rattle.join.proofs.join_sound.Statement.{statement}
 use Rattle.join.proofs.join_sound.Tie as tie
 
-add-states : tie.Need-overflow-add-states
+add-states : tie.Need-overflow_add-states
 add-states c = search rules
 
-add-transitions : tie.Need-overflow-add-transitions
+add-transitions : tie.Need-overflow_add-transitions
 add-transitions c = search rules
 
-add-records : tie.Need-overflow-add-records
+add-records : tie.Need-overflow_add-records
 add-records c = search rules
 
-sub-records : tie.Need-overflow-sub-records
+sub-records : tie.Need-overflow_sub-records
 sub-records c = omega (arith, sums c.before.before.before.before.before.before.before.requires)
 
-sub-records-2 : tie.Need-overflow-sub-records-2
+sub-records-2 : tie.Need-overflow_sub-records-2
 sub-records-2 c = omega (arith, sums c.before.before.before.before.before.before.before.requires)
 
-mul-passes-limit : tie.Need-overflow-mul-passes-limit
+mul-passes-limit : tie.Need-overflow_mul-passes-limit
 mul-passes-limit c = search rules
 
-sub-passes-limit : tie.Need-overflow-sub-passes-limit
+sub-passes-limit : tie.Need-overflow_sub-passes-limit
 sub-passes-limit c = omega (arith, sums c.before.before.before.before.before.before.before.requires)
 
 passes-limit-requires : tie.Need-passes-limit-requires
@@ -57,8 +57,8 @@ returns-2 c =
     let limit = written.before.before.before in
     file-joined limit.before.before.before.before.before.before.before.before.requires refl refl refl _ (sym written.before.before.if1.false ∙ limit.passes-limit.ensures) written.write-file.ensures c.file-answer.ensures
 
-pub join-sound-spec : {M : Type 1} → statement M
-join-sound-spec =
+pub join_sound_spec : {M : Type 1} → statement M
+join_sound_spec =
     tie.close
     (tie.spec
     add-states

@@ -15,7 +15,7 @@ returns-2 : tie.Need-returns-2
 unfolding passes_sizes
 returns-2 c = not_less _ (omega arith) (less _ (omega arith) refl)
 
-mul-if3 : tie.Need-overflow-mul-if3
+mul-if3 : tie.Need-overflow_mul-if3
 mul-if3 c = search rules
 
 returns-3 : tie.Need-returns-3
@@ -26,5 +26,5 @@ returns-4 : tie.Need-returns-4
 unfolding passes_sizes
 returns-4 c = not_less _ (omega arith) (not_less _ (omega arith) (not_less _ (omega arith) refl))
 
-pub passes-limit-spec : {M : Type 1} → statement M
-passes-limit-spec = tie.close (tie.spec returns returns-2 mul-if3 returns-3 returns-4)
+pub passes_limit_spec : {M : Type 1} → statement M
+passes_limit_spec = tie.close (tie.spec returns returns-2 mul-if3 returns-3 returns-4)

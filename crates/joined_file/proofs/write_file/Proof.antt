@@ -8,10 +8,10 @@ use borrow.Author.Rules.{rules}
 use Rattle.joined_file.proofs.write_file.Statement.{statement}
 use Rattle.joined_file.proofs.write_file.Tie as tie
 
-add-size : tie.Need-overflow-add-size
+add-size : tie.Need-overflow_add-size
 add-size c = search rules
 
-sub-size : tie.Need-overflow-sub-size
+sub-size : tie.Need-overflow_sub-size
 sub-size c = search rules
 
 write-joined-requires : tie.Need-write-joined-requires
@@ -26,5 +26,5 @@ returns c = written-whole _ (joined-size c.before.before.before.before.before.be
 returns-2 : tie.Need-returns-2
 returns-2 c = written-short _ (joined-size c.before.before.before.before.requires refl) (omega arith)
 
-pub write-file-spec : {M : Type 1} → statement M
-write-file-spec = tie.close (tie.spec add-size sub-size write-joined-requires same_length returns returns-2)
+pub write_file_spec : {M : Type 1} → statement M
+write_file_spec = tie.close (tie.spec add-size sub-size write-joined-requires same_length returns returns-2)

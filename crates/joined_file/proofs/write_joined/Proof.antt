@@ -8,10 +8,10 @@ use Rattle.joined_file.proofs.write_joined.Tie as tie
 larger-requires : tie.Need-larger-requires
 larger-requires c κs = search rules
 
-add-head : tie.Need-overflow-add-head
+add-head : tie.Need-overflow_add-head
 add-head c = search rules
 
-add-head-2 : tie.Need-overflow-add-head-2
+add-head-2 : tie.Need-overflow_add-head-2
 add-head-2 c = search rules
 
 head-requires : tie.Need-head-requires
@@ -25,7 +25,7 @@ write-labels-requires c κs =
     let larger = head.before.before.before.before.before.before in
     labels-fit larger.before.before.before.before.requires larger.larger.ensures head.head.ensures
 
-add-write-records : tie.Need-overflow-add-write-records
+add-write-records : tie.Need-overflow_add-write-records
 add-write-records c = omega (arith, sums c.before.before.before.before.before.before.before.before.before.before.before.before.before.before.before.before.before.requires.models)
 
 write-records-requires : tie.Need-write-records-requires
@@ -46,8 +46,8 @@ returns c =
     let larger = head.before.before.before.before.before.before in
     file-written larger.before.before.before.before.requires larger.larger.ensures head.head.ensures labels.write-labels.ensures records.write-records.ensures
 
-pub write-joined-spec : {M : Type 1} → statement M
-write-joined-spec =
+pub write_joined_spec : {M : Type 1} → statement M
+write_joined_spec =
     tie.close
     (tie.spec
     larger-requires

@@ -4,13 +4,13 @@ use borrow.Author.Rules.{rules}
 use Rattle.joined_file.proofs.write_labels.Statement.{statement}
 use Rattle.joined_file.proofs.write_labels.Tie as tie
 
-add-first-end : tie.Need-overflow-add-first-end
+add-first-end : tie.Need-overflow_add-first-end
 add-first-end c = search rules
 
-add-second-end : tie.Need-overflow-add-second-end
+add-second-end : tie.Need-overflow_add-second-end
 add-second-end c = search rules
 
-sub_part : tie.Need-overflow-sub-part
+sub_part : tie.Need-overflow_sub-part
 sub_part c = search rules
 
 part-part-start : tie.Need-slice-bounds-part-start
@@ -22,7 +22,7 @@ part-part-end c = search rules
 part-requires : tie.Need-part-requires
 part-requires c κs = search rules
 
-sub-part-2 : tie.Need-overflow-sub-part-2
+sub-part-2 : tie.Need-overflow_sub-part-2
 sub-part-2 c = search rules
 
 part-part-start-2 : tie.Need-slice-bounds-part-start-2
@@ -43,8 +43,8 @@ returns c =
     let a = second.before.before.before.before.before.before.before.before.before.before.before.args in
     labels-written a.first.now a.second.now a.k a.n second.before.before.before.before.before.part.ensures second.part2.ensures
 
-pub write-labels-spec : {M : Type 1} → statement M
-write-labels-spec =
+pub write_labels_spec : {M : Type 1} → statement M
+write_labels_spec =
     tie.close
     (tie.spec
     add-first-end

@@ -4,7 +4,7 @@ use borrow.Author.Rules.{rules}
 use Rattle.joined_file.proofs.write_records.Statement.{statement}
 use Rattle.joined_file.proofs.write_records.Tie as tie
 
-sub-records : tie.Need-overflow-sub-records
+sub-records : tie.Need-overflow_sub-records
 sub-records c = search rules
 
 part-records-start : tie.Need-slice-bounds-records-start
@@ -28,8 +28,8 @@ returns c =
     let a = raised.before.before.before.before.before.before.before.before.before.before.args in
     records-written a.first.now a.start raised.before.before.before.before.part.ensures raised.write-transitions.ensures
 
-pub write-records-spec : {M : Type 1} → statement M
-write-records-spec =
+pub write_records_spec : {M : Type 1} → statement M
+write_records_spec =
     tie.close
     (tie.spec
     sub-records

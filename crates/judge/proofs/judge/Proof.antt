@@ -17,6 +17,6 @@ same_length c = search rules
 returns : tie.Need-returns
 returns c = handed-one _ _ c.hand-back.ensures refl refl c.before.before.before.before.before.before.before.before.judge-answer.ensures refl
 
-pub judge-spec : {M : Type 1} → statement M
-judge-spec =
+pub judge_spec : {M : Type 1} → statement M
+judge_spec =
     tie.close (tie.spec judge-answer-requires hand-back-requires same_length returns)

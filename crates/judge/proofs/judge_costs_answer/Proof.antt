@@ -28,5 +28,5 @@ same_length c = search rules
 returns-2 : tie.Need-returns-2
 returns-2 c = search rules
 
-pub judge-costs-answer-spec : {M : Type 1} → statement M
-judge-costs-answer-spec = tie.close (tie.spec head-answer-requires returns judge-headed-requires same_length returns-2)
+pub judge_costs_answer_spec : {M : Type 1} → statement M
+judge_costs_answer_spec = tie.close (tie.spec head-answer-requires returns judge-headed-requires same_length returns-2)

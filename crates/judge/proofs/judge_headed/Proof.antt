@@ -14,12 +14,12 @@ judge-files-requires c κs = search rules
 enum-known-found : tie.Need-enum-known-found
 enum-known-found c = search rules
 
-add-write-blocks : tie.Need-overflow-add-write-blocks
+add-write-blocks : tie.Need-overflow_add-write-blocks
 add-write-blocks c =
     let files = c.before.before.before in
     omega (arith, (found-accepted files.judge-files.ensures c.before.found.given.1).inside, files.before.before.before.before.well-formed.1.1.0.0)
 
-sub-write-blocks : tie.Need-overflow-sub-write-blocks
+sub-write-blocks : tie.Need-overflow_sub-write-blocks
 sub-write-blocks c = search rules
 
 part-write-blocks-start : tie.Need-slice-bounds-write-blocks-start
@@ -58,8 +58,8 @@ returns-2 c =
     pair-refused a.kind (λ i h. omega (arith, files.before.before.before.shared-slice-known.given i)) (λ i h. omega (arith, files.before.before.shared-slice-known2.given i))
     a.blocks.now (found-refused files.judge-files.ensures c.before.found2.given.1)
 
-pub judge-headed-spec : {M : Type 1} → statement M
-judge-headed-spec =
+pub judge_headed_spec : {M : Type 1} → statement M
+judge_headed_spec =
     tie.close
     (tie.spec
     judge-files-requires

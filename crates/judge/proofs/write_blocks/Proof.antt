@@ -18,5 +18,5 @@ same_length c = search rules
 returns : tie.Need-returns
 returns c = copied _ _ _ c.before.before.before.copy.ensures.1 (without-as 0 _ c.without-place.ensures (omega arith) (omega arith))
 
-pub write-blocks-spec : {M : Type 1} → statement M
-write-blocks-spec = tie.close (tie.spec copy-requires without-place-requires same_length returns)
+pub write_blocks_spec : {M : Type 1} → statement M
+write_blocks_spec = tie.close (tie.spec copy-requires without-place-requires same_length returns)

@@ -24,5 +24,5 @@ returns-2 : tie.Need-returns-2
 returns-2 c =
     head-good _ (head_passed _ _ c.before.before.before.head-fault.ensures c.before.if1.false) (without-as 0 0 c.without-place.ensures (omega arith) (omega arith))
 
-pub head-answer-spec : {M : Type 1} → statement M
-head-answer-spec = tie.close (tie.spec head-fault-requires refusal-in-requires returns without-place-requires returns-2)
+pub head_answer_spec : {M : Type 1} → statement M
+head_answer_spec = tie.close (tie.spec head-fault-requires refusal-in-requires returns without-place-requires returns-2)

@@ -39,8 +39,8 @@ returns-2 c =
     let told = refused-by _ _ _ a.kind c.before.before.before.before.scan.ensures c.before.before.scanned2.given.1 in
     refused_as _ _ _ _ _ _ told.0 told.1 (refusal-as _ 1 _ _ c.refusal-in.ensures (omega arith) (omega arith))
 
-pub judge-files-spec : {M : Type 1} → statement M
-judge-files-spec =
+pub judge_files_spec : {M : Type 1} → statement M
+judge_files_spec =
     tie.close
     (tie.spec
     no-places-requires

@@ -32,8 +32,8 @@ returns-2 c = accepted-as _ _ _ _ _ c.before.before.before.before.before.before.
 returns-3 : tie.Need-returns-3
 returns-3 c = unaccepted-as _ _ _ _ _ _ c.before.before.before.before.before.before.before.before.requires.0 c.before.before.before.before.before.before.before.before.requires.1 c.before.before.judged2.given.1 c.before.before.before.before.judge-certificate.ensures (omega arith) (refusal-as _ 2 _ _ c.refusal-in.ensures (omega arith) (omega arith))
 
-pub judge-sound-spec : {M : Type 1} → statement M
-judge-sound-spec =
+pub judge_sound_spec : {M : Type 1} → statement M
+judge_sound_spec =
     tie.close
     (tie.spec
     without-place-requires

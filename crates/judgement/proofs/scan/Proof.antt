@@ -20,5 +20,5 @@ scan-whole-requires c κs = search rules
 returns-2 : tie.Need-returns-2
 returns-2 c = scans-whole c.before.before.before.before.before.args.kind c.before.before.before.before.before.args.terms (sym c.before.before.before.has-costs.ensures ∙ c.before.before.if1.false) c.scan-whole.ensures
 
-pub scan-spec : {M : Type 1} → statement M
-scan-spec = tie.close (tie.spec has-costs-requires scan-cost-model-requires returns scan-whole-requires returns-2)
+pub scan_spec : {M : Type 1} → statement M
+scan_spec = tie.close (tie.spec has-costs-requires scan-cost-model-requires returns scan-whole-requires returns-2)

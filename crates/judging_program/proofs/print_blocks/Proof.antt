@@ -21,7 +21,7 @@ shared-slice-read-print-block c = omega arith
 print-block-requires : tie.Need-print-block-requires invariant-loop decreases-loop
 print-block-requires c κs = search rules
 
-add-state : tie.Need-overflow-add-state invariant-loop decreases-loop
+add-state : tie.Need-overflow_add-state invariant-loop decreases-loop
 add-state c = omega arith
 
 loop-less : tie.Need-loop-smaller invariant-loop decreases-loop
@@ -33,8 +33,8 @@ loop-again c = (omega arith, omega arith)
 returns : tie.Need-returns invariant-loop decreases-loop
 returns c = search rules
 
-pub print-blocks-spec : {M : Type 1} → statement M
-print-blocks-spec =
+pub print_blocks_spec : {M : Type 1} → statement M
+print_blocks_spec =
     tie.close
     (tie.spec
     invariant-loop

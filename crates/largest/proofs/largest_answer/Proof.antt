@@ -35,8 +35,8 @@ same-length-2 c = search rules
 returns-2 : tie.Need-returns-2
 returns-2 c = search rules
 
-pub largest-answer-spec : {M : Type 1} → statement M
-largest-answer-spec =
+pub largest_answer_spec : {M : Type 1} → statement M
+largest_answer_spec =
     tie.close
     (tie.spec
     outside-requires

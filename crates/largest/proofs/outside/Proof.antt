@@ -22,5 +22,5 @@ returns-4 : tie.Need-returns-4
 unfolding outside_limits
 returns-4 c = not_less _ (omega arith) (not_less _ (omega arith) (not_less _ (omega arith) refl))
 
-pub outside-spec : {M : Type 1} → statement M
-outside-spec = tie.close (tie.spec returns returns-2 returns-3 returns-4)
+pub outside_spec : {M : Type 1} → statement M
+outside_spec = tie.close (tie.spec returns returns-2 returns-3 returns-4)

@@ -21,7 +21,7 @@ loop-holds c = repeating-start (omega arith)
 write-flow-requires : tie.Need-write-flow-requires invariant-loop decreases-loop
 write-flow-requires c κs = (repeating-room _ c.before.before.loop.invariant (omega arith), omega (arith, c.before.before.before.before.requires.1))
 
-sub-left : tie.Need-overflow-sub-left invariant-loop decreases-loop
+sub-left : tie.Need-overflow_sub-left invariant-loop decreases-loop
 sub-left c = search rules
 
 loop-less : tie.Need-loop-smaller invariant-loop decreases-loop
@@ -36,8 +36,8 @@ same_length c = search rules
 returns : tie.Need-returns invariant-loop decreases-loop
 returns c = appended-as (list-repeated flow_bytes _ _) (repeating-end _ c.before.loop.invariant (omega arith))
 
-pub write-against-spec : {M : Type 1} → statement M
-write-against-spec =
+pub write_against_spec : {M : Type 1} → statement M
+write_against_spec =
     tie.close
     (tie.spec
     invariant-loop

@@ -31,8 +31,8 @@ returns c =
     let z = r.before.before.before.before in
     certificate-written _ _ z.before.before.before.before.part.ensures z.write-zeros.ensures r.write-flows.ensures
 
-pub write-certificate-spec : {M : Type 1} → statement M
-write-certificate-spec =
+pub write_certificate_spec : {M : Type 1} → statement M
+write_certificate_spec =
     tie.close
     (tie.spec
     slice-aggregate-part

@@ -28,8 +28,8 @@ returns c =
     let from = end.before.before.before.before.before in
     flow-written from.before.before.before.before.part.ensures from.byte.ensures end.part2.ensures
 
-pub write-flow-spec : {M : Type 1} → statement M
-write-flow-spec =
+pub write_flow_spec : {M : Type 1} → statement M
+write_flow_spec =
     tie.close
     (tie.spec
     slice-aggregate-part

@@ -18,7 +18,7 @@ loop-holds c = let p = c.before.requires in against-start p.0 p.2
 write-against-requires : tie.Need-write-against-requires invariant-loop decreases-loop
 write-against-requires c κs = let l = c.before.before in (against-room l.loop.invariant (omega arith), omega (arith, l.before.before.requires.1))
 
-add-t : tie.Need-overflow-add-t invariant-loop decreases-loop
+add-t : tie.Need-overflow_add-t invariant-loop decreases-loop
 add-t c = search rules
 
 loop-less : tie.Need-loop-smaller invariant-loop decreases-loop
@@ -33,8 +33,8 @@ same_length c = search rules
 returns : tie.Need-returns invariant-loop decreases-loop
 returns c = against-end c.before.loop.invariant (omega arith)
 
-pub write-flows-spec : {M : Type 1} → statement M
-write-flows-spec =
+pub write_flows_spec : {M : Type 1} → statement M
+write_flows_spec =
     tie.close
     (tie.spec
     invariant-loop

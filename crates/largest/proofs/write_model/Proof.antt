@@ -32,7 +32,7 @@ returns c =
     let z = r.before.before.before.before in
     model-written _ _ z.before.before.before.before.head.ensures z.write-zeros.ensures r.write-transitions.ensures
 
-pub write-model-spec : {M : Type 1} → statement M
-write-model-spec =
+pub write_model_spec : {M : Type 1} → statement M
+write_model_spec =
     tie.close
     (tie.spec head-requires write-zeros-requires write-transitions-requires same_length returns)

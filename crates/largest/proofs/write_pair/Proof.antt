@@ -6,28 +6,28 @@ use borrow.Author.Rules.{rules}
 use Rattle.largest.proofs.write_pair.Statement.{statement}
 use Rattle.largest.proofs.write_pair.Tie as tie
 
-add-model-size : tie.Need-overflow-add-model-size
+add-model-size : tie.Need-overflow_add-model-size
 add-model-size c = search rules
 
-mul-model-size : tie.Need-overflow-mul-model-size
+mul-model-size : tie.Need-overflow_mul-model-size
 mul-model-size c = search rules
 
-add-model-size-2 : tie.Need-overflow-add-model-size-2
+add-model-size-2 : tie.Need-overflow_add-model-size-2
 add-model-size-2 c = search rules
 
-add-certificate-size : tie.Need-overflow-add-certificate-size
+add-certificate-size : tie.Need-overflow_add-certificate-size
 add-certificate-size c = search rules
 
-sub-certificate-size : tie.Need-overflow-sub-certificate-size
+sub-certificate-size : tie.Need-overflow_sub-certificate-size
 sub-certificate-size c = search rules
 
-mul-certificate-size : tie.Need-overflow-mul-certificate-size
+mul-certificate-size : tie.Need-overflow_mul-certificate-size
 mul-certificate-size c = omega (arith, flows-fit c.before.before.requires)
 
-mul-certificate-size-2 : tie.Need-overflow-mul-certificate-size-2
+mul-certificate-size-2 : tie.Need-overflow_mul-certificate-size-2
 mul-certificate-size-2 c = omega (arith, flows-fit c.before.before.requires)
 
-add-certificate-size-2 : tie.Need-overflow-add-certificate-size-2
+add-certificate-size-2 : tie.Need-overflow_add-certificate-size-2
 add-certificate-size-2 c = let w = c.before.before.requires in omega (arith, w.states, flows-fit w)
 
 without-place-requires : tie.Need-without-place-requires
@@ -74,8 +74,8 @@ returns-3 c =
     let entry = model.before.before.before.before.before.before in
     pair-written _ _ _ _ entry.requires model.write-model.ensures c.before.before.before.write-certificate.ensures c.without-place3.ensures refl
 
-pub write-pair-spec : {M : Type 1} → statement M
-write-pair-spec =
+pub write_pair_spec : {M : Type 1} → statement M
+write_pair_spec =
     tie.close
     (tie.spec
     add-model-size

@@ -29,7 +29,7 @@ entry-requires c κs =
     let f = c.before.before.before.fixed.ensures in
     (omega (arith, repeating-room _ l.loop.invariant (omega arith), f.place, f.size), omega arith, omega arith)
 
-sub-left : tie.Need-overflow-sub-left invariant-loop decreases-loop
+sub-left : tie.Need-overflow_sub-left invariant-loop decreases-loop
 sub-left c = search rules
 
 loop-less : tie.Need-loop-smaller invariant-loop decreases-loop
@@ -47,8 +47,8 @@ same_length c = search rules
 returns : tie.Need-returns invariant-loop decreases-loop
 returns c = appended-as (transitions-repeated self_loop _) (repeating-end _ c.before.loop.invariant (omega arith))
 
-pub write-transitions-spec : {M : Type 1} → statement M
-write-transitions-spec =
+pub write_transitions_spec : {M : Type 1} → statement M
+write_transitions_spec =
     tie.close
     (tie.spec
     invariant-loop

@@ -20,7 +20,7 @@ loop-holds c = repeating-start (omega arith)
 byte-requires : tie.Need-byte-requires invariant-loop decreases-loop
 byte-requires c κs = (repeating-room _ c.before.before.loop.invariant (omega arith), omega arith)
 
-sub-left : tie.Need-overflow-sub-left invariant-loop decreases-loop
+sub-left : tie.Need-overflow_sub-left invariant-loop decreases-loop
 sub-left c = search rules
 
 loop-less : tie.Need-loop-smaller invariant-loop decreases-loop
@@ -35,8 +35,8 @@ same_length c = search rules
 returns : tie.Need-returns invariant-loop decreases-loop
 returns c = appended-as (zeros-repeated _) (repeating-end _ c.before.loop.invariant (omega arith))
 
-pub write-zeros-spec : {M : Type 1} → statement M
-write-zeros-spec =
+pub write_zeros_spec : {M : Type 1} → statement M
+write_zeros_spec =
     tie.close
     (tie.spec
     invariant-loop

@@ -20,7 +20,7 @@ loop-holds c =
     let blocks = c.before.args.blocks.now in
     (omega arith, sym (count-end blocks (length blocks) (omega arith)))
 
-sub-left : tie.Need-overflow-sub-left invariant-loop decreases-loop
+sub-left : tie.Need-overflow_sub-left invariant-loop decreases-loop
 sub-left c = omega arith
 
 block-of-requires : tie.Need-block-of-requires invariant-loop decreases-loop
@@ -43,8 +43,8 @@ returns c =
     let none : l.left ≡ 0 = omega arith in
     l.invariant.1 ∙ ap (λ (k : ℕ). block_count (drop k c.before.before.before.args.blocks.now)) none
 
-pub block-count-spec : {M : Type 1} → statement M
-block-count-spec =
+pub block_count_spec : {M : Type 1} → statement M
+block_count_spec =
     tie.close
     (tie.spec
     invariant-loop

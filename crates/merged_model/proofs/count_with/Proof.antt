@@ -9,11 +9,11 @@ use Rattle.merged_model.proofs.count_with.Tie as tie
 returns : tie.Need-returns
 returns c = less _ (omega arith) refl
 
-add-result : tie.Need-overflow-add-result
+add-result : tie.Need-overflow_add-result
 add-result c = search rules
 
 returns-2 : tie.Need-returns-2
 returns-2 c = not_less _ (omega arith) refl
 
-pub count-with-spec : {M : Type 1} → statement M
-count-with-spec = tie.close (tie.spec returns add-result returns-2)
+pub count_with_spec : {M : Type 1} → statement M
+count_with_spec = tie.close (tie.spec returns add-result returns-2)

@@ -25,7 +25,7 @@ block-of-requires c κs = omega arith
 shared-slice-read-result : tie.Need-shared-slice-read-result invariant-loop decreases-loop
 shared-slice-read-result c = omega arith
 
-cast-result : tie.Need-overflow-cast-result invariant-loop decreases-loop
+cast-result : tie.Need-overflow_cast-result invariant-loop decreases-loop
 cast-result c = omega (arith, c.shared-slice-known3.given c.before.before.before.before.loop.v)
 
 returns : tie.Need-returns invariant-loop decreases-loop
@@ -33,7 +33,7 @@ returns c =
     let l = c.before.before.before.before.loop in
     (via (label-turn _ _ _ l.v (omega arith) (omega arith)) (same _ (omega arith) refl) ∙ l.invariant.1, omega (arith, c.shared-slice-known3.given l.v))
 
-add-v : tie.Need-overflow-add-v invariant-loop decreases-loop
+add-v : tie.Need-overflow_add-v invariant-loop decreases-loop
 add-v c = omega arith
 
 loop-less : tie.Need-loop-smaller invariant-loop decreases-loop
@@ -49,8 +49,8 @@ returns-2 c =
     let l = c.before.loop in
     (via (label-end _ _ _ l.v (omega arith)) refl ∙ l.invariant.1, omega arith)
 
-pub label-of-spec : {M : Type 1} → statement M
-label-of-spec =
+pub label_of_spec : {M : Type 1} → statement M
+label_of_spec =
     tie.close
     (tie.spec
     invariant-loop

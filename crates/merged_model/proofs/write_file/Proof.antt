@@ -15,10 +15,10 @@ slice-aggregate-write-transitions c = search rules
 write-transitions-requires : tie.Need-write-transitions-requires
 write-transitions-requires c κs = (c.before.before.before.before.before.requires.known, blocks-known c.before.before.before.before.before.requires c.before.block-count.ensures, omega arith)
 
-add-size : tie.Need-overflow-add-size
+add-size : tie.Need-overflow_add-size
 add-size c = omega (arith, (blocks-known c.before.before.before.before.before.before.before.requires c.before.before.before.block-count.ensures).few)
 
-add-size-2 : tie.Need-overflow-add-size-2
+add-size-2 : tie.Need-overflow_add-size-2
 add-size-2 c =
     let records = c.before.before in
     let blocks = records.before.before in
@@ -51,8 +51,8 @@ returns-2 c =
     let start = blocks.before.before.before.before in
     file-short start.requires blocks.block-count.ensures records.write-transitions.ensures refl (omega arith)
 
-pub write-file-spec : {M : Type 1} → statement M
-write-file-spec =
+pub write_file_spec : {M : Type 1} → statement M
+write_file_spec =
     tie.close
     (tie.spec
     block-count-requires

@@ -29,7 +29,7 @@ byte-requires c κs =
     let l = c.before.before.before.loop in
     (omega (arith, c.before.before.before.before.before.before.before.requires, l.invariant.2.size, l.invariant.1), c.label_of.ensures.1)
 
-add-b : tie.Need-overflow-add-b invariant-loop decreases-loop
+add-b : tie.Need-overflow_add-b invariant-loop decreases-loop
 add-b c = omega arith
 
 loop-less : tie.Need-loop-smaller invariant-loop decreases-loop
@@ -51,8 +51,8 @@ returns c =
     let e : l.b ≡ a.k = omega arith in
     subst (λ (x : ℕ). Appends (block_labels a.blocks.now a.labels.now x 0) a.at a.out.now l.out l.next) e l.invariant.2
 
-pub write-labels-spec : {M : Type 1} → statement M
-write-labels-spec =
+pub write_labels_spec : {M : Type 1} → statement M
+write_labels_spec =
     tie.close
     (tie.spec
     invariant-loop

@@ -10,10 +10,10 @@ use Rattle.merged_model.proofs.write_parts.Tie as tie
 head-at-requires : tie.Need-head-at-requires
 head-at-requires c κs = search rules
 
-add-write-labels : tie.Need-overflow-add-write-labels
+add-write-labels : tie.Need-overflow_add-write-labels
 add-write-labels c = search rules
 
-sub-write-labels : tie.Need-overflow-sub-write-labels
+sub-write-labels : tie.Need-overflow_sub-write-labels
 sub-write-labels c = search rules
 
 part-write-labels-start : tie.Need-slice-bounds-write-labels-start
@@ -59,8 +59,8 @@ returns c =
     let head = labels.before.before.before in
     parts-written head.before.before.before.before.before.requires labels.write-labels.ensures head.head_at.ensures.actions c.before.before.write-model.ensures
 
-pub write-parts-spec : {M : Type 1} → statement M
-write-parts-spec =
+pub write_parts_spec : {M : Type 1} → statement M
+write_parts_spec =
     tie.close
     (tie.spec
     head-at-requires

@@ -30,13 +30,13 @@ element-copy-out-weight : tie.Need-element-copy-out-weight invariant-loop decrea
 element-copy-out-weight c =
     walking-block _ c.before.before.before.loop.invariant.walking (omega arith) c.before.entry_at.ensures c.block_of.ensures.0
 
-mul-weight : tie.Need-overflow-mul-weight invariant-loop decreases-loop
+mul-weight : tie.Need-overflow_mul-weight invariant-loop decreases-loop
 mul-weight c = record { fits = omega (arith, element-copy-out-weight c) }
 
-cast-weight : tie.Need-overflow-cast-weight invariant-loop decreases-loop
+cast-weight : tie.Need-overflow_cast-weight invariant-loop decreases-loop
 cast-weight c = record { fits = omega (arith, adding-fits c.before.before.before.before.loop.invariant (element-copy-out-weight c.before)) }
 
-add-sum : tie.Need-overflow-add-sum invariant-loop decreases-loop
+add-sum : tie.Need-overflow_add-sum invariant-loop decreases-loop
 add-sum c =
     record {
       fits = omega (arith, adding-fits c.before.before.before.before.before.loop.invariant (element-copy-out-weight c.before.before), c.before.before.before.entry_at.ensures.small);
@@ -45,20 +45,20 @@ add-sum c =
 counted-requires : tie.Need-counted-requires invariant-loop decreases-loop
 counted-requires c κs = (adding-few c.before.before.before.before.before.loop.invariant, omega arith)
 
-cast-weights : tie.Need-overflow-cast-weights invariant-loop decreases-loop
+cast-weights : tie.Need-overflow_cast-weights invariant-loop decreases-loop
 cast-weights c =
     let at_block = c.before.before.before in
     record {
       fits = omega (arith, adding-fits at_block.before.before.before.loop.invariant (element-copy-out-weight at_block), at_block.before.entry_at.ensures.small);
     }
 
-mul-weights : tie.Need-overflow-mul-weights invariant-loop decreases-loop
+mul-weights : tie.Need-overflow_mul-weights invariant-loop decreases-loop
 mul-weights c = record { fits = omega (arith, element-copy-out-weight c.before.before.before) }
 
 element-write-weights : tie.Need-element-write-weights invariant-loop decreases-loop
 element-write-weights c = element-copy-out-weight c.before.before.before
 
-sub-left : tie.Need-overflow-sub-left invariant-loop decreases-loop
+sub-left : tie.Need-overflow_sub-left invariant-loop decreases-loop
 sub-left c = omega arith
 
 loop-less : tie.Need-loop-smaller invariant-loop decreases-loop
@@ -71,8 +71,8 @@ loop-again c =
 returns : tie.Need-returns invariant-loop decreases-loop
 returns c = adding-end _ c.before.loop.invariant (omega arith)
 
-pub add-weights-spec : {M : Type 1} → statement M
-add-weights-spec =
+pub add_weights_spec : {M : Type 1} → statement M
+add_weights_spec =
     tie.close
     (tie.spec
     invariant-loop

@@ -28,10 +28,10 @@ element-copy-out-weight : tie.Need-element-copy-out-weight invariant-loop decrea
 element-copy-out-weight c =
     walking-block _ c.before.before.before.loop.invariant.walking (omega arith) c.before.entry_at.ensures c.block_of.ensures.0
 
-mul-weight : tie.Need-overflow-mul-weight invariant-loop decreases-loop
+mul-weight : tie.Need-overflow_mul-weight invariant-loop decreases-loop
 mul-weight c = record { fits = omega (arith, element-copy-out-weight c) }
 
-cast-weight : tie.Need-overflow-cast-weight invariant-loop decreases-loop
+cast-weight : tie.Need-overflow_cast-weight invariant-loop decreases-loop
 cast-weight c = record { fits = omega (arith, c.before.before.before.before.before.before.before.before.before.requires.light _ (element-copy-out-weight c.before)) }
 
 with-weight-requires : tie.Need-with-weight-requires invariant-loop decreases-loop
@@ -42,7 +42,7 @@ returns c =
     let at_block = c.before.before.before in
     dividing-one (dividing-turn _ at_block.before.before.before.loop.invariant (omega arith) at_block.before.entry_at.ensures at_block.block_of.ensures.0 c.before.with-weight.ensures) c.if1.true
 
-sub-left : tie.Need-overflow-sub-left invariant-loop decreases-loop
+sub-left : tie.Need-overflow_sub-left invariant-loop decreases-loop
 sub-left c = omega arith
 
 loop-less : tie.Need-loop-smaller invariant-loop decreases-loop
@@ -57,8 +57,8 @@ loop-again c =
 returns-2 : tie.Need-returns-2 invariant-loop decreases-loop
 returns-2 c = dividing-end _ c.before.loop.invariant (omega arith)
 
-pub common-divisor-spec : {M : Type 1} → statement M
-common-divisor-spec =
+pub common_divisor_spec : {M : Type 1} → statement M
+common_divisor_spec =
     tie.close
     (tie.spec
     invariant-loop

@@ -21,7 +21,7 @@ returns c = omega (arith, an-entry c.if1.true, an-entry {weight = c.before.args.
 returns-2 : tie.Need-returns-2
 returns-2 c = omega (arith, no-entry c.before.if1.false, no-entry c.if2.true)
 
-add-result : tie.Need-overflow-add-result
+add-result : tie.Need-overflow_add-result
 add-result c = search rules
 
 returns-3 : tie.Need-returns-3

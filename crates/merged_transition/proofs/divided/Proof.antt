@@ -18,5 +18,5 @@ div-result c = search rules
 returns-2 : tie.Need-returns-2
 returns-2 c = search rules
 
-pub divided-spec : {M : Type 1} → statement M
-divided-spec = tie.close (tie.spec returns div-result returns-2)
+pub divided_spec : {M : Type 1} → statement M
+divided_spec = tie.close (tie.spec returns div-result returns-2)

@@ -6,5 +6,5 @@ use Rattle.merged_transition.proofs.no_weights.Tie as tie
 returns : tie.Need-returns
 returns c = no-weights
 
-pub no-weights-spec : {M : Type 1} → statement M
-no-weights-spec = tie.close (tie.spec returns)
+pub no_weights_spec : {M : Type 1} → statement M
+no_weights_spec = tie.close (tie.spec returns)

@@ -12,10 +12,10 @@ invariant-loop weights₀ k count g out₀ at end b₀ next₀ weights out b nex
 abbrev decreases-loop : tie.decreases-loop
 decreases-loop weights₀ k count g out₀ at end b₀ next₀ weights out b next = k - b
 
-mul-end : tie.Need-overflow-mul-end invariant-loop decreases-loop
+mul-end : tie.Need-overflow_mul-end invariant-loop decreases-loop
 mul-end c = let h = c.before.requires in omega (arith, h.counted, h.room)
 
-add-end : tie.Need-overflow-add-end invariant-loop decreases-loop
+add-end : tie.Need-overflow_add-end invariant-loop decreases-loop
 add-end c = let h = c.before.requires in omega (arith, h.counted, h.room)
 
 loop-holds : tie.Need-loop-init invariant-loop decreases-loop
@@ -30,7 +30,7 @@ returns c = writing-full c.before.before.loop.invariant refl c.if1.true
 write-entry-requires : tie.Need-write-entry-requires invariant-loop decreases-loop
 write-entry-requires c κs = writing-asks c.before.before.before.before.loop.invariant (omega arith)
 
-add-b : tie.Need-overflow-add-b invariant-loop decreases-loop
+add-b : tie.Need-overflow_add-b invariant-loop decreases-loop
 add-b c = record { fits = omega arith }
 
 loop-less : tie.Need-loop-smaller invariant-loop decreases-loop
@@ -45,8 +45,8 @@ same-length-2 c = c.before.loop.invariant.done.appended.size
 returns-2 : tie.Need-returns-2 invariant-loop decreases-loop
 returns-2 c = writing-end c.before.loop.invariant (omega arith)
 
-pub write-entries-spec : {M : Type 1} → statement M
-write-entries-spec =
+pub write_entries_spec : {M : Type 1} → statement M
+write_entries_spec =
     tie.close
     (tie.spec
     invariant-loop

@@ -5,19 +5,19 @@ use borrow.Author.Rules.{rules}
 use Rattle.merged_transition.proofs.write_entry.Statement.{statement}
 use Rattle.merged_transition.proofs.write_entry.Tie as tie
 
-mul-weight : tie.Need-overflow-mul-weight
+mul-weight : tie.Need-overflow_mul-weight
 mul-weight c = search rules
 
 element-copy-out-weight : tie.Need-element-copy-out-weight
 element-copy-out-weight c = search rules
 
-cast-weight : tie.Need-overflow-cast-weight
+cast-weight : tie.Need-overflow_cast-weight
 cast-weight c = search rules
 
 returns : tie.Need-returns
 returns c = wrote_none c.before.before.before.requires (omega arith)
 
-mul-weights : tie.Need-overflow-mul-weights
+mul-weights : tie.Need-overflow_mul-weights
 mul-weights c = search rules
 
 element-write-weights : tie.Need-element-write-weights
@@ -40,8 +40,8 @@ returns-2 c =
     let at-divided = at_entry_lem.before in
     wrote-some at-divided.before.before.before.before.before.requires (λ e. absurd (omega arith)) at-divided.divided.ensures at_entry_lem.entry.ensures
 
-pub write-entry-spec : {M : Type 1} → statement M
-write-entry-spec =
+pub write_entry_spec : {M : Type 1} → statement M
+write_entry_spec =
     tie.close
     (tie.spec
     mul-weight

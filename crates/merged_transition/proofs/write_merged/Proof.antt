@@ -59,8 +59,8 @@ returns c =
     merged-done at_fields.before.before.before.before.requires at-add.add-weights.ensures at-common.common-divisor.ensures _ _ _ at-fixed.fixed.ensures at_fields.fields-of.ensures
     at_block.block_of.ensures.0 (omega arith) at-divided.divided.ensures c.before.before.write_entries.ensures
 
-pub write-merged-spec : {M : Type 1} → statement M
-write-merged-spec =
+pub write_merged_spec : {M : Type 1} → statement M
+write_merged_spec =
     tie.close
     (tie.spec
     fields-of-requires

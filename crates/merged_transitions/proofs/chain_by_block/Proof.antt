@@ -17,7 +17,7 @@ decreases-loop s n count places blocks k heads₀ chain₀ r₀ heads chain r = 
 loop-holds : tie.Need-loop-init invariant-loop decreases-loop
 loop-holds c = (omega arith, c.before.before.requires.2)
 
-sub-r : tie.Need-overflow-sub-r invariant-loop decreases-loop
+sub-r : tie.Need-overflow_sub-r invariant-loop decreases-loop
 sub-r c = omega (arith, c.loop-test.true)
 
 fields-of-requires : tie.Need-fields-of-requires invariant-loop decreases-loop
@@ -30,7 +30,7 @@ block-of-requires c κs = let p = c.before.before.before.before.before.requires 
 few : (turn : tie.After-block-of invariant-loop decreases-loop) → turn.block_of.result < limits.states
 few turn = let p = turn.before.before.before.before.before.before.requires in block-few p.0 p.1 turn.before.fields-of.ensures turn.block_of.ensures.0
 
-mul-chain : tie.Need-overflow-mul-chain invariant-loop decreases-loop
+mul-chain : tie.Need-overflow_mul-chain invariant-loop decreases-loop
 mul-chain c = omega (arith, few c)
 
 element-copy-out-chain : tie.Need-element-copy-out-chain invariant-loop decreases-loop
@@ -42,16 +42,16 @@ inside c =
     let turn = c.before.before.before in
     omega (arith, turn.loop-test.true, turn.before.loop.invariant.0, few-transitions turn.before.before.before.before.requires.0)
 
-mul-chain-2 : tie.Need-overflow-mul-chain-2 invariant-loop decreases-loop
+mul-chain-2 : tie.Need-overflow_mul-chain-2 invariant-loop decreases-loop
 mul-chain-2 c = omega (arith, inside c)
 
 element-write-chain : tie.Need-element-write-chain invariant-loop decreases-loop
 element-write-chain c = inside c
 
-cast-heads : tie.Need-overflow-cast-heads invariant-loop decreases-loop
+cast-heads : tie.Need-overflow_cast-heads invariant-loop decreases-loop
 cast-heads c = omega (arith, inside c)
 
-mul-heads : tie.Need-overflow-mul-heads invariant-loop decreases-loop
+mul-heads : tie.Need-overflow_mul-heads invariant-loop decreases-loop
 mul-heads c = omega (arith, few c.before)
 
 element-write-heads : tie.Need-element-write-heads invariant-loop decreases-loop
@@ -71,8 +71,8 @@ loop-again c =
 returns : tie.Need-returns invariant-loop decreases-loop
 returns c = chained-at c.before.loop.invariant.1 (omega (arith, c.loop-test.false))
 
-pub chain-by-block-spec : {M : Type 1} → statement M
-chain-by-block-spec =
+pub chain_by_block_spec : {M : Type 1} → statement M
+chain_by_block_spec =
     tie.close
     (tie.spec
     invariant-loop

@@ -12,7 +12,7 @@ write-merged-requires c κs = can-merge c.before.before.before.before.before.req
 abbrev asked : tie.After-write-merged → tie.Start
 asked written = written.before.before.before.before.before.before
 
-add-t18 : tie.Need-overflow-add-t18
+add-t18 : tie.Need-overflow_add-t18
 add-t18 c = omega (arith, few-kept (asked c.before.before.before).requires)
 
 is-repeated-requires : tie.Need-is-repeated-requires
@@ -36,8 +36,8 @@ returns-2 c =
     let written = c.before.before.before.before.before.before in
     keep-new (asked written).requires written.write-merged.ensures c.if1.false c.before.is-repeated.ensures refl
 
-pub keep-of-block-spec : {M : Type 1} → statement M
-keep-of-block-spec =
+pub keep_of_block_spec : {M : Type 1} → statement M
+keep_of_block_spec =
     tie.close
     (tie.spec
     write-merged-requires

@@ -18,7 +18,7 @@ invariant-loop s n count places blocks k b heads chain weights₀ out₀ start k
 abbrev decreases-loop : tie.decreases-loop
 decreases-loop s n count places blocks k b heads chain weights₀ out₀ start kept₀ r₀ weights out kept r = count - r
 
-mul-r : tie.Need-overflow-mul-r invariant-loop decreases-loop
+mul-r : tie.Need-overflow_mul-r invariant-loop decreases-loop
 mul-r c = omega (arith, c.before.before.before.requires.block, c.before.before.before.requires.merging.few)
 
 element-copy-out-r : tie.Need-element-copy-out-r invariant-loop decreases-loop
@@ -28,7 +28,7 @@ element-copy-out-r c = omega (arith, c.before.before.before.requires.block, c.be
 first_of : (c : tie.After-r invariant-loop decreases-loop) → let a = c.before.before.before.before.args in IsFirst a.s.now a.blocks.now a.count a.b 0 (get_or a.heads.now a.b 0)
 first_of c = let p = c.before.before.before.before.requires in p.chained.first _ (omega (arith, p.block, p.merging.few))
 
-cast-r : tie.Need-overflow-cast-r invariant-loop decreases-loop
+cast-r : tie.Need-overflow_cast-r invariant-loop decreases-loop
 cast-r c = omega (arith, (first_of c).to, few-transitions c.before.before.before.before.requires.known)
 
 loop-holds : tie.Need-loop-init invariant-loop decreases-loop
@@ -53,13 +53,13 @@ next_of c =
     let turn = c.before.before.before.before.before in
     behind (start_of c).requires.chained turn.loop-test.true (turn.before.loop.invariant.4 turn.loop-test.true)
 
-mul-r-2 : tie.Need-overflow-mul-r-2 invariant-loop decreases-loop
+mul-r-2 : tie.Need-overflow_mul-r-2 invariant-loop decreases-loop
 mul-r-2 c = omega (arith, c.before.before.before.before.before.loop-test.true, few-transitions (start_of c).requires.known)
 
 element-copy-out-r-2 : tie.Need-element-copy-out-r-2 invariant-loop decreases-loop
 element-copy-out-r-2 c = omega (arith, c.before.before.before.before.before.loop-test.true, few-transitions (start_of c).requires.known)
 
-cast-r-2 : tie.Need-overflow-cast-r-2 invariant-loop decreases-loop
+cast-r-2 : tie.Need-overflow_cast-r-2 invariant-loop decreases-loop
 cast-r-2 c = omega (arith, (next_of c.before).to, few-transitions (start_of c.before).pre.known)
 
 loop-less : tie.Need-loop-smaller invariant-loop decreases-loop
@@ -84,8 +84,8 @@ returns c =
       size = l.invariant.0;
     }
 
-pub write-block-spec : {M : Type 1} → statement M
-write-block-spec =
+pub write_block_spec : {M : Type 1} → statement M
+write_block_spec =
     tie.close
     (tie.spec
     invariant-loop

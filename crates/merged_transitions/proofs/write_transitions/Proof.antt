@@ -18,7 +18,7 @@ invariant-loop s n count places blocks k out₀ heads chain weights₀ kept₀ b
 abbrev decreases-loop : tie.decreases-loop
 decreases-loop s n count places blocks k out₀ heads chain weights₀ kept₀ block₀ out weights kept block = k - block
 
-cast-heads : tie.Need-overflow-cast-heads invariant-loop decreases-loop
+cast-heads : tie.Need-overflow_cast-heads invariant-loop decreases-loop
 cast-heads c = omega (arith, few-transitions c.before.before.before.requires.0)
 
 chain-by-block-requires : tie.Need-chain-by-block-requires invariant-loop decreases-loop
@@ -45,7 +45,7 @@ write-block-requires c κs =
       held = l.invariant.3;
     }
 
-add-block : tie.Need-overflow-add-block invariant-loop decreases-loop
+add-block : tie.Need-overflow_add-block invariant-loop decreases-loop
 add-block c =
     let turn = c.before.before.before.before.before.before.before in
     omega (arith, turn.loop-test.true, turn.before.before.before.before.before.before.before.before.before.requires.1.few)
@@ -71,8 +71,8 @@ returns c =
       size = l.invariant.1;
     }
 
-pub write-transitions-spec : {M : Type 1} → statement M
-write-transitions-spec =
+pub write_transitions_spec : {M : Type 1} → statement M
+write_transitions_spec =
     tie.close
     (tie.spec
     invariant-loop

@@ -22,5 +22,5 @@ scan-whole-requires c κs =
 returns-2 : tie.Need-returns-2
 returns-2 c = search rules
 
-pub scan-file-spec : {M : Type 1} → statement M
-scan-file-spec = tie.close (tie.spec head-fault-requires returns scan-whole-requires returns-2)
+pub scan_file_spec : {M : Type 1} → statement M
+scan_file_spec = tie.close (tie.spec head-fault-requires returns scan-whole-requires returns-2)

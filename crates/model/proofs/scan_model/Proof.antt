@@ -56,7 +56,7 @@ returns-2 c =
     (c.scan-transitions.ensures.answer ∙ of-head (λ (n m count : ℕ). scan_transitions (limits_by start.args.terms) s n m count count 0 0 (8 + n)) head)))
     c.scan-transitions.ensures.places c.scan-transitions.ensures.size
 
-pub scan-model-spec : {M : Type 1} → statement M
-scan-model-spec =
+pub scan_model_spec : {M : Type 1} → statement M
+scan_model_spec =
     tie.close
     (tie.spec head-at-requires labels-fault-requires returns scan-transitions-requires returns-2)

@@ -50,7 +50,7 @@ next-held {s} {table} {r} at h e room f = subst (λ (k : ℕ). PlacesHeld s k (s
 at_place : {f : rules.Fault} {place : ℕ} {r : Fault} {scan : Scan} → Placed f place r → refused (fault_of r) place ≡ scan → refused (fault_of r) r.place ≡ scan
 at_place {r = r} p e = ap (refused (fault_of r)) p.at ∙ e
 
-add-new : tie.Need-overflow-add-new invariant-loop decreases-loop
+add-new : tie.Need-overflow_add-new invariant-loop decreases-loop
 add-new c = omega arith
 
 new-requires : tie.Need-new-requires invariant-loop decreases-loop
@@ -84,23 +84,23 @@ returns c =
     ∙ l.invariant.scan)
     tt l.invariant.size
 
-sub-r : tie.Need-overflow-sub-r invariant-loop decreases-loop
+sub-r : tie.Need-overflow_sub-r invariant-loop decreases-loop
 sub-r c = omega arith
 
-mul-places : tie.Need-overflow-mul-places invariant-loop decreases-loop
+mul-places : tie.Need-overflow_mul-places invariant-loop decreases-loop
 mul-places c = omega arith
 
 element-write-places : tie.Need-element-write-places invariant-loop decreases-loop
 element-write-places c = omega arith
 
-add-entries : tie.Need-overflow-add-entries invariant-loop decreases-loop
+add-entries : tie.Need-overflow_add-entries invariant-loop decreases-loop
 add-entries c =
     let l = c.before.before.before.before.before.before.loop in
     let read = c.before.before.before.before.transition-at.ensures in
     let z = c.before.if1.false in
     omega (arith, read.count z, (transition-passed _ _ _ _ _ _ _ (none_is c.before.before.before.before.transition-at.result.fault read.fault.is z)).few)
 
-sub-left : tie.Need-overflow-sub-left invariant-loop decreases-loop
+sub-left : tie.Need-overflow_sub-left invariant-loop decreases-loop
 sub-left c = omega arith
 
 loop-less : tie.Need-loop-smaller invariant-loop decreases-loop
@@ -128,7 +128,7 @@ loop-again c =
           ∙ l.invariant.scan;
     }
 
-mul-places-2 : tie.Need-overflow-mul-places-2 invariant-loop decreases-loop
+mul-places-2 : tie.Need-overflow_mul-places-2 invariant-loop decreases-loop
 mul-places-2 c = omega arith
 
 element-write-places-2 : tie.Need-element-write-places-2 invariant-loop decreases-loop
@@ -144,8 +144,8 @@ returns-2 c =
     (l.invariant.place ∙ ap (place_of a.s.now) z))
     (length-set l.places a.count l.place.at ∙ l.invariant.size)
 
-pub scan-transitions-spec : {M : Type 1} → statement M
-scan-transitions-spec =
+pub scan_transitions_spec : {M : Type 1} → statement M
+scan_transitions_spec =
     tie.close
     (tie.spec
     invariant-loop

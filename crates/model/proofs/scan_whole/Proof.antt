@@ -39,5 +39,5 @@ returns-2 c =
     let q = sym (ap scan_of c.before.scanned2.given.1) ∙ told.answer in
     scans _ (via (sym (ap (refuse_bytes_left s) q)) refl) tt told.size
 
-pub scan-whole-spec : {M : Type 1} → statement M
-scan-whole-spec = tie.close (tie.spec scan-model-requires enum-known-scanned whole-requires enum-known-scanned-2 returns returns-2)
+pub scan_whole_spec : {M : Type 1} → statement M
+scan_whole_spec = tie.close (tie.spec scan-model-requires enum-known-scanned whole-requires enum-known-scanned-2 returns returns-2)

@@ -21,5 +21,5 @@ returns-2 : tie.Need-returns-2
 unfolding refuse_bytes_left
 returns-2 c = not_less _ (omega arith) refl
 
-pub whole-spec : {M : Type 1} → statement M
-whole-spec = tie.close (tie.spec refusal-requires at-requires returns returns-2)
+pub whole_spec : {M : Type 1} → statement M
+whole_spec = tie.close (tie.spec refusal-requires at-requires returns returns-2)

@@ -28,6 +28,6 @@ returns c =
       small = omega arith;
     }
 
-pub head-at-spec : {M : Type 1} → statement M
-head-at-spec =
+pub head_at_spec : {M : Type 1} → statement M
+head_at_spec =
     tie.close (tie.spec new-requires byte-requires byte-requires-2 pair-requires returns)

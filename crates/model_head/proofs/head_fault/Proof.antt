@@ -38,8 +38,8 @@ returns-2 c =
     (first_passes _ _ head.before.before.before.open-model.ensures head.before.if1.false
     (c.before.range-fault.ensures ∙ of-head (range_fault limits) head.head_at.ensures))
 
-pub head-fault-spec : {M : Type 1} → statement M
-head-fault-spec =
+pub head_fault_spec : {M : Type 1} → statement M
+head_fault_spec =
     tie.close
     (tie.spec
     open-model-requires

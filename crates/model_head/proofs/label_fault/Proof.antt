@@ -34,7 +34,7 @@ returns c =
     let l = c.before.before.before.before.loop in
     via (label_fault-turn limits _ l.left l.place.at (omega arith)) (less _ (omega arith) c.refusal.ensures) ∙ l.invariant.1
 
-sub-left : tie.Need-overflow-sub-left invariant-loop decreases-loop
+sub-left : tie.Need-overflow_sub-left invariant-loop decreases-loop
 sub-left c = omega arith
 
 loop-less : tie.Need-loop-smaller invariant-loop decreases-loop
@@ -56,8 +56,8 @@ returns-2 c =
     let l = c.before.before.loop in
     via (label_fault-end limits _ l.left l.place.at (omega arith)) c.none.ensures ∙ l.invariant.1
 
-pub label-fault-spec : {M : Type 1} → statement M
-label-fault-spec =
+pub label_fault_spec : {M : Type 1} → statement M
+label_fault_spec =
     tie.close
     (tie.spec
     invariant-loop

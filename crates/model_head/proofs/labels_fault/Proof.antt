@@ -9,7 +9,7 @@ use borrow.Author.Rules.{rules}
 use Rattle.model_head.proofs.labels_fault.Statement.{statement}
 use Rattle.model_head.proofs.labels_fault.Tie as tie
 
-add-open-model : tie.Need-overflow-add-open-model
+add-open-model : tie.Need-overflow_add-open-model
 add-open-model c = search rules
 
 open-model-requires : tie.Need-open-model-requires
@@ -32,8 +32,8 @@ returns-2 : tie.Need-returns-2
 unfolding labels_fault
 returns-2 c = placed-as c.at2.ensures (first_passes _ _ c.before.before.before.before.open-model.ensures c.before.before.if1.false c.before.label-fault.ensures)
 
-pub labels-fault-spec : {M : Type 1} → statement M
-labels-fault-spec =
+pub labels_fault_spec : {M : Type 1} → statement M
+labels_fault_spec =
     tie.close
     (tie.spec
     add-open-model

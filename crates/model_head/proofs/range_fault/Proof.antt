@@ -48,8 +48,8 @@ returns-6 : tie.Need-returns-6
 unfolding range_fault
 returns-6 c = less _ (omega arith) (not_less _ (omega arith) (less _ (omega arith) (not_less _ (omega arith) (not_less _ (omega arith) c.none.ensures))))
 
-pub range-fault-spec : {M : Type 1} → statement M
-range-fault-spec =
+pub range_fault_spec : {M : Type 1} → statement M
+range_fault_spec =
     tie.close
     (tie.spec
     refusal-requires

@@ -7,5 +7,5 @@ use Rattle.pairs.proofs.bit_in.Tie as tie
 returns : tie.Need-returns
 returns c = (bit-place _ (omega arith), omega arith)
 
-pub bit-in-spec : {M : Type 1} → statement M
-bit-in-spec = tie.close (tie.spec returns)
+pub bit_in_spec : {M : Type 1} → statement M
+bit_in_spec = tie.close (tie.spec returns)

@@ -7,7 +7,7 @@ use Rattle.pairs.proofs.clear.Tie as tie
 word-of-requires : tie.Need-word-of-requires
 word-of-requires c κs = omega arith
 
-mul-without : tie.Need-overflow-mul-without
+mul-without : tie.Need-overflow_mul-without
 mul-without c = omega arith
 
 element-copy-out-without : tie.Need-element-copy-out-without
@@ -19,7 +19,7 @@ bit-in-requires c κs = omega arith
 without-requires : tie.Need-without-requires
 without-requires c κs = omega arith
 
-mul-rows : tie.Need-overflow-mul-rows
+mul-rows : tie.Need-overflow_mul-rows
 mul-rows c = omega arith
 
 element-write-rows : tie.Need-element-write-rows

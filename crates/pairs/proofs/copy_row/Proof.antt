@@ -7,10 +7,10 @@ use Rattle.pairs.proofs.copy_row.Tie as tie
 word-at-requires : tie.Need-word-at-requires
 word-at-requires c κs = omega arith
 
-mul-rows : tie.Need-overflow-mul-rows
+mul-rows : tie.Need-overflow_mul-rows
 mul-rows c = omega arith
 
-mul-rows-2 : tie.Need-overflow-mul-rows-2
+mul-rows-2 : tie.Need-overflow_mul-rows-2
 mul-rows-2 c = omega arith
 
 element-write-rows : tie.Need-element-write-rows
@@ -19,13 +19,13 @@ element-write-rows c = omega arith
 word-at-requires-2 : tie.Need-word-at-requires-2
 word-at-requires-2 c κs = omega arith
 
-mul-rows-3 : tie.Need-overflow-mul-rows-3
+mul-rows-3 : tie.Need-overflow_mul-rows-3
 mul-rows-3 c = omega arith
 
-add-rows : tie.Need-overflow-add-rows
+add-rows : tie.Need-overflow_add-rows
 add-rows c = omega arith
 
-mul-rows-4 : tie.Need-overflow-mul-rows-4
+mul-rows-4 : tie.Need-overflow_mul-rows-4
 mul-rows-4 c = omega arith
 
 element-write-rows-2 : tie.Need-element-write-rows-2
@@ -34,8 +34,8 @@ element-write-rows-2 c = omega arith
 returns : tie.Need-returns
 returns c = copied-stored _ _ _ _ c.before.word_at.ensures c.word-at2.ensures
 
-pub copy-row-spec : {M : Type 1} → statement M
-copy-row-spec =
+pub copy_row_spec : {M : Type 1} → statement M
+copy_row_spec =
     tie.close
     (tie.spec
     word-at-requires

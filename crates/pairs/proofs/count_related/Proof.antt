@@ -16,14 +16,14 @@ word-at-requires-2 c κs = omega arith
 ones-requires-2 : tie.Need-ones-requires-2
 ones-requires-2 c κs = omega arith
 
-add-result : tie.Need-overflow-add-result
+add-result : tie.Need-overflow_add-result
 add-result c = record { fits = counts-fit _ _ c.before.before.ones.ensures c.ones2.ensures }
 
 returns : tie.Need-returns
 returns c = count-words _ _ c.before.before.before.word_at.ensures c.before.word-at2.ensures c.before.before.ones.ensures c.ones2.ensures
 
-pub count-related-spec : {M : Type 1} → statement M
-count-related-spec =
+pub count_related_spec : {M : Type 1} → statement M
+count_related_spec =
     tie.close
     (tie.spec
     word-at-requires

@@ -7,18 +7,18 @@ use Rattle.pairs.proofs.next_in_second.Tie as tie
 word-at-requires : tie.Need-word-at-requires
 word-at-requires c κs = omega arith
 
-sub-next-bit : tie.Need-overflow-sub-next-bit
+sub-next-bit : tie.Need-overflow_sub-next-bit
 sub-next-bit c = omega arith
 
 next-bit-requires : tie.Need-next-bit-requires
 next-bit-requires c κs = omega arith
 
-add-result : tie.Need-overflow-add-result
+add-result : tie.Need-overflow_add-result
 add-result c = omega arith
 
 returns : tie.Need-returns
 returns c = next-second _ _ c.before.word_at.ensures c.next_bit.ensures.0 (omega arith)
 
-pub next-in-second-spec : {M : Type 1} → statement M
-next-in-second-spec =
+pub next_in_second_spec : {M : Type 1} → statement M
+next_in_second_spec =
     tie.close (tie.spec word-at-requires sub-next-bit next-bit-requires add-result returns)

@@ -28,8 +28,8 @@ next-in-second-requires-2 c κs = omega arith
 returns-4 : tie.Need-returns-4
 returns-4 c = next-later _ _ c.before.before.before.word_at.ensures c.before.before.next_bit.ensures.0 (omega arith) (omega arith) c.next-in-second2.ensures
 
-pub next-related-spec : {M : Type 1} → statement M
-next-related-spec =
+pub next_related_spec : {M : Type 1} → statement M
+next_related_spec =
     tie.close
     (tie.spec
     returns

@@ -10,5 +10,5 @@ word-at-requires c κs = omega arith
 returns : tie.Need-returns
 returns c = part-is _ _ _ c.before.requires.1 c.word_at.ensures
 
-pub part-spec : {M : Type 1} → statement M
-part-spec = tie.close (tie.spec word-at-requires returns)
+pub part_spec : {M : Type 1} → statement M
+part_spec = tie.close (tie.spec word-at-requires returns)

@@ -7,7 +7,7 @@ use Rattle.pairs.proofs.relate.Tie as tie
 word-of-requires : tie.Need-word-of-requires
 word-of-requires c κs = omega arith
 
-mul-with : tie.Need-overflow-mul-with
+mul-with : tie.Need-overflow_mul-with
 mul-with c = omega arith
 
 element-copy-out-with : tie.Need-element-copy-out-with
@@ -19,7 +19,7 @@ bit-in-requires c κs = omega arith
 with-requires : tie.Need-with-requires
 with-requires c κs = omega arith
 
-mul-rows : tie.Need-overflow-mul-rows
+mul-rows : tie.Need-overflow_mul-rows
 mul-rows c = omega arith
 
 element-write-rows : tie.Need-element-write-rows
@@ -28,8 +28,8 @@ element-write-rows c = omega arith
 returns : tie.Need-returns
 returns c = put-stored _ _ _ _ c.before.before.before.word_of.ensures.0 c.before.bit_in.ensures.0 c.with.ensures
 
-pub relate-spec : {M : Type 1} → statement M
-relate-spec =
+pub relate_spec : {M : Type 1} → statement M
+relate_spec =
     tie.close
     (tie.spec
     word-of-requires

@@ -7,7 +7,7 @@ use Rattle.pairs.proofs.related.Tie as tie
 word-of-requires : tie.Need-word-of-requires
 word-of-requires c κs = omega arith
 
-mul-has : tie.Need-overflow-mul-has
+mul-has : tie.Need-overflow_mul-has
 mul-has c = omega arith
 
 element-copy-out-has : tie.Need-element-copy-out-has
@@ -22,7 +22,7 @@ has-requires c κs = omega arith
 returns : tie.Need-returns
 returns c = bit-read _ _ _ c.before.before.before.word_of.ensures.0 c.before.bit_in.ensures.0 c.has.ensures
 
-pub related-spec : {M : Type 1} → statement M
-related-spec =
+pub related_spec : {M : Type 1} → statement M
+related_spec =
     tie.close
     (tie.spec word-of-requires mul-has element-copy-out-has bit-in-requires has-requires returns)

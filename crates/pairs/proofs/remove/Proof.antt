@@ -15,5 +15,5 @@ returns : tie.Need-returns
 unfolding removed_rows
 returns c = c.clear2.ensures ∙ ap (cleared_rows _ _) c.before.before.clear.ensures
 
-pub remove-spec : {M : Type 1} → statement M
-remove-spec = tie.close (tie.spec clear-requires clear-requires-2 returns)
+pub remove_spec : {M : Type 1} → statement M
+remove_spec = tie.close (tie.spec clear-requires clear-requires-2 returns)

@@ -29,8 +29,8 @@ same-requires-2 c κs = omega arith
 returns-2 : tie.Need-returns-2
 returns-2 c = words_same _ _ _ _ c.before.before.before.before.before.before.word_at.ensures c.before.before.before.before.before.word-at2.ensures c.before.before.before.before.same.ensures (not-false _ c.before.before.before.if1.false) c.before.before.word-at3.ensures c.before.word-at4.ensures c.same2.ensures
 
-pub same-in-spec : {M : Type 1} → statement M
-same-in-spec =
+pub same_in_spec : {M : Type 1} → statement M
+same_in_spec =
     tie.close
     (tie.spec
     word-at-requires

@@ -15,5 +15,5 @@ returns-2 : tie.Need-returns-2
 unfolding row_of phrases
 returns-2 c = not_less _ (omega arith) refl
 
-pub row-of-spec : {M : Type 1} → statement M
-row-of-spec = tie.close (tie.spec returns returns-2)
+pub row_of_spec : {M : Type 1} → statement M
+row_of_spec = tie.close (tie.spec returns returns-2)

@@ -23,8 +23,8 @@ same_length c = search rules
 returns : tie.Need-returns
 returns c = search rules
 
-pub write-phrase-spec : {M : Type 1} → statement M
-write-phrase-spec =
+pub write_phrase_spec : {M : Type 1} → statement M
+write_phrase_spec =
     tie.close
     (tie.spec
     slice-aggregate-write-row

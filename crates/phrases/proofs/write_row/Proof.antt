@@ -11,22 +11,22 @@ use Rattle.phrases.proofs.write_row.Tie as tie
 row-of-requires : tie.Need-row-of-requires
 row-of-requires c κs = search rules
 
-mul-start : tie.Need-overflow-mul-start
+mul-start : tie.Need-overflow_mul-start
 mul-start c = record { fits = omega (arith, c.row_of.ensures, row_below c.before.before.before.before.args.number) }
 
 shared-slice-read-end : tie.Need-shared-slice-read-end
 shared-slice-read-end c = (row-holds c.before.before.before.before.before.requires.0 _ c.before.row_of.ensures).listed
 
-cast-end : tie.Need-overflow-cast-end
+cast-end : tie.Need-overflow_cast-end
 cast-end c = let h = row-holds c.before.before.before.before.before.requires.0 _ c.before.row_of.ensures in record { fits = omega (arith, h.short, h.counted) }
 
-add-end : tie.Need-overflow-add-end
+add-end : tie.Need-overflow_add-end
 add-end c =
     let r = c.before in
     let h = row-holds r.before.before.before.before.requires.0 _ r.row_of.ensures in
     record { fits = omega (arith, h.short, h.counted, r.row_of.ensures, row_below r.before.before.before.before.args.number) }
 
-sub_part : tie.Need-overflow-sub-part
+sub_part : tie.Need-overflow_sub-part
 sub_part c = search rules
 
 part-part-start : tie.Need-slice-bounds-part-start
@@ -52,8 +52,8 @@ returns c =
     let h = row-holds r.before.before.before.before.requires.0 _ r.row_of.ensures in
     appended-as (sym h.bytes) c.before.before.part.ensures
 
-pub write-row-spec : {M : Type 1} → statement M
-write-row-spec =
+pub write_row_spec : {M : Type 1} → statement M
+write_row_spec =
     tie.close
     (tie.spec
     row-of-requires

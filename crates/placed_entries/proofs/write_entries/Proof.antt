@@ -25,17 +25,17 @@ loop-holds c = entries-start _ c.before.before.requires
 entry-at-requires : tie.Need-entry-at-requires invariant-loop decreases-loop
 entry-at-requires c κs = omega arith
 
-mul-entry : tie.Need-overflow-mul-entry invariant-loop decreases-loop
+mul-entry : tie.Need-overflow_mul-entry invariant-loop decreases-loop
 mul-entry c =
     let taken = c.before.before in
     omega (arith, (next_fits _ _ _ _ taken.before.before.loop.invariant (omega arith) taken.entry_at.ensures).0)
 
-add-entry : tie.Need-overflow-add-entry invariant-loop decreases-loop
+add-entry : tie.Need-overflow_add-entry invariant-loop decreases-loop
 add-entry c =
     let taken = c.before.before in
     omega (arith, (next_fits _ _ _ _ taken.before.before.loop.invariant (omega arith) taken.entry_at.ensures).0)
 
-mul-entry-2 : tie.Need-overflow-mul-entry-2 invariant-loop decreases-loop
+mul-entry-2 : tie.Need-overflow_mul-entry-2 invariant-loop decreases-loop
 mul-entry-2 c =
     let taken = c.before.before.before in
     omega (arith, (next_fits _ _ _ _ taken.before.before.loop.invariant (omega arith) taken.entry_at.ensures).1)
@@ -45,7 +45,7 @@ entry-requires c κs =
     let taken = c.before.before.before in
     omega (arith, next_fits _ _ _ _ taken.before.before.loop.invariant (omega arith) taken.entry_at.ensures)
 
-sub-left : tie.Need-overflow-sub-left invariant-loop decreases-loop
+sub-left : tie.Need-overflow_sub-left invariant-loop decreases-loop
 sub-left c = omega arith
 
 loop-less : tie.Need-loop-smaller invariant-loop decreases-loop
@@ -70,8 +70,8 @@ same_length c = c.before.loop.invariant.ahead.size
 returns : tie.Need-returns invariant-loop decreases-loop
 returns c = entries-end _ _ c.before.loop.invariant (omega arith)
 
-pub write-entries-spec : {M : Type 1} → statement M
-write-entries-spec =
+pub write_entries_spec : {M : Type 1} → statement M
+write_entries_spec =
     tie.close
     (tie.spec
     invariant-loop

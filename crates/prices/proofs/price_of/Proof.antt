@@ -10,17 +10,17 @@ use Rattle.prices.specs.PricesLaws.{four-fit}
 use Rattle.prices.proofs.price_of.Statement.{statement}
 use Rattle.prices.proofs.price_of.Tie as tie
 
-mul-price : tie.Need-overflow-mul-price
+mul-price : tie.Need-overflow_mul-price
 mul-price c = search rules
 
 element-copy-out-price : tie.Need-element-copy-out-price
 element-copy-out-price c = search rules
 
-cast-result : tie.Need-overflow-cast-result
+cast-result : tie.Need-overflow_cast-result
 cast-result c = four-fit (of_z w32 (price_in c.before.args.prices.now c.before.args.v))
 
 returns : tie.Need-returns
 returns c = record { is = λ small. to_z-of_z (cast-result c) ∙ to_z-of_z (record { sfits = omega (arith, small) }) }
 
-pub price-of-spec : {M : Type 1} → statement M
-price-of-spec = tie.close (tie.spec mul-price element-copy-out-price cast-result returns)
+pub price_of_spec : {M : Type 1} → statement M
+price_of_spec = tie.close (tie.spec mul-price element-copy-out-price cast-result returns)

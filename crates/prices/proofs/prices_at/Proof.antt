@@ -25,16 +25,16 @@ loop-holds c = (omega arith, omega arith, none-held _ _ (omega arith))
 price-requires : tie.Need-price-requires invariant-loop decreases-loop
 price-requires c κs = omega arith
 
-cast-value : tie.Need-overflow-cast-value invariant-loop decreases-loop
+cast-value : tie.Need-overflow_cast-value invariant-loop decreases-loop
 cast-value c = read_fits c.before.before.price.ensures
 
-mul-value : tie.Need-overflow-mul-value invariant-loop decreases-loop
+mul-value : tie.Need-overflow_mul-value invariant-loop decreases-loop
 mul-value c = omega arith
 
 element-set-from-value : tie.Need-element-set-from-value invariant-loop decreases-loop
 element-set-from-value c = omega arith
 
-add-i : tie.Need-overflow-add-i invariant-loop decreases-loop
+add-i : tie.Need-overflow_add-i invariant-loop decreases-loop
 add-i c = omega arith
 
 loop-less : tie.Need-loop-smaller invariant-loop decreases-loop
@@ -54,8 +54,8 @@ returns c =
     let e : l.i ≡ a.n = omega arith in
     subst (λ (k : ℕ). HoldsPrices k (λ i. signed_at a.s.now (a.at + 4 * i)) l.out) e l.invariant.2
 
-pub prices-at-spec : {M : Type 1} → statement M
-prices-at-spec =
+pub prices_at_spec : {M : Type 1} → statement M
+prices_at_spec =
     tie.close
     (tie.spec
     invariant-loop

@@ -21,19 +21,19 @@ new-requires c κs = search rules
 price-requires : tie.Need-price-requires invariant-loop decreases-loop
 price-requires c κs = omega arith
 
-cast-price : tie.Need-overflow-cast-price invariant-loop decreases-loop
+cast-price : tie.Need-overflow_cast-price invariant-loop decreases-loop
 cast-price c = read_fits c.before.before.price.ensures
 
 loop-holds : tie.Need-loop-init invariant-loop decreases-loop
 loop-holds c = (omega arith, none-held _ _ (omega arith))
 
-mul-price : tie.Need-overflow-mul-price invariant-loop decreases-loop
+mul-price : tie.Need-overflow_mul-price invariant-loop decreases-loop
 mul-price c = omega arith
 
 element-set-from-price : tie.Need-element-set-from-price invariant-loop decreases-loop
 element-set-from-price c = omega arith
 
-add-v : tie.Need-overflow-add-v invariant-loop decreases-loop
+add-v : tie.Need-overflow_add-v invariant-loop decreases-loop
 add-v c = omega arith
 
 loop-less : tie.Need-loop-smaller invariant-loop decreases-loop
@@ -53,8 +53,8 @@ returns c =
     let e : l.v ≡ a.n = omega arith in
     subst (λ (k : ℕ). HoldsPrices k (λ i. signed_at a.s.now a.at) l.out) e l.invariant.1
 
-pub same-price-spec : {M : Type 1} → statement M
-same-price-spec =
+pub same_price_spec : {M : Type 1} → statement M
+same_price_spec =
     tie.close
     (tie.spec
     invariant-loop

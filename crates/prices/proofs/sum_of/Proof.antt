@@ -32,7 +32,7 @@ with-term-requires : tie.Need-with-term-requires invariant-loop decreases-loop
 with-term-requires c κs =
     summing-asks _ c.before.before.before.loop.invariant (omega arith) c.before.entry_at.ensures c.price-of.ensures
 
-sub-unread : tie.Need-overflow-sub-unread invariant-loop decreases-loop
+sub-unread : tie.Need-overflow_sub-unread invariant-loop decreases-loop
 sub-unread c = omega arith
 
 loop-less : tie.Need-loop-smaller invariant-loop decreases-loop
@@ -45,8 +45,8 @@ loop-again c =
 returns : tie.Need-returns invariant-loop decreases-loop
 returns c = summing-end _ c.before.loop.invariant (omega arith)
 
-pub sum-of-spec : {M : Type 1} → statement M
-sum-of-spec =
+pub sum_of_spec : {M : Type 1} → statement M
+sum_of_spec =
     tie.close
     (tie.spec
     invariant-loop

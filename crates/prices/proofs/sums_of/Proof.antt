@@ -31,7 +31,7 @@ with-two-requires c κs = ready c.before.loop.invariant (omega arith)
 with-two-requires-2 : tie.Need-with-two-requires-2 invariant-loop decreases-loop
 with-two-requires-2 c κs = ready-then (ready c.before.before.loop.invariant (omega arith)) c.with_two.ensures refl
 
-sub-left : tie.Need-overflow-sub-left invariant-loop decreases-loop
+sub-left : tie.Need-overflow_sub-left invariant-loop decreases-loop
 sub-left c = omega arith
 
 loop-less : tie.Need-loop-smaller invariant-loop decreases-loop
@@ -49,8 +49,8 @@ returns c =
     let summed = c.before.with_rest.ensures.adds _ _ 0 (omega arith) c.before.before.before.loop.invariant in
     (summing-end 0 (summing-back summed.one) (omega arith), summing-end 0 (summing-back summed.other) (omega arith))
 
-pub sums-of-spec : {M : Type 1} → statement M
-sums-of-spec =
+pub sums_of_spec : {M : Type 1} → statement M
+sums_of_spec =
     tie.close
     (tie.spec
     invariant-loop

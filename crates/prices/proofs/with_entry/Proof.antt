@@ -35,8 +35,8 @@ returns c =
       other = summing-turn left (summing-back h.other) some entry c.before.before.before.before.before.price-of2.ensures c.before.with-term2.ensures;
     })
 
-pub with-entry-spec : {M : Type 1} → statement M
-with-entry-spec =
+pub with_entry_spec : {M : Type 1} → statement M
+with_entry_spec =
     tie.close
     (tie.spec
     entry-at-requires

@@ -14,5 +14,5 @@ with-entry-requires c κs = ready-fewer c.before.before.requires.1 (omega arith)
 returns-2 : tie.Need-returns-2
 returns-2 c = adds_then c.with-entry.ensures (adds_none refl) (omega arith)
 
-pub with-last-spec : {M : Type 1} → statement M
-with-last-spec = tie.close (tie.spec returns with-entry-requires returns-2)
+pub with_last_spec : {M : Type 1} → statement M
+with_last_spec = tie.close (tie.spec returns with-entry-requires returns-2)

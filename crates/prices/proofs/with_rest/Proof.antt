@@ -21,7 +21,7 @@ with-last-requires-2 c κs =
 returns-2 : tie.Need-returns-2
 returns-2 c = adds_then c.before.with_two.ensures c.with-last2.ensures (omega arith)
 
-pub with-rest-spec : {M : Type 1} → statement M
-with-rest-spec =
+pub with_rest_spec : {M : Type 1} → statement M
+with_rest_spec =
     tie.close
     (tie.spec with-last-requires returns with-two-requires with-last-requires-2 returns-2)

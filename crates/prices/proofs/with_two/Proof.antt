@@ -13,5 +13,5 @@ with-entry-requires-2 c κs = ready-then c.before.before.requires c.with-entry.e
 returns : tie.Need-returns
 returns c = adds_then c.before.with-entry.ensures c.with-entry2.ensures (omega arith)
 
-pub with-two-spec : {M : Type 1} → statement M
-with-two-spec = tie.close (tie.spec with-entry-requires with-entry-requires-2 returns)
+pub with_two_spec : {M : Type 1} → statement M
+with_two_spec = tie.close (tie.spec with-entry-requires with-entry-requires-2 returns)

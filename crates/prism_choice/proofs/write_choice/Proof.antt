@@ -29,6 +29,6 @@ returns : tie.Need-returns
 returns c =
     choice-written _ _ _ _ _ c.before.before.before.before.before.before.fixed.ensures c.before.before.write-targets.ensures
 
-pub write-choice-spec : {M : Type 1} → statement M
-write-choice-spec =
+pub write_choice_spec : {M : Type 1} → statement M
+write_choice_spec =
     tie.close (tie.spec div-fixed fixed-requires write-targets-requires same_length returns)

@@ -18,22 +18,22 @@ decreases-loop targets count divisor records₀ at i₀ next₀ records i next =
 loop-holds : tie.Need-loop-init invariant-loop decreases-loop
 loop-holds c = (omega arith, omega arith, divided-none _ _ (omega (arith, c.before.requires)))
 
-mul-entry : tie.Need-overflow-mul-entry invariant-loop decreases-loop
+mul-entry : tie.Need-overflow_mul-entry invariant-loop decreases-loop
 mul-entry c = omega arith
 
-mul-entry-2 : tie.Need-overflow-mul-entry-2 invariant-loop decreases-loop
+mul-entry-2 : tie.Need-overflow_mul-entry-2 invariant-loop decreases-loop
 mul-entry-2 c = omega arith
 
 element-copy-out-entry : tie.Need-element-copy-out-entry invariant-loop decreases-loop
 element-copy-out-entry c = omega (arith, c.before.before.before.before.requires.0.most)
 
-mul-entry-3 : tie.Need-overflow-mul-entry-3 invariant-loop decreases-loop
+mul-entry-3 : tie.Need-overflow_mul-entry-3 invariant-loop decreases-loop
 mul-entry-3 c = omega arith
 
-add-entry : tie.Need-overflow-add-entry invariant-loop decreases-loop
+add-entry : tie.Need-overflow_add-entry invariant-loop decreases-loop
 add-entry c = omega arith
 
-mul-entry-4 : tie.Need-overflow-mul-entry-4 invariant-loop decreases-loop
+mul-entry-4 : tie.Need-overflow_mul-entry-4 invariant-loop decreases-loop
 mul-entry-4 c = omega arith
 
 element-copy-out-entry-2 : tie.Need-element-copy-out-entry-2 invariant-loop decreases-loop
@@ -49,7 +49,7 @@ entry-requires c κs =
     let t = target_fits c.before.before.before.before.before.before.args.divisor l.i h.0 (omega arith) in
     (omega (arith, h.2, l.invariant.1, l.invariant.2.size), t.0, t.1)
 
-add-i : tie.Need-overflow-add-i invariant-loop decreases-loop
+add-i : tie.Need-overflow_add-i invariant-loop decreases-loop
 add-i c = omega arith
 
 loop-less : tie.Need-loop-smaller invariant-loop decreases-loop
@@ -72,8 +72,8 @@ returns c =
     let e : l.i ≡ a.count = omega arith in
     subst (λ (k : ℕ). Appends (divided_bytes a.divisor a.targets.now k) a.at a.records.now l.records l.next) e l.invariant.2
 
-pub write-targets-spec : {M : Type 1} → statement M
-write-targets-spec =
+pub write_targets_spec : {M : Type 1} → statement M
+write_targets_spec =
     tie.close
     (tie.spec
     invariant-loop

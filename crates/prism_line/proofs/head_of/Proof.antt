@@ -32,8 +32,8 @@ returns-4 : tie.Need-returns-4
 unfolding head_within
 returns-4 c = not_less _ (omega arith) (not_less _ (omega arith) (not_less _ (omega arith) refl))
 
-pub head-of-spec : {M : Type 1} → statement M
-head-of-spec =
+pub head_of_spec : {M : Type 1} → statement M
+head_of_spec =
     tie.close
     (tie.spec
     no-head-requires

@@ -13,10 +13,10 @@ slice-aggregate-number c = sym (length-take-le _ _ (omega arith))
 number-requires : tie.Need-number-requires
 number-requires c κs = search rules
 
-add-number : tie.Need-overflow-add-number
+add-number : tie.Need-overflow_add-number
 add-number c = omega arith
 
-sub_number : tie.Need-overflow-sub-number
+sub_number : tie.Need-overflow_sub-number
 sub_number c = omega arith
 
 part-number-start : tie.Need-slice-bounds-number-start
@@ -28,7 +28,7 @@ part-number-end c = omega arith
 number-requires-2 : tie.Need-number-requires-2
 number-requires-2 c κs = search rules
 
-add-piece-end : tie.Need-overflow-add-piece-end
+add-piece-end : tie.Need-overflow_add-piece-end
 add-piece-end c = omega arith
 
 piece-end-requires : tie.Need-piece-end-requires
@@ -42,10 +42,10 @@ returns c =
     let e = c.before in
     three-fields e.before.before.before.before.before.before.before.requires e.before.before.before.before.number.ensures e.before.before.number2.ensures e.before.piece-end.ensures e.if1.true c.broken.ensures
 
-add-number-2 : tie.Need-overflow-add-number-2
+add-number-2 : tie.Need-overflow_add-number-2
 add-number-2 c = omega arith
 
-sub-number-2 : tie.Need-overflow-sub-number-2
+sub-number-2 : tie.Need-overflow_sub-number-2
 sub-number-2 c = omega arith
 
 part-number-start-2 : tie.Need-slice-bounds-number-start-2
@@ -57,16 +57,16 @@ part-number-end-2 c = omega arith
 number-requires-3 : tie.Need-number-requires-3
 number-requires-3 c κs = search rules
 
-add-piece-end-2 : tie.Need-overflow-add-piece-end-2
+add-piece-end-2 : tie.Need-overflow_add-piece-end-2
 add-piece-end-2 c = omega arith
 
 piece-end-requires-2 : tie.Need-piece-end-requires-2
 piece-end-requires-2 c κs = search rules
 
-add-probability : tie.Need-overflow-add-probability
+add-probability : tie.Need-overflow_add-probability
 add-probability c = omega arith
 
-sub-probability : tie.Need-overflow-sub-probability
+sub-probability : tie.Need-overflow_sub-probability
 sub-probability c = omega arith
 
 part-probability-start : tie.Need-slice-bounds-probability-start
@@ -84,10 +84,10 @@ returns-2 c =
     four-fields e.before.before.before.before.before.before.before.requires e.before.before.before.before.number.ensures e.before.before.number2.ensures e.before.piece-end.ensures e.if1.false
     c.before.before.before.piece-end2.ensures c.before.before.before.before.number3.ensures c.before.probability.ensures c.if2.true
 
-add-is-name : tie.Need-overflow-add-is-name
+add-is-name : tie.Need-overflow_add-is-name
 add-is-name c = omega arith
 
-sub-is-name : tie.Need-overflow-sub-is-name
+sub-is-name : tie.Need-overflow_sub-is-name
 sub-is-name c = omega arith
 
 part-is-name-start : tie.Need-slice-bounds-is-name-start
@@ -99,7 +99,7 @@ part-is-name-end c = omega arith
 is-name-requires : tie.Need-is-name-requires
 is-name-requires c κs = search rules
 
-add-t28 : tie.Need-overflow-add-t28
+add-t28 : tie.Need-overflow_add-t28
 add-t28 c = omega arith
 
 returns-3 : tie.Need-returns-3
@@ -120,8 +120,8 @@ returns-4 c =
     f.before.before.before.piece-end2.ensures f.before.before.before.before.number3.ensures f.before.probability.ensures f.if2.false
     c.before.before.is_name.ensures c.before.if3.false c.broken2.ensures
 
-pub read-fields-spec : {M : Type 1} → statement M
-read-fields-spec =
+pub read_fields_spec : {M : Type 1} → statement M
+read_fields_spec =
     tie.close
     (tie.spec
     slice-aggregate-number

@@ -16,7 +16,7 @@ no-head-requires c κs = search rules
 returns : tie.Need-returns
 returns c = head-one _ _ c.before.before.piece-end.ensures c.before.if1.true c.no-head.ensures
 
-add-piece-end : tie.Need-overflow-add-piece-end
+add-piece-end : tie.Need-overflow_add-piece-end
 add-piece-end c = omega arith
 
 piece-end-requires-2 : tie.Need-piece-end-requires-2
@@ -34,10 +34,10 @@ slice-aggregate-number c = sym (length-take-le _ _ c.before.before.before.before
 number-requires : tie.Need-number-requires
 number-requires c κs = search rules
 
-add-number : tie.Need-overflow-add-number
+add-number : tie.Need-overflow_add-number
 add-number c = omega arith
 
-sub_number : tie.Need-overflow-sub-number
+sub_number : tie.Need-overflow_sub-number
 sub_number c = omega arith
 
 part-number-start : tie.Need-slice-bounds-number-start
@@ -49,10 +49,10 @@ part-number-end c = omega arith
 number-requires-2 : tie.Need-number-requires-2
 number-requires-2 c κs = search rules
 
-add-number-2 : tie.Need-overflow-add-number-2
+add-number-2 : tie.Need-overflow_add-number-2
 add-number-2 c = omega arith
 
-sub-number-2 : tie.Need-overflow-sub-number-2
+sub-number-2 : tie.Need-overflow_sub-number-2
 sub-number-2 c = omega arith
 
 part-number-start-2 : tie.Need-slice-bounds-number-start-2
@@ -73,8 +73,8 @@ returns-3 c =
     head-fields (fields-two _ _ e.before.before.before.piece-end.ensures e.before.before.if1.false _ e.before.piece-end2.ensures e.if2.false)
     c.before.before.before.before.before.number.ensures c.before.before.before.number2.ensures c.before.number3.ensures c.head_of.ensures
 
-pub read-head-spec : {M : Type 1} → statement M
-read-head-spec =
+pub read_head_spec : {M : Type 1} → statement M
+read_head_spec =
     tie.close
     (tie.spec
     piece-end-requires

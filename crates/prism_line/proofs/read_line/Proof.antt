@@ -13,7 +13,7 @@ broken-requires c κs = search rules
 returns : tie.Need-returns
 returns c = one_field _ _ c.before.before.piece-end.ensures c.before.if1.true c.broken.ensures
 
-add-piece-end : tie.Need-overflow-add-piece-end
+add-piece-end : tie.Need-overflow_add-piece-end
 add-piece-end c = search rules
 
 piece-end-requires-2 : tie.Need-piece-end-requires-2
@@ -31,8 +31,8 @@ read-fields-requires c κs = fields-two _ _ c.before.before.before.piece-end.ens
 returns-3 : tie.Need-returns-3
 returns-3 c = search rules
 
-pub read-line-spec : {M : Type 1} → statement M
-read-line-spec =
+pub read_line_spec : {M : Type 1} → statement M
+read_line_spec =
     tie.close
     (tie.spec
     piece-end-requires

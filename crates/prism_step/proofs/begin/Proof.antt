@@ -48,7 +48,7 @@ element-write-targets c = search rules
 element-write-targets-2 : tie.Need-element-write-targets-2
 element-write-targets-2 c = search rules
 
-add-t23 : tie.Need-overflow-add-t23
+add-t23 : tie.Need-overflow_add-t23
 add-t23 c = search rules
 
 same_length : tie.Need-same-length
@@ -66,8 +66,8 @@ returns-4 c =
       table = λ _. refl;
     }
 
-pub begin-spec : {M : Type 1} → statement M
-begin-spec =
+pub begin_spec : {M : Type 1} → statement M
+begin_spec =
     tie.close
     (tie.spec
     follows-requires

@@ -11,12 +11,12 @@ returns : tie.Need-returns
 unfolding count_by
 returns c = same _ (omega arith) refl
 
-add-result : tie.Need-overflow-add-result
+add-result : tie.Need-overflow_add-result
 add-result c = search rules
 
 returns-2 : tie.Need-returns-2
 unfolding count_by
 returns-2 c = not_same _ (omega arith) refl
 
-pub choices-of-spec : {M : Type 1} → statement M
-choices-of-spec = tie.close (tie.spec returns add-result returns-2)
+pub choices_of_spec : {M : Type 1} → statement M
+choices_of_spec = tie.close (tie.spec returns add-result returns-2)

@@ -17,5 +17,5 @@ same_length c = search rules
 returns-2 : tie.Need-returns-2
 returns-2 c = ends_some _ _ (omega arith) c.before.before.write-choice.ensures
 
-pub end-choice-spec : {M : Type 1} → statement M
-end-choice-spec = tie.close (tie.spec returns write-choice-requires same_length returns-2)
+pub end_choice_spec : {M : Type 1} → statement M
+end_choice_spec = tie.close (tie.spec returns write-choice-requires same_length returns-2)

@@ -22,34 +22,34 @@ returns-2 : tie.Need-returns-2
 unfolding extends_by
 returns-2 c = not_extended c.refused2.ensures (less _ (omega arith) (not_same _ (omega arith) refl))
 
-mul-targets : tie.Need-overflow-mul-targets
+mul-targets : tie.Need-overflow_mul-targets
 mul-targets c = search rules
 
-mul-targets-2 : tie.Need-overflow-mul-targets-2
+mul-targets-2 : tie.Need-overflow_mul-targets-2
 mul-targets-2 c = search rules
 
 element-write-targets : tie.Need-element-write-targets
 element-write-targets c = search rules
 
-mul-targets-3 : tie.Need-overflow-mul-targets-3
+mul-targets-3 : tie.Need-overflow_mul-targets-3
 mul-targets-3 c = search rules
 
-add-targets : tie.Need-overflow-add-targets
+add-targets : tie.Need-overflow_add-targets
 add-targets c = search rules
 
-mul-targets-4 : tie.Need-overflow-mul-targets-4
+mul-targets-4 : tie.Need-overflow_mul-targets-4
 mul-targets-4 c = search rules
 
 element-write-targets-2 : tie.Need-element-write-targets-2
 element-write-targets-2 c = search rules
 
-add-t7 : tie.Need-overflow-add-t7
+add-t7 : tie.Need-overflow_add-t7
 add-t7 c = search rules
 
-add-t11 : tie.Need-overflow-add-t11
+add-t11 : tie.Need-overflow_add-t11
 add-t11 c = search rules
 
-add-t8 : tie.Need-overflow-add-t8
+add-t8 : tie.Need-overflow_add-t8
 add-t8 c = search rules
 
 divisor-requires : tie.Need-divisor-requires
@@ -59,8 +59,8 @@ returns-3 : tie.Need-returns-3
 unfolding extends_by
 returns-3 c = record { good = less _ (omega arith) (same _ (omega arith) refl); progress = λ _. cc; table = λ _. refl }
 
-pub extend-spec : {M : Type 1} → statement M
-extend-spec =
+pub extend_spec : {M : Type 1} → statement M
+extend_spec =
     tie.close
     (tie.spec
     refused-requires

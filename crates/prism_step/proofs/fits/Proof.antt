@@ -23,5 +23,5 @@ returns-4 : tie.Need-returns-4
 unfolding fits_by
 returns-4 c = not_same _ (omega arith) (less _ (omega arith) (less _ (omega arith) (less-is _ _)))
 
-pub fits-spec : {M : Type 1} → statement M
-fits-spec = tie.close (tie.spec returns returns-2 returns-3 returns-4)
+pub fits_spec : {M : Type 1} → statement M
+fits_spec = tie.close (tie.spec returns returns-2 returns-3 returns-4)

@@ -11,7 +11,7 @@ returns : tie.Need-returns
 unfolding follows_by
 returns c = same _ (omega arith) (same-is _ _)
 
-add-result : tie.Need-overflow-add-result
+add-result : tie.Need-overflow_add-result
 add-result c = omega (arith, c.before.before.before.before.before.before.requires (omega arith))
 
 returns-2 : tie.Need-returns-2
@@ -26,5 +26,5 @@ returns-4 : tie.Need-returns-4
 unfolding follows_by
 returns-4 c = not_same _ (omega arith) (not_same _ (omega arith) (not_less _ (omega arith) (same-is _ _)))
 
-pub follows-spec : {M : Type 1} → statement M
-follows-spec = tie.close (tie.spec returns add-result returns-2 returns-3 returns-4)
+pub follows_spec : {M : Type 1} → statement M
+follows_spec = tie.close (tie.spec returns add-result returns-2 returns-3 returns-4)

@@ -15,5 +15,5 @@ returns-2 c = via (goes-on-tests _ _) (not_same _ (omega arith) (not_same _ (ome
 returns-3 : tie.Need-returns-3
 returns-3 c = via (goes-on-tests _ _) (not_same _ (omega arith) (same _ (omega arith) refl))
 
-pub goes-on-spec : {M : Type 1} → statement M
-goes-on-spec = tie.close (tie.spec returns returns-2 returns-3)
+pub goes_on_spec : {M : Type 1} → statement M
+goes_on_spec = tie.close (tie.spec returns returns-2 returns-3)

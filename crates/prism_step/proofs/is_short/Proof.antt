@@ -23,5 +23,5 @@ returns-3 : tie.Need-returns-3
 unfolding short_by
 returns-3 c = not_same _ (omega arith) (is_false _ (cc) (other-is _ _))
 
-pub is-short-spec : {M : Type 1} → statement M
-is-short-spec = tie.close (tie.spec returns goes-on-requires returns-2 returns-3)
+pub is_short_spec : {M : Type 1} → statement M
+is_short_spec = tie.close (tie.spec returns goes-on-requires returns-2 returns-3)

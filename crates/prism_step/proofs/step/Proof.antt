@@ -19,7 +19,7 @@ returns c =
     let f = c.before.before in
     step-unfit f.before.before.before.requires refl (sym f.fits2.ensures ∙ not-true _ c.before.if1.true) c.refused.ensures
 
-add-from : tie.Need-overflow-add-from
+add-from : tie.Need-overflow_add-from
 add-from c = omega (arith, name-inside c.before.before.before.before.before.requires)
 
 action-of-requires : tie.Need-action-of-requires

@@ -45,5 +45,5 @@ returns-4 c =
       inside = λ _. refl;
     }
 
-pub at-end-spec : {M : Type 1} → statement M
-at-end-spec = tie.close (tie.spec returns choices-of-requires returns-2 returns-3 returns-4)
+pub at_end_spec : {M : Type 1} → statement M
+at_end_spec = tie.close (tie.spec returns choices-of-requires returns-2 returns-3 returns-4)

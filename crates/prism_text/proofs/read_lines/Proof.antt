@@ -25,7 +25,7 @@ loop-holds c = lines_start c.before.before.before.requires c.nothing_read.ensure
 piece-end-requires : tie.Need-piece-end-requires invariant-loop decreases-loop
 piece-end-requires c κs = c.loop.invariant.inside
 
-sub-read-line : tie.Need-overflow-sub-read-line invariant-loop decreases-loop
+sub-read-line : tie.Need-overflow_sub-read-line invariant-loop decreases-loop
 sub-read-line c = omega arith
 
 part-read-line-start : tie.Need-slice-bounds-read-line-start invariant-loop decreases-loop
@@ -74,7 +74,7 @@ returns-3 c =
     let r = s.before in
     lines-fault r.before.before.before.loop.invariant r.before.before.piece-end.ensures r.read-line.ensures (sym s.is-short.ensures ∙ c.before.before.before.before.before.before.before.before.before.if1.false) c.before.before.before.before.before.before.before.before.if2.false c.before.before.before.before.step.ensures (not-true _ c.if3.true)
 
-add_at : tie.Need-overflow-add-at invariant-loop decreases-loop
+add_at : tie.Need-overflow_add-at invariant-loop decreases-loop
 add_at c = omega (arith, c.before.before.before.before.before.before.before.before.before.before.before.before.before.before.before.before.before.before.before.well-formed.0.0)
 
 loop-less : tie.Need-loop-smaller invariant-loop decreases-loop
@@ -86,8 +86,8 @@ loop-again c =
     let r = s.before in
     lines-turn r.before.before.before.loop.invariant r.before.before.piece-end.ensures r.read-line.ensures (sym s.is-short.ensures ∙ c.before.before.before.before.before.before.before.before.before.before.if1.false) c.before.before.before.before.before.before.before.before.before.if2.false c.before.before.before.before.before.step.ensures (not-false _ c.before.if3.false)
 
-pub read-lines-spec : {M : Type 1} → statement M
-read-lines-spec =
+pub read_lines_spec : {M : Type 1} → statement M
+read_lines_spec =
     tie.close
     (tie.spec
     invariant-loop

@@ -12,7 +12,7 @@ use Rattle.raised.proofs.write_transition.Tie as tie
 fields-of-requires : tie.Need-fields-of-requires
 fields-of-requires c κs = search rules
 
-add-fixed : tie.Need-overflow-add-fixed
+add-fixed : tie.Need-overflow_add-fixed
 add-fixed c = search rules
 
 fixed-requires : tie.Need-fixed-requires
@@ -42,6 +42,6 @@ returns c =
     let fields = fixed.before.before.before in
     transition-raised fields.before.before.before.requires fields.fields-of.ensures _ _ _ _ fixed.fixed.ensures refl refl refl refl entries.write_entries.ensures
 
-pub write-transition-spec : {M : Type 1} → statement M
-write-transition-spec =
+pub write_transition_spec : {M : Type 1} → statement M
+write_transition_spec =
     tie.close (tie.spec fields-of-requires add-fixed fixed-requires write-entries-requires same_length returns)

@@ -19,7 +19,7 @@ loop-holds c = let a = c.before.before.requires in changing-start _ _ a.known.tr
 write-transition-requires : tie.Need-write-transition-requires invariant-loop decreases-loop
 write-transition-requires c κs = let l = c.before.before in record-asks l.before.before.before.requires l.loop.invariant (omega arith)
 
-add_r : tie.Need-overflow-add-r invariant-loop decreases-loop
+add_r : tie.Need-overflow_add-r invariant-loop decreases-loop
 add_r c = omega arith
 
 loop-less : tie.Need-loop-smaller invariant-loop decreases-loop
@@ -36,7 +36,7 @@ same_length c = c.before.loop.invariant.ahead.size
 returns : tie.Need-returns invariant-loop decreases-loop
 returns c = changing-end _ _ c.before.loop.invariant (omega arith)
 
-pub write-transitions-spec : {M : Type 1} → statement M
-write-transitions-spec =
+pub write_transitions_spec : {M : Type 1} → statement M
+write_transitions_spec =
     tie.close
     (tie.spec invariant-loop decreases-loop loop-holds write-transition-requires add_r loop-less loop-again same_length returns)

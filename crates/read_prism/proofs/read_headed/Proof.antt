@@ -21,7 +21,7 @@ returns c =
     let head = c.before.before.before in
     refused_says _ _ (head-broken head.before.before.before.before.requires head.read-head.ensures c.before.if1.true) (omega arith) c.refusal.ensures
 
-add-read-lines : tie.Need-overflow-add-read-lines
+add-read-lines : tie.Need-overflow_add-read-lines
 add-read-lines c = search rules
 
 slice-aggregate-read-lines : tie.Need-slice-aggregate-read-lines
@@ -60,8 +60,8 @@ returns-3 c =
     let head = good.before.before in
     lines-written head.before.before.before.before.requires head.read-head.ensures (omega (arith, good.if1.false)) lines.read-lines.ensures _ c.before.before.before.before.before.before.before.if2.false c.before.before.before.write-held.ensures
 
-pub read-headed-spec : {M : Type 1} → statement M
-read-headed-spec =
+pub read_headed_spec : {M : Type 1} → statement M
+read_headed_spec =
     tie.close
     (tie.spec
     slice-aggregate-read-head

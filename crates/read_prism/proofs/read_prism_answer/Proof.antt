@@ -23,8 +23,8 @@ same_length c = search rules
 returns-2 : tie.Need-returns-2
 returns-2 c = with-demands _ _ c.before.before.read-headed.ensures
 
-pub read-prism-answer-spec : {M : Type 1} → statement M
-read-prism-answer-spec =
+pub read_prism_answer_spec : {M : Type 1} → statement M
+read_prism_answer_spec =
     tie.close
     (tie.spec
     piece-end-requires

@@ -16,5 +16,5 @@ refusal-in-requires c κs = search rules
 returns : tie.Need-returns
 returns c = refusal-at _ _ _ _ c.before.before.refusal.ensures c.before.at.ensures c.refusal-in.ensures
 
-pub refusal-spec : {M : Type 1} → statement M
-refusal-spec = tie.close (tie.spec refusal-requires at-requires refusal-in-requires returns)
+pub refusal_spec : {M : Type 1} → statement M
+refusal_spec = tie.close (tie.spec refusal-requires at-requires refusal-in-requires returns)

@@ -7,10 +7,10 @@ use borrow.Author.Rules.{rules}
 use Rattle.read_prism.proofs.write_file.Statement.{statement}
 use Rattle.read_prism.proofs.write_file.Tie as tie
 
-add-size : tie.Need-overflow-add-size
+add-size : tie.Need-overflow_add-size
 add-size c = search rules
 
-add-size-2 : tie.Need-overflow-add-size-2
+add-size-2 : tie.Need-overflow_add-size-2
 add-size-2 c = search rules
 
 array-share-prefix-labels : tie.Need-array-share-prefix-labels
@@ -31,8 +31,8 @@ returns c = file-written c.before.before.before.before.before.before.before.befo
 returns-2 : tie.Need-returns-2
 returns-2 c = file-short c.before.before.before.requires refl (omega arith)
 
-pub write-file-spec : {M : Type 1} → statement M
-write-file-spec =
+pub write_file_spec : {M : Type 1} → statement M
+write_file_spec =
     tie.close
     (tie.spec
     add-size

@@ -12,7 +12,7 @@ end-choice-requires c κs =
     let asked = c.before.before.before.requires in
     can-end asked.holds asked.most asked.room
 
-add-write-file : tie.Need-overflow-add-write-file
+add-write-file : tie.Need-overflow_add-write-file
 add-write-file c = search rules
 
 slice-reshare-prefix-write-file : tie.Need-slice-reshare-prefix-write-file
@@ -43,8 +43,8 @@ returns c =
     let ended = written.before.before.before.before.before.before in
     held-written ended.before.before.before.before.requires ended.end-choice.ensures written.write-file.ensures c.file-answer.ensures
 
-pub write-held-spec : {M : Type 1} → statement M
-write-held-spec =
+pub write_held_spec : {M : Type 1} → statement M
+write_held_spec =
     tie.close
     (tie.spec
     end-choice-requires

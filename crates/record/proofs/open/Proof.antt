@@ -6,7 +6,7 @@ use borrow.Author.Rules.{rules}
 use Rattle.record.proofs.open.Statement.{statement}
 use Rattle.record.proofs.open.Tie as tie
 
-sub-left : tie.Need-overflow-sub-left
+sub-left : tie.Need-overflow_sub-left
 sub-left c = search rules
 
 refusal-requires : tie.Need-refusal-requires

@@ -25,12 +25,12 @@ judge-files-requires c κs = c.before.before.head-answer.ensures.good c.if1.fals
 enum-known-found : tie.Need-enum-known-found
 enum-known-found c = search rules
 
-add-write-merged : tie.Need-overflow-add-write-merged
+add-write-merged : tie.Need-overflow_add-write-merged
 add-write-merged c =
     let files = c.before.before.before in
     omega (arith, (found-accepted files.judge-files.ensures c.before.found.given.1).inside, files.before.before.before.before.before.before.before.well-formed.1.0.0)
 
-sub-write-merged : tie.Need-overflow-sub-write-merged
+sub-write-merged : tie.Need-overflow_sub-write-merged
 sub-write-merged c = search rules
 
 part-write-merged-start : tie.Need-slice-bounds-write-merged-start
@@ -71,8 +71,8 @@ returns-3 c =
     pair-refused (λ i h. omega (arith, files.before.before.before.before.before.before.shared-slice-known.given i)) (λ i h. omega (arith, files.before.before.before.before.before.shared-slice-known2.given i))
     a.out.now (found-refused files.judge-files.ensures c.before.found2.given.1)
 
-pub reduce-answer-spec : {M : Type 1} → statement M
-reduce-answer-spec =
+pub reduce_answer_spec : {M : Type 1} → statement M
+reduce_answer_spec =
     tie.close
     (tie.spec
     head-answer-requires

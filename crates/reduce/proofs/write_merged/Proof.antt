@@ -20,5 +20,5 @@ same_length c = search rules
 returns : tie.Need-returns
 returns c = gives-file 23 _ _ c.before.before.before.write-file.ensures c.file-answer.ensures
 
-pub write-merged-spec : {M : Type 1} → statement M
-write-merged-spec = tie.close (tie.spec places-of-requires write-file-requires file-answer-requires same_length returns)
+pub write_merged_spec : {M : Type 1} → statement M
+write_merged_spec = tie.close (tie.spec places-of-requires write-file-requires file-answer-requires same_length returns)

@@ -6,7 +6,7 @@ use borrow.Author.Rules.{rules}
 use Rattle.refutation.proofs.head_at.Statement.{statement}
 use Rattle.refutation.proofs.head_at.Tie as tie
 
-add-new : tie.Need-overflow-add-new
+add-new : tie.Need-overflow_add-new
 add-new c = search rules
 
 new-requires : tie.Need-new-requires
@@ -27,5 +27,5 @@ returns c =
       prices = omega arith;
     }
 
-pub head-at-spec : {M : Type 1} → statement M
-head-at-spec = tie.close (tie.spec add-new new-requires pair-requires byte-requires returns)
+pub head_at_spec : {M : Type 1} → statement M
+head_at_spec = tie.close (tie.spec add-new new-requires pair-requires byte-requires returns)

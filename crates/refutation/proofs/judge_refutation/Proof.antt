@@ -43,13 +43,13 @@ fields-of-requires c κs = known-transition c.before.before.before.before.before
 price-count-requires : tie.Need-price-count-requires
 price-count-requires c κs = let past = c.before in few-states past.before.before.before.before.before.before.before.before.before.requires.0
 
-mul-size : tie.Need-overflow-mul-size
+mul-size : tie.Need-overflow_mul-size
 mul-size c =
     let past = c.before.before in
     let start = past.before.before.before.before.before.before.before.before.before in
     record { fits = omega (arith, c.price-count.ensures, prices-most start.args.kind start.args.n c.before.fields-of.result.action, few-states start.requires.0) }
 
-sub-if3 : tie.Need-overflow-sub-if3
+sub-if3 : tie.Need-overflow_sub-if3
 sub-if3 c =
     let asked = c.before in
     let past = asked.before in
@@ -100,7 +100,7 @@ prices-fault-requires c κs =
 at-requires : tie.Need-at-requires
 at-requires c κs = tt
 
-add-new : tie.Need-overflow-add-new
+add-new : tie.Need-overflow_add-new
 add-new c =
     let count = c.before.before.before.before.before.before in
     let asked = count.before in
@@ -134,8 +134,8 @@ returns-4 c =
     prices.result prices.ensures (omega (arith, c.before.before.before.before.before.before.if3.false, head.ensures.prices, whole))
     _ c.before.at.ensures fields refl (omega (arith, fields.from, start.requires.0.states)) refl c.new.ensures
 
-pub judge-refutation-spec : {M : Type 1} → statement M
-judge-refutation-spec =
+pub judge_refutation_spec : {M : Type 1} → statement M
+judge_refutation_spec =
     tie.close
     (tie.spec
     open-certificate-requires

@@ -82,8 +82,8 @@ returns-5 c =
       defender = λ none. omega arith;
     }
 
-pub pair-fault-spec : {M : Type 1} → statement M
-pair-fault-spec =
+pub pair_fault_spec : {M : Type 1} → statement M
+pair_fault_spec =
     tie.close
     (tie.spec
     refusal-requires

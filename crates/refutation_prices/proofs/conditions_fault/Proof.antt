@@ -99,8 +99,8 @@ returns-4 c =
           c.none.ensures));
     }
 
-pub conditions-fault-spec : {M : Type 1} → statement M
-conditions-fault-spec =
+pub conditions_fault_spec : {M : Type 1} → statement M
+conditions_fault_spec =
     tie.close
     (tie.spec
     all-fair-requires

@@ -48,6 +48,6 @@ returns-2 c =
     let kind = told.before.before.args.kind in
     weak-held kind (weak kind told.match.keys2) _ _ c.prices-at.ensures
 
-pub first-prices-at-spec : {M : Type 1} → statement M
-first-prices-at-spec =
+pub first_prices_at_spec : {M : Type 1} → statement M
+first_prices_at_spec =
     tie.close (tie.spec enum_told same-price-requires returns prices-at-requires returns-2)

@@ -31,10 +31,10 @@ first-whole c =
     let start = start_of c in
     omega (arith, start.pre.2, c.first-prices.ensures, first-inside start.args.kind start.args.n start.args.a)
 
-mul-past : tie.Need-overflow-mul-past
+mul-past : tie.Need-overflow_mul-past
 mul-past c = record { fits = omega (arith, first-whole c) }
 
-add-past : tie.Need-overflow-add-past
+add-past : tie.Need-overflow_add-past
 add-past c = record { fits = omega (arith, first-whole c) }
 
 has-move-requires : tie.Need-has-move-requires
@@ -65,10 +65,10 @@ prices-at-requires c κs =
     let pre = (start_of c.before.before.before).requires in
     (few-states pre.0.known, omega (arith, stays-whole c.before), pre.3.third)
 
-mul-further-price : tie.Need-overflow-mul-further-price
+mul-further-price : tie.Need-overflow_mul-further-price
 mul-further-price c = record { fits = omega (arith, stays-whole c.before.before) }
 
-add-further-price : tie.Need-overflow-add-further-price
+add-further-price : tie.Need-overflow_add-further-price
 add-further-price c = record { fits = omega (arith, stays-whole c.before.before) }
 
 further-price-requires : tie.Need-further-price-requires
@@ -104,10 +104,10 @@ prices-at-requires-2 c κs =
     let pre = (start_of c.before.before.before).requires in
     (few-states pre.0.known, omega (arith, moves-whole c.before), pre.3.second)
 
-mul-prices-at : tie.Need-overflow-mul-prices-at
+mul-prices-at : tie.Need-overflow_mul-prices-at
 mul-prices-at c = record { fits = omega (arith, moves-whole c.before.before) }
 
-add-prices-at : tie.Need-overflow-add-prices-at
+add-prices-at : tie.Need-overflow_add-prices-at
 add-prices-at c = record { fits = omega (arith, moves-whole c.before.before) }
 
 prices-at-requires-3 : tie.Need-prices-at-requires-3
@@ -116,10 +116,10 @@ prices-at-requires-3 c κs =
     let pre = (start_of past.before.before).requires in
     (few-states pre.0.known, omega (arith, moves-whole past), pre.3.third)
 
-mul-further-price-2 : tie.Need-overflow-mul-further-price-2
+mul-further-price-2 : tie.Need-overflow_mul-further-price-2
 mul-further-price-2 c = record { fits = omega (arith, moves-whole c.before.before.before.before) }
 
-add-further-price-2 : tie.Need-overflow-add-further-price-2
+add-further-price-2 : tie.Need-overflow_add-further-price-2
 add-further-price-2 c = record { fits = omega (arith, moves-whole c.before.before.before.before) }
 
 further-price-requires-2 : tie.Need-further-price-requires-2
@@ -157,8 +157,8 @@ returns-2 c =
       tables = record { first = x.size; second = y.size; third = g.size };
     }
 
-pub prices-fault-spec : {M : Type 1} → statement M
-prices-fault-spec =
+pub prices_fault_spec : {M : Type 1} → statement M
+prices_fault_spec =
     tie.close
     (tie.spec
     first-prices-at-requires

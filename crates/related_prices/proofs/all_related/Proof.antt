@@ -23,7 +23,7 @@ loop-holds c = (omega arith, cover-start)
 price-of-requires : tie.Need-price-of-requires invariant-loop decreases-loop
 price-of-requires c κs = omega arith
 
-add-v : tie.Need-overflow-add-v invariant-loop decreases-loop
+add-v : tie.Need-overflow_add-v invariant-loop decreases-loop
 add-v c = omega arith
 
 loop-less : tie.Need-loop-smaller invariant-loop decreases-loop
@@ -46,7 +46,7 @@ returns c =
     let pre = read.before.before.before.before.requires in
     cover-not pre.1 (omega arith) (omega arith) read.price-of.ensures c.before.highest-after.ensures pre.2 c.if2.true
 
-add-v-2 : tie.Need-overflow-add-v-2 invariant-loop decreases-loop
+add-v-2 : tie.Need-overflow_add-v-2 invariant-loop decreases-loop
 add-v-2 c = omega arith
 
 loop-less-2 : tie.Need-loop-smaller-2 invariant-loop decreases-loop
@@ -65,8 +65,8 @@ returns-2 c =
     let e : l.v ≡ c.before.before.before.args.n = omega arith in
     cover-end (omega arith) (rw e at l.invariant.1.covered)
 
-pub all-related-spec : {M : Type 1} → statement M
-all-related-spec =
+pub all_related_spec : {M : Type 1} → statement M
+all_related_spec =
     tie.close
     (tie.spec
     invariant-loop

@@ -13,5 +13,5 @@ highest-in-requires-2 c κs = (omega arith, omega arith, highest-back c.highest-
 returns : tie.Need-returns
 returns c = highest-back c.highest-in2.ensures
 
-pub highest-spec : {M : Type 1} → statement M
-highest-spec = tie.close (tie.spec highest-in-requires highest-in-requires-2 returns)
+pub highest_spec : {M : Type 1} → statement M
+highest_spec = tie.close (tie.spec highest-in-requires highest-in-requires-2 returns)

@@ -16,5 +16,5 @@ highest-requires c κs = omega arith
 returns-2 : tie.Need-returns-2
 returns-2 c = highest-back c.highest.ensures
 
-pub highest-after-spec : {M : Type 1} → statement M
-highest-after-spec = tie.close (tie.spec same-in-requires returns highest-requires returns-2)
+pub highest_after_spec : {M : Type 1} → statement M
+highest_after_spec = tie.close (tie.spec same-in-requires returns highest-requires returns-2)

@@ -23,10 +23,10 @@ next-bit-requires c κs = omega arith
 loop-holds : tie.Need-loop-init invariant-loop decreases-loop
 loop-holds c = seek-start c.before.part.ensures c.next_bit.ensures.0 (highest-back c.before.before.requires.2)
 
-mul-price-of : tie.Need-overflow-mul-price-of invariant-loop decreases-loop
+mul-price-of : tie.Need-overflow_mul-price-of invariant-loop decreases-loop
 mul-price-of c = omega arith
 
-add-price-of : tie.Need-overflow-add-price-of invariant-loop decreases-loop
+add-price-of : tie.Need-overflow_add-price-of invariant-loop decreases-loop
 add-price-of c = omega arith
 
 price-of-requires : tie.Need-price-of-requires invariant-loop decreases-loop
@@ -54,8 +54,8 @@ loop-again c =
 returns : tie.Need-returns invariant-loop decreases-loop
 returns c = seek-end c.before.loop.invariant (omega arith)
 
-pub highest-in-spec : {M : Type 1} → statement M
-highest-in-spec =
+pub highest_in_spec : {M : Type 1} → statement M
+highest_in_spec =
     tie.close
     (tie.spec
     invariant-loop

@@ -24,7 +24,7 @@ price-of-requires c κs = omega arith
 larger-requires : tie.Need-larger-requires invariant-loop decreases-loop
 larger-requires c κs = tt
 
-add-u : tie.Need-overflow-add-u invariant-loop decreases-loop
+add-u : tie.Need-overflow_add-u invariant-loop decreases-loop
 add-u c = omega arith
 
 loop-less : tie.Need-loop-smaller invariant-loop decreases-loop
@@ -40,8 +40,8 @@ returns c =
     let e : c.before.loop.u ≡ c.before.before.args.n = omega arith in
     rw e at c.before.loop.invariant.1
 
-pub highest-of-all-spec : {M : Type 1} → statement M
-highest-of-all-spec =
+pub highest_of_all_spec : {M : Type 1} → statement M
+highest_of_all_spec =
     tie.close
     (tie.spec
     invariant-loop

@@ -5,7 +5,7 @@ use Rattle.remainders.specs.MovingLaws.{remainder-fits, remainder-changes, next_
 use Rattle.remainders.proofs.add.Statement.{statement}
 use Rattle.remainders.proofs.add.Tie as tie
 
-mul-old : tie.Need-overflow-mul-old
+mul-old : tie.Need-overflow_mul-old
 mul-old c = search rules
 
 element-copy-out-old : tie.Need-element-copy-out-old
@@ -14,7 +14,7 @@ element-copy-out-old c = search rules
 with-term-requires : tie.Need-with-term-requires
 with-term-requires c κs = search rules
 
-mul-new : tie.Need-overflow-mul-new
+mul-new : tie.Need-overflow_mul-new
 mul-new c = search rules
 
 element-set-from-new : tie.Need-element-set-from-new

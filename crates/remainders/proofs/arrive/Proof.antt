@@ -29,7 +29,7 @@ loop-holds c =
 entry-at-requires : tie.Need-entry-at-requires invariant-loop decreases-loop
 entry-at-requires c κs = omega arith
 
-add-add : tie.Need-overflow-add-add invariant-loop decreases-loop
+add-add : tie.Need-overflow_add-add invariant-loop decreases-loop
 add-add c =
     let asks = arriving-asks _ c.before.before.before.before.loop.invariant (omega arith) c.before.before.entry_at.ensures refl refl in
     record { fits = omega (arith, asks.inside) }
@@ -38,7 +38,7 @@ add-requires : tie.Need-add-requires invariant-loop decreases-loop
 add-requires c κs =
     arriving-asks _ c.before.before.before.before.loop.invariant (omega arith) c.before.before.entry_at.ensures (omega arith) (omega arith)
 
-sub-left : tie.Need-overflow-sub-left invariant-loop decreases-loop
+sub-left : tie.Need-overflow_sub-left invariant-loop decreases-loop
 sub-left c = omega arith
 
 loop-less : tie.Need-loop-smaller invariant-loop decreases-loop
@@ -53,8 +53,8 @@ returns : tie.Need-returns invariant-loop decreases-loop
 returns c =
     rw (to_z-of_z c.before.before.before.before.before.ranges.factor) at (arriving-end _ c.before.loop.invariant (omega arith))
 
-pub arrive-spec : {M : Type 1} → statement M
-arrive-spec =
+pub arrive_spec : {M : Type 1} → statement M
+arrive_spec =
     tie.close
     (tie.spec
     invariant-loop

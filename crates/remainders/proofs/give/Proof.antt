@@ -4,7 +4,7 @@ use borrow.Author.Rules.{rules}
 use Rattle.remainders.proofs.give.Statement.{statement}
 use Rattle.remainders.proofs.give.Tie as tie
 
-cast-add : tie.Need-overflow-cast-add
+cast-add : tie.Need-overflow_cast-add
 cast-add c = search rules
 
 add-requires : tie.Need-add-requires

@@ -10,5 +10,5 @@ returns c = omega (arith, zero_bits c.before.ranges.number c.if1.true)
 returns-2 : tie.Need-returns-2
 returns-2 c = omega (arith, not-zero-bits c.before.args.number c.if1.false)
 
-pub is-nonzero-spec : {M : Type 1} → statement M
-is-nonzero-spec = tie.close (tie.spec returns returns-2)
+pub is_nonzero_spec : {M : Type 1} → statement M
+is_nonzero_spec = tie.close (tie.spec returns returns-2)

@@ -9,7 +9,7 @@ use Rattle.remainders.proofs.leave.Tie as tie
 fields-of-requires : tie.Need-fields-of-requires
 fields-of-requires c κs = search rules
 
-add-add : tie.Need-overflow-add-add
+add-add : tie.Need-overflow_add-add
 add-add c = search rules
 
 add-requires : tie.Need-add-requires

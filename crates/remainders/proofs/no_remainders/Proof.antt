@@ -6,5 +6,5 @@ use Rattle.remainders.proofs.no_remainders.Tie as tie
 returns : tie.Need-returns
 returns c = zeros
 
-pub no-remainders-spec : {M : Type 1} → statement M
-no-remainders-spec = tie.close (tie.spec returns)
+pub no_remainders_spec : {M : Type 1} → statement M
+no_remainders_spec = tie.close (tie.spec returns)

@@ -28,5 +28,5 @@ returns c =
     let old = rw (to_z-of_z c.before.before.fits.old) at c.is-nonzero2.ensures in
     omega (arith, c.before.before.pre.some)
 
-pub nonzero-after-spec : {M : Type 1} → statement M
-nonzero-after-spec = tie.close (tie.spec is-nonzero-requires add-result is-nonzero-requires-2 sub-result returns)
+pub nonzero_after_spec : {M : Type 1} → statement M
+nonzero_after_spec = tie.close (tie.spec is-nonzero-requires add-result is-nonzero-requires-2 sub-result returns)

@@ -34,8 +34,8 @@ same-length-2 c = search rules
 returns-2 : tie.Need-returns-2
 returns-2 c = search rules
 
-pub rewrite-costs-answer-spec : {M : Type 1} → statement M
-rewrite-costs-answer-spec =
+pub rewrite_costs_answer_spec : {M : Type 1} → statement M
+rewrite_costs_answer_spec =
     tie.close
     (tie.spec
     head-answer-requires

@@ -15,7 +15,7 @@ judge-files-requires c κs = search rules
 enum-known-found : tie.Need-enum-known-found
 enum-known-found c = search rules
 
-add-write-pair : tie.Need-overflow-add-write-pair
+add-write-pair : tie.Need-overflow_add-write-pair
 add-write-pair c =
     let files = c.before.before.before in
     omega (arith, (found-accepted files.judge-files.ensures c.before.found.given.1).inside, files.before.before.before.before.before.well-formed.1.1.0.0)
@@ -55,8 +55,8 @@ returns-2 c =
     pair-refused _ files.before.before.before.before.before.requires.1 (λ i h. omega (arith, files.before.before.before.before.shared-slice-known.given i)) (λ i h. omega (arith, files.before.before.before.shared-slice-known2.given i)) _ _
     (found-refused files.judge-files.ensures c.before.before.found2.given.1) c.unwritten.ensures
 
-pub rewrite-headed-spec : {M : Type 1} → statement M
-rewrite-headed-spec =
+pub rewrite_headed_spec : {M : Type 1} → statement M
+rewrite_headed_spec =
     tie.close
     (tie.spec
     judge-files-requires

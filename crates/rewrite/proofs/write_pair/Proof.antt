@@ -106,8 +106,8 @@ returns-4 c =
     pair-written _ _ (pair-ready k.places_of.ensures d.divisors-of.ensures k.before.before.before.before.before.requires)
     large.first-large.ensures none.if1.false both.before.if2.false both.if3.false wrote.write-file.ensures c.before.before.before.write-file2.ensures c.without-place3.ensures refl
 
-pub write-pair-spec : {M : Type 1} → statement M
-write-pair-spec =
+pub write_pair_spec : {M : Type 1} → statement M
+write_pair_spec =
     tie.close
     (tie.spec
     places-of-requires

@@ -16,7 +16,7 @@ decreases-loop cert divisors start at₀ at = length cert - at
 loop-holds : tie.Need-loop-init invariant-loop decreases-loop
 loop-holds c = search-start c.before.requires
 
-add-new : tie.Need-overflow-add-new invariant-loop decreases-loop
+add-new : tie.Need-overflow_add-new invariant-loop decreases-loop
 add-new c = omega (arith, search-inside c.before.loop.invariant)
 
 new-requires : tie.Need-new-requires invariant-loop decreases-loop
@@ -33,13 +33,13 @@ returns c =
     let pair = c.before.before in
     search-large pair.before.before.before.loop.invariant (omega arith) pair.pair.ensures pair.before.new.ensures (sym c.if1.true ∙ c.before.large-ks.ensures)
 
-add-behind : tie.Need-overflow-add-behind invariant-loop decreases-loop
+add-behind : tie.Need-overflow_add-behind invariant-loop decreases-loop
 add-behind c = omega (arith, search-first c.before.before.before.before.before.loop.invariant (omega arith))
 
-mul-behind : tie.Need-overflow-mul-behind invariant-loop decreases-loop
+mul-behind : tie.Need-overflow_mul-behind invariant-loop decreases-loop
 mul-behind c = omega (arith, c.before.before.before.pair.ensures.small)
 
-add-behind-2 : tie.Need-overflow-add-behind-2 invariant-loop decreases-loop
+add-behind-2 : tie.Need-overflow_add-behind-2 invariant-loop decreases-loop
 add-behind-2 c =
     let pair = c.before.before.before in
     omega (arith, search-behind pair.before.before.before.loop.invariant (omega arith) pair.pair.ensures pair.before.new.ensures)
@@ -52,15 +52,15 @@ pair-requires-2 c κs =
     let pair = c.before.before.before.before in
     omega (arith, c.new2.ensures, search-behind pair.before.before.before.loop.invariant (omega arith) pair.pair.ensures pair.before.new.ensures)
 
-add_at : tie.Need-overflow-add-at invariant-loop decreases-loop
+add_at : tie.Need-overflow_add-at invariant-loop decreases-loop
 add_at c =
     let pair = c.before.before.before.before.before in
     omega (arith, search-behind pair.before.before.before.loop.invariant (omega arith) pair.pair.ensures pair.before.new.ensures)
 
-mul_at : tie.Need-overflow-mul-at invariant-loop decreases-loop
+mul_at : tie.Need-overflow_mul-at invariant-loop decreases-loop
 mul_at c = omega (arith, c.pair2.ensures.small)
 
-add-at-2 : tie.Need-overflow-add-at-2 invariant-loop decreases-loop
+add-at-2 : tie.Need-overflow_add-at-2 invariant-loop decreases-loop
 add-at-2 c =
     let pair = c.before.before.before.before.before in
     omega (arith, search-past pair.before.before.before.loop.invariant (omega arith) pair.pair.ensures pair.before.new.ensures c.pair2.ensures c.before.new2.ensures)
@@ -78,8 +78,8 @@ loop-again c =
 returns-2 : tie.Need-returns-2 invariant-loop decreases-loop
 returns-2 c = search-end c.before.loop.invariant (omega arith)
 
-pub first-large-spec : {M : Type 1} → statement M
-first-large-spec =
+pub first_large_spec : {M : Type 1} → statement M
+first_large_spec =
     tie.close
     (tie.spec
     invariant-loop

@@ -25,7 +25,7 @@ returns c =
     let taken = c.before.before in
     looking-large _ taken.before.before.loop.invariant (omega arith) taken.multiplied.ensures (omega arith)
 
-sub-left : tie.Need-overflow-sub-left invariant-loop decreases-loop
+sub-left : tie.Need-overflow_sub-left invariant-loop decreases-loop
 sub-left c = omega arith
 
 loop-less : tie.Need-loop-smaller invariant-loop decreases-loop
@@ -39,8 +39,8 @@ loop-again c =
 returns-2 : tie.Need-returns-2 invariant-loop decreases-loop
 returns-2 c = looking-end _ c.before.loop.invariant (omega arith)
 
-pub large-ks-spec : {M : Type 1} → statement M
-large-ks-spec =
+pub large_ks_spec : {M : Type 1} → statement M
+large_ks_spec =
     tie.close
     (tie.spec
     invariant-loop

@@ -5,7 +5,7 @@ use Rattle.rewritten_flows.specs.KsLaws.{product_small, entry_listed, entry-mult
 use Rattle.rewritten_flows.proofs.multiplied.Statement.{statement}
 use Rattle.rewritten_flows.proofs.multiplied.Tie as tie
 
-add-new : tie.Need-overflow-add-new
+add-new : tie.Need-overflow_add-new
 add-new c = omega arith
 
 new-requires : tie.Need-new-requires
@@ -17,7 +17,7 @@ pair-requires c κs = omega arith
 quad-requires : tie.Need-quad-requires
 quad-requires c κs = omega arith
 
-mul-t9 : tie.Need-overflow-mul-t9
+mul-t9 : tie.Need-overflow_mul-t9
 mul-t9 c = omega arith
 
 element-copy-out-t12 : tie.Need-element-copy-out-t12
@@ -25,7 +25,7 @@ element-copy-out-t12 c =
     let pair = c.before.before in
     omega (arith, entry_listed pair.before.before.before.before.requires pair.pair.ensures pair.before.new.ensures)
 
-mul-t13 : tie.Need-overflow-mul-t13
+mul-t13 : tie.Need-overflow_mul-t13
 mul-t13 c =
     let quad = c.before.before.before in
     let pair = quad.before in
@@ -37,8 +37,8 @@ returns c =
     let pair = quad.before in
     entry-multiplied pair.before.before.before.before.requires pair.pair.ensures pair.before.new.ensures quad.quad.ensures refl refl
 
-pub multiplied-spec : {M : Type 1} → statement M
-multiplied-spec =
+pub multiplied_spec : {M : Type 1} → statement M
+multiplied_spec =
     tie.close
     (tie.spec
     add-new

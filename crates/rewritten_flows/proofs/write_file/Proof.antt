@@ -49,8 +49,8 @@ returns c =
     let part = loop.before.before.before in
     file-written part.before.before.before.before.before.requires.0 part.part.ensures (writing-end loop.loop.invariant (omega arith))
 
-pub write-file-spec : {M : Type 1} → statement M
-write-file-spec =
+pub write_file_spec : {M : Type 1} → statement M
+write_file_spec =
     tie.close
     (tie.spec
     invariant-loop

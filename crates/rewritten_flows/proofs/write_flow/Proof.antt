@@ -5,7 +5,7 @@ use Rattle.rewritten_flows.specs.FlowLaws.{fits-asks, behind-inside, end-inside,
 use Rattle.rewritten_flows.proofs.write_flow.Statement.{statement}
 use Rattle.rewritten_flows.proofs.write_flow.Tie as tie
 
-add-new : tie.Need-overflow-add-new
+add-new : tie.Need-overflow_add-new
 add-new c = omega arith
 
 new-requires : tie.Need-new-requires
@@ -14,10 +14,10 @@ new-requires c κs = tt
 pair-requires : tie.Need-pair-requires
 pair-requires c κs = omega arith
 
-add-part : tie.Need-overflow-add-part
+add-part : tie.Need-overflow_add-part
 add-part c = omega arith
 
-sub_part : tie.Need-overflow-sub-part
+sub_part : tie.Need-overflow_sub-part
 sub_part c = omega arith
 
 part-part-start : tie.Need-slice-bounds-part-start
@@ -46,20 +46,20 @@ pair-requires-2 c κs =
     let pre = pair.before.before.before.before.requires in
     omega (arith, c.new2.ensures, behind-inside pre.0 pair.pair.ensures pair.before.new.ensures ks.write-ks.ensures)
 
-add-end : tie.Need-overflow-add-end
+add-end : tie.Need-overflow_add-end
 add-end c = omega arith
 
-mul-end : tie.Need-overflow-mul-end
+mul-end : tie.Need-overflow_mul-end
 mul-end c = omega arith
 
-add-end-2 : tie.Need-overflow-add-end-2
+add-end-2 : tie.Need-overflow_add-end-2
 add-end-2 c =
     let ks = c.before.before.before.before in
     let pair = ks.before.before.before.before.before.before.before in
     let pre = pair.before.before.before.before.requires in
     omega (arith, end-inside pre.0 pair.pair.ensures pair.before.new.ensures ks.write-ks.ensures c.pair2.ensures c.before.new2.ensures)
 
-sub-part-2 : tie.Need-overflow-sub-part-2
+sub-part-2 : tie.Need-overflow_sub-part-2
 sub-part-2 c = omega arith
 
 part-part-start-2 : tie.Need-slice-bounds-part-start-2
@@ -94,8 +94,8 @@ returns c =
     flow-written pre.0 pair.pair.ensures pair.before.new.ensures ks.write-ks.ensures pair2.pair2.ensures pair2.before.new2.ensures
     ks.before.before.before.before.part.ensures c.before.before.part2.ensures
 
-pub write-flow-spec : {M : Type 1} → statement M
-write-flow-spec =
+pub write_flow_spec : {M : Type 1} → statement M
+write_flow_spec =
     tie.close
     (tie.spec
     add-new

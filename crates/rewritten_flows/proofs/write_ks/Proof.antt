@@ -19,10 +19,10 @@ loop-holds c = ks-start c.before.before.requires.0 c.before.before.requires.1
 multiplied-requires : tie.Need-multiplied-requires invariant-loop decreases-loop
 multiplied-requires c κs = ks-entry _ c.before.loop.invariant.fit.ready (omega arith)
 
-add-part : tie.Need-overflow-add-part invariant-loop decreases-loop
+add-part : tie.Need-overflow_add-part invariant-loop decreases-loop
 add-part c = omega (arith, (ks-entry _ c.before.before.before.loop.invariant.fit.ready (omega arith)).inside)
 
-sub_part : tie.Need-overflow-sub-part invariant-loop decreases-loop
+sub_part : tie.Need-overflow_sub-part invariant-loop decreases-loop
 sub_part c = omega arith
 
 part-part-start : tie.Need-slice-bounds-part-start invariant-loop decreases-loop
@@ -41,7 +41,7 @@ quad-requires c κs =
     let h = taken.before.before.loop.invariant in
     (ks-later _ h (omega arith) part.part.ensures, ks-fits _ h (omega arith) taken.multiplied.ensures)
 
-sub-left : tie.Need-overflow-sub-left invariant-loop decreases-loop
+sub-left : tie.Need-overflow_sub-left invariant-loop decreases-loop
 sub-left c = omega arith
 
 loop-less : tie.Need-loop-smaller invariant-loop decreases-loop
@@ -60,8 +60,8 @@ same_length c = c.before.loop.invariant.ahead.size
 returns : tie.Need-returns invariant-loop decreases-loop
 returns c = ks-end _ c.before.loop.invariant (omega arith)
 
-pub write-ks-spec : {M : Type 1} → statement M
-write-ks-spec =
+pub write_ks_spec : {M : Type 1} → statement M
+write_ks_spec =
     tie.close
     (tie.spec
     invariant-loop

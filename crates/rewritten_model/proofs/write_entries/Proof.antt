@@ -34,7 +34,7 @@ entry-requires c κs =
     let g = taken.before.before.before.before.before.args.g in
     omega (arith, entries_fit _ _ taken.before.before.loop.invariant (omega arith), e.state, ap (λ (x : ℕ). x / g) e.weight)
 
-sub-left : tie.Need-overflow-sub-left invariant-loop decreases-loop
+sub-left : tie.Need-overflow_sub-left invariant-loop decreases-loop
 sub-left c = omega arith
 
 loop-less : tie.Need-loop-smaller invariant-loop decreases-loop
@@ -55,8 +55,8 @@ same_length c = c.before.loop.invariant.ahead.size
 returns : tie.Need-returns invariant-loop decreases-loop
 returns c = entries-end _ _ c.before.loop.invariant (omega arith)
 
-pub write-entries-spec : {M : Type 1} → statement M
-write-entries-spec =
+pub write_entries_spec : {M : Type 1} → statement M
+write_entries_spec =
     tie.close
     (tie.spec
     invariant-loop

@@ -6,7 +6,7 @@ use borrow.Author.Rules.{rules}
 use Rattle.rewritten_model.proofs.write_file.Statement.{statement}
 use Rattle.rewritten_model.proofs.write_file.Tie as tie
 
-add-part : tie.Need-overflow-add-part
+add-part : tie.Need-overflow_add-part
 add-part c = search rules
 
 slice-aggregate-part : tie.Need-slice-aggregate-part
@@ -21,13 +21,13 @@ write-transitions-requires c κs =
     let p = front.before.before.before.before.before.requires in
     records-fit p.0 p.1 front.part.ensures p.2
 
-mul-part : tie.Need-overflow-mul-part
+mul-part : tie.Need-overflow_mul-part
 mul-part c = search rules
 
 element-copy-out-part : tie.Need-element-copy-out-part
 element-copy-out-part c = search rules
 
-sub_part : tie.Need-overflow-sub-part
+sub_part : tie.Need-overflow_sub-part
 sub_part c = tail-inside c.before.before.before.before.before.before.before.before.before.before.before.before.before.requires.0
 
 part-part-start : tie.Need-slice-bounds-part-start
@@ -54,8 +54,8 @@ returns c =
     let p = front.before.before.before.before.before.requires in
     file-written p.0 p.1 front.part.ensures p.2 records.write-transitions.ensures tail.part2.ensures
 
-pub write-file-spec : {M : Type 1} → statement M
-write-file-spec =
+pub write_file_spec : {M : Type 1} → statement M
+write_file_spec =
     tie.close
     (tie.spec
     add-part

@@ -39,6 +39,6 @@ returns c =
     let fields = fixed.before.before.before in
     transition-lowest fields.before.before.before.requires fields.fields-of.ensures _ _ _ _ fixed.fixed.ensures refl refl refl refl entries.write_entries.ensures
 
-pub write-transition-spec : {M : Type 1} → statement M
-write-transition-spec =
+pub write_transition_spec : {M : Type 1} → statement M
+write_transition_spec =
     tie.close (tie.spec fields-of-requires div-fixed fixed-requires write-entries-requires same_length returns)

@@ -17,7 +17,7 @@ decreases-loop s count places divisors out₀ at r₀ next₀ out r next = count
 loop-holds : tie.Need-loop-init invariant-loop decreases-loop
 loop-holds c = let a = c.before.before.requires in changing-start in_lowest lowest-count a.known.transitions (omega (arith, a.place, a.known.labels, a.room))
 
-mul-write-transition : tie.Need-overflow-mul-write-transition invariant-loop decreases-loop
+mul-write-transition : tie.Need-overflow_mul-write-transition invariant-loop decreases-loop
 mul-write-transition c = omega (arith, c.before.before.before.before.requires.held.few)
 
 element-copy-out-write-transition : tie.Need-element-copy-out-write-transition invariant-loop decreases-loop
@@ -26,7 +26,7 @@ element-copy-out-write-transition c = omega (arith, c.before.before.before.befor
 write-transition-requires : tie.Need-write-transition-requires invariant-loop decreases-loop
 write-transition-requires c κs = let l = c.before.before.before in record-asks l.before.before.before.requires l.loop.invariant (omega arith)
 
-add_r : tie.Need-overflow-add-r invariant-loop decreases-loop
+add_r : tie.Need-overflow_add-r invariant-loop decreases-loop
 add_r c = omega arith
 
 loop-less : tie.Need-loop-smaller invariant-loop decreases-loop
@@ -43,8 +43,8 @@ same_length c = c.before.loop.invariant.ahead.size
 returns : tie.Need-returns invariant-loop decreases-loop
 returns c = changing-end in_lowest lowest-count c.before.loop.invariant (omega arith)
 
-pub write-transitions-spec : {M : Type 1} → statement M
-write-transitions-spec =
+pub write_transitions_spec : {M : Type 1} → statement M
+write_transitions_spec =
     tie.close
     (tie.spec
     invariant-loop

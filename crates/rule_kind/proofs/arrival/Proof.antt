@@ -14,5 +14,5 @@ returns-2 : tie.Need-returns-2
 unfolding arrival_of
 returns-2 c = not_same _ (omega arith) refl
 
-pub arrival-spec : {M : Type 1} → statement M
-arrival-spec = tie.close (tie.spec returns returns-2)
+pub arrival_spec : {M : Type 1} → statement M
+arrival_spec = tie.close (tie.spec returns returns-2)

@@ -20,5 +20,5 @@ weak-condition-requires c κs = search rules
 returns-2 : tie.Need-returns-2
 returns-2 c = c.weak-condition.ensures ∙ weak-conditions _ (sym c.before.before.is-strong.ensures ∙ c.before.if1.false) _ _ _ _
 
-pub condition-of-spec : {M : Type 1} → statement M
-condition-of-spec = tie.close (tie.spec is-strong-requires strong-condition-requires returns weak-condition-requires returns-2)
+pub condition_of_spec : {M : Type 1} → statement M
+condition_of_spec = tie.close (tie.spec is-strong-requires strong-condition-requires returns weak-condition-requires returns-2)

@@ -16,17 +16,17 @@ enum_told c = search rules
 enum-told-2 : tie.Need-enum-told-2
 enum-told-2 c = search rules
 
-mul-end : tie.Need-overflow-mul-end
+mul-end : tie.Need-overflow_mul-end
 mul-end c = let start = c.before.before.before in omega (arith, end-in-table start.requires c.enum-told2.given.1, start.requires.known.size)
 
 element-copy-out-end : tie.Need-element-copy-out-end
 element-copy-out-end c = let start = c.before.before.before in omega (arith, end-in-table start.requires c.enum-told2.given.1, start.requires.known.size)
 
-add-new : tie.Need-overflow-add-new
+add-new : tie.Need-overflow_add-new
 add-new c =
     let start = c.before.before.before.before in omega (arith, cost-inside start.requires c.before.enum-told2.given.1, start.well-formed.1.0.0)
 
-add-new-2 : tie.Need-overflow-add-new-2
+add-new-2 : tie.Need-overflow_add-new-2
 add-new-2 c =
     let start = c.before.before.before.before in omega (arith, cost-inside start.requires c.before.enum-told2.given.1, start.well-formed.1.0.0)
 
@@ -51,6 +51,6 @@ enum-told-3 c = search rules
 returns-3 : tie.Need-returns-3
 returns-3 c = no-cost Strong (λ C at. refl) c.enum-told3.given.1 (omega arith)
 
-pub cost-of-spec : {M : Type 1} → statement M
-cost-of-spec =
+pub cost_of_spec : {M : Type 1} → statement M
+cost_of_spec =
     tie.close (tie.spec enum_told enum-told-2 mul-end element-copy-out-end add-new add-new-2 new-requires byte-requires enum-told-3 returns returns-2 returns-3)

@@ -14,5 +14,5 @@ returns-2 : tie.Need-returns-2
 unfolding departure_of
 returns-2 c = not_same _ (omega arith) refl
 
-pub departure-spec : {M : Type 1} → statement M
-departure-spec = tie.close (tie.spec returns returns-2)
+pub departure_spec : {M : Type 1} → statement M
+departure_spec = tie.close (tie.spec returns returns-2)

@@ -14,5 +14,5 @@ returns c = strong-first _ (sym c.before.is-strong.ensures ∙ c.if1.true) _
 returns-2 : tie.Need-returns-2
 returns-2 c = weak-first _ (sym c.before.is-strong.ensures ∙ c.if1.false) _
 
-pub first-prices-spec : {M : Type 1} → statement M
-first-prices-spec = tie.close (tie.spec is-strong-requires returns returns-2)
+pub first_prices_spec : {M : Type 1} → statement M
+first_prices_spec = tie.close (tie.spec is-strong-requires returns returns-2)

@@ -36,6 +36,6 @@ enum-told-3 c = search rules
 returns-3 : tie.Need-returns-3
 returns-3 c = further-none Strong (λ C at. refl) c.enum-told3.given.1 refl
 
-pub further-price-spec : {M : Type 1} → statement M
-further-price-spec =
+pub further_price_spec : {M : Type 1} → statement M
+further_price_spec =
     tie.close (tie.spec enum_told enum-told-2 new-requires price-requires enum-told-3 returns returns-2 returns-3)

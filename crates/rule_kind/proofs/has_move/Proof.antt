@@ -14,5 +14,5 @@ returns c = strong-move _ (sym c.before.is-strong.ensures ∙ c.if1.true) _
 returns-2 : tie.Need-returns-2
 returns-2 c = weak-move _ (sym c.before.is-strong.ensures ∙ c.if1.false) _
 
-pub has-move-spec : {M : Type 1} → statement M
-has-move-spec = tie.close (tie.spec is-strong-requires returns returns-2)
+pub has_move_spec : {M : Type 1} → statement M
+has_move_spec = tie.close (tie.spec is-strong-requires returns returns-2)

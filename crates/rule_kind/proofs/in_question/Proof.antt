@@ -20,5 +20,5 @@ in-weak-question-requires c κs = search rules
 returns-2 : tie.Need-returns-2
 returns-2 c = c.in-weak-question.ensures.is ∙ weak-question _ (sym c.before.before.is-strong.ensures ∙ c.before.if1.false) _ _ _ _ _
 
-pub in-question-spec : {M : Type 1} → statement M
-in-question-spec = tie.close (tie.spec is-strong-requires in-strong-question-requires returns in-weak-question-requires returns-2)
+pub in_question_spec : {M : Type 1} → statement M
+in_question_spec = tie.close (tie.spec is-strong-requires in-strong-question-requires returns in-weak-question-requires returns-2)

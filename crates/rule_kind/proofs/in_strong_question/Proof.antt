@@ -18,5 +18,5 @@ returns-2 : tie.Need-returns-2
 unfolding strong_question
 returns-2 c = same _ (omega arith) c.is-own.ensures
 
-pub in-strong-question-spec : {M : Type 1} → statement M
-in-strong-question-spec = tie.close (tie.spec returns is-own-requires returns-2)
+pub in_strong_question_spec : {M : Type 1} → statement M
+in_strong_question_spec = tie.close (tie.spec returns is-own-requires returns-2)

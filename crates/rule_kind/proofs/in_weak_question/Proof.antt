@@ -39,7 +39,7 @@ returns-8 : tie.Need-returns-8
 unfolding plain_in_question external_in_question
 returns-8 c = tells-layer _ _ _ (not_same _ (omega arith) (not_same _ (omega arith) (not_same _ (omega arith) (not_same _ (omega arith) refl))))
 
-pub in-weak-question-spec : {M : Type 1} → statement M
-in-weak-question-spec =
+pub in_weak_question_spec : {M : Type 1} → statement M
+in_weak_question_spec =
     tie.close
     (tie.spec returns returns-2 returns-3 returns-4 returns-5 returns-6 returns-7 returns-8)

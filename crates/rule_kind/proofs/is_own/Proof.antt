@@ -10,5 +10,5 @@ returns c = other-source _ _ _ _ (λ e. omega arith)
 returns-2 : tie.Need-returns-2
 returns-2 c = same_source _ _ _ _ (omega arith)
 
-pub is-own-spec : {M : Type 1} → statement M
-is-own-spec = tie.close (tie.spec returns returns-2)
+pub is_own_spec : {M : Type 1} → statement M
+is_own_spec = tie.close (tie.spec returns returns-2)

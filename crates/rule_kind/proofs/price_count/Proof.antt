@@ -15,10 +15,10 @@ further-prices-requires c κs = search rules
 has-move-requires : tie.Need-has-move-requires
 has-move-requires c κs = search rules
 
-mul-result : tie.Need-overflow-mul-result
+mul-result : tie.Need-overflow_mul-result
 mul-result c = search rules
 
-add-result : tie.Need-overflow-add-result
+add-result : tie.Need-overflow_add-result
 add-result c =
     let further = c.before.before in
     let first = further.before in
@@ -26,7 +26,7 @@ add-result c =
     let all = prices-with-move a.kind a.n a.challenger (sym c.before.has_move.ensures ∙ c.if1.true) in
     record { fits = omega (arith, first.first-prices.ensures, further.further-prices.ensures, all, prices-most a.kind a.n a.challenger) }
 
-add-result-2 : tie.Need-overflow-add-result-2
+add-result-2 : tie.Need-overflow_add-result-2
 add-result-2 c =
     let further = c.before.before in
     let first = further.before in
@@ -41,7 +41,7 @@ returns c =
     let a = first.before.args in
     omega (arith, first.first-prices.ensures, further.further-prices.ensures, prices-with-move a.kind a.n a.challenger (sym c.before.has_move.ensures ∙ c.if1.true))
 
-add-result-3 : tie.Need-overflow-add-result-3
+add-result-3 : tie.Need-overflow_add-result-3
 add-result-3 c =
     let further = c.before.before in
     let first = further.before in
@@ -49,7 +49,7 @@ add-result-3 c =
     let all = prices-without-move a.kind a.n a.challenger (sym c.before.has_move.ensures ∙ c.if1.false) in
     record { fits = omega (arith, first.first-prices.ensures, further.further-prices.ensures, all, prices-most a.kind a.n a.challenger) }
 
-add-result-4 : tie.Need-overflow-add-result-4
+add-result-4 : tie.Need-overflow_add-result-4
 add-result-4 c =
     let further = c.before.before in
     let first = further.before in
@@ -64,8 +64,8 @@ returns-2 c =
     let a = first.before.args in
     omega (arith, first.first-prices.ensures, further.further-prices.ensures, prices-without-move a.kind a.n a.challenger (sym c.before.has_move.ensures ∙ c.if1.false))
 
-pub price-count-spec : {M : Type 1} → statement M
-price-count-spec =
+pub price_count_spec : {M : Type 1} → statement M
+price_count_spec =
     tie.close
     (tie.spec
     first-prices-requires

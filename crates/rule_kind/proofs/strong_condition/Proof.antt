@@ -17,5 +17,5 @@ returns-2 : tie.Need-returns-2
 unfolding strong_condition
 returns-2 c = is_false _ (sym c.before.is-own.ensures ∙ c.if1.false) refl
 
-pub strong-condition-spec : {M : Type 1} → statement M
-strong-condition-spec = tie.close (tie.spec is-own-requires returns returns-2)
+pub strong_condition_spec : {M : Type 1} → statement M
+strong_condition_spec = tie.close (tie.spec is-own-requires returns returns-2)

@@ -15,5 +15,5 @@ returns c = sym (w-before _ _ (sym c.before.has_move.ensures ∙ not-true _ c.if
 returns-2 : tie.Need-returns-2
 returns-2 c = sym (w-after _ _ (sym c.before.has_move.ensures ∙ not-false _ c.if1.false))
 
-pub w-departure-spec : {M : Type 1} → statement M
-w-departure-spec = tie.close (tie.spec has-move-requires returns returns-2)
+pub w_departure_spec : {M : Type 1} → statement M
+w_departure_spec = tie.close (tie.spec has-move-requires returns returns-2)

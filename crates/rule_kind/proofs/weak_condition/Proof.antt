@@ -18,5 +18,5 @@ returns-3 : tie.Need-returns-3
 unfolding weak_condition
 returns-3 c = not_same _ (omega arith) (not_same _ (omega arith) refl)
 
-pub weak-condition-spec : {M : Type 1} → statement M
-weak-condition-spec = tie.close (tie.spec returns returns-2 returns-3)
+pub weak_condition_spec : {M : Type 1} → statement M
+weak_condition_spec = tie.close (tie.spec returns returns-2 returns-3)

@@ -31,6 +31,7 @@ record Answered (says : RuleSays) (A : Automaton) (R : Pairs) (x : Question) : T
   pub good : GoodFlow says A R x f
 
 answered : {says : RuleSays} {A : Automaton} {R : Pairs} {xs : List Question} {fs : List FlowRecord} (x : Question) → GoodFlows says A R xs fs → Among x xs → Answered says A R x
+answered {says = says} {A = A} {R = R} x Rattle.rules.specs.definitions.Accepted.done x8 = elim x8 [ ]
 answered x (GoodFlows.flow {f = f} g gs) Among.here = record { f = f; good = g }
 answered x (GoodFlows.flow g gs) (Among.there a) = answered x gs a
 

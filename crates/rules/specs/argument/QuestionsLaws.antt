@@ -268,6 +268,7 @@ module _ (A : Automaton) (blocks : List ℕ) where
 
 -- two lists that ascend and have the same elements are one
 above : {X : Type 0} (number : X → ℕ) (x : X) (xs : List X) (lo : ℕ) → Ascends number lo xs → Among x xs → lo ≤ number x
+above {X = X} number x _ _ (end {lowest = lowest}) x5 = elim x5 [ ]
 above number x xs lo (Ascends.next {x = y} {xs = rest} l a) (Among.here) = l
 above number x xs lo (Ascends.next {x = y} {xs = rest} l a) (Among.there b) = omega (arith, above number x rest (number y + 1) a b)
 

@@ -14,5 +14,5 @@ next-defender-requires c κs = search rules
 returns-2 : tie.Need-returns-2
 returns-2 c = asked c.before.if1.false c.next-defender.ensures
 
-pub first-defender-spec : {M : Type 1} → statement M
-first-defender-spec = tie.close (tie.spec returns next-defender-requires returns-2)
+pub first_defender_spec : {M : Type 1} → statement M
+first_defender_spec = tie.close (tie.spec returns next-defender-requires returns-2)

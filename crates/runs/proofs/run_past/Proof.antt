@@ -32,7 +32,7 @@ returns c =
       stops = λ h e. omega (arith, e, c.if1.true, c.before.fields-of.ensures.source);
     }
 
-add-past : tie.Need-overflow-add-past invariant-loop decreases-loop
+add-past : tie.Need-overflow_add-past invariant-loop decreases-loop
 add-past c = omega arith
 
 loop-less : tie.Need-loop-smaller invariant-loop decreases-loop
@@ -51,8 +51,8 @@ returns-2 c =
     let l = c.before.loop in
     record { from = omega arith; most = omega arith; leave = l.invariant.2; stops = λ h. absurd (omega arith) }
 
-pub run-past-spec : {M : Type 1} → statement M
-run-past-spec =
+pub run_past_spec : {M : Type 1} → statement M
+run_past_spec =
     tie.close
     (tie.spec
     invariant-loop

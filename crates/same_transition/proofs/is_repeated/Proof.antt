@@ -15,7 +15,7 @@ invariant-loop s start at count place₀ place = Walked s start at place
 abbrev decreases-loop : tie.decreases-loop
 decreases-loop s start at count place₀ place = at - place
 
-add-new : tie.Need-overflow-add-new invariant-loop decreases-loop
+add-new : tie.Need-overflow_add-new invariant-loop decreases-loop
 unfolding after_transition
 add-new c = omega (arith, last-inside c.before.requires)
 
@@ -54,8 +54,8 @@ loop-again c =
 returns-2 : tie.Need-returns-2 invariant-loop decreases-loop
 returns-2 c = walk_end c.before.loop.invariant c.loop-test.false
 
-pub is-repeated-spec : {M : Type 1} → statement M
-is-repeated-spec =
+pub is_repeated_spec : {M : Type 1} → statement M
+is_repeated_spec =
     tie.close
     (tie.spec
     invariant-loop

@@ -8,10 +8,10 @@ use Rattle.same_transition.specs.SameTransitionLaws.{pass-longer, pass_same, pas
 use Rattle.same_transition.proofs.pass.Statement.{statement}
 use Rattle.same_transition.proofs.pass.Tie as tie
 
-mul-entries : tie.Need-overflow-mul-entries
+mul-entries : tie.Need-overflow_mul-entries
 mul-entries c = omega arith
 
-add-new : tie.Need-overflow-add-new
+add-new : tie.Need-overflow_add-new
 unfolding after_transition
 add-new c = omega arith
 
@@ -31,13 +31,13 @@ returns c =
     let at_byte = c.before.before.before in
     pass-longer at_byte.before.before.before.requires (taken_at at_byte.byte.ensures _ (omega arith)) c.before.if1.true c.after-transition.ensures
 
-add-same-bytes : tie.Need-overflow-add-same-bytes
+add-same-bytes : tie.Need-overflow_add-same-bytes
 add-same-bytes c = omega arith
 
-add-same-bytes-2 : tie.Need-overflow-add-same-bytes-2
+add-same-bytes-2 : tie.Need-overflow_add-same-bytes-2
 add-same-bytes-2 c = search rules
 
-add-same-bytes-3 : tie.Need-overflow-add-same-bytes-3
+add-same-bytes-3 : tie.Need-overflow_add-same-bytes-3
 add-same-bytes-3 c = search rules
 
 same-bytes-requires : tie.Need-same-bytes-requires
@@ -47,10 +47,10 @@ same-bytes-requires c κs = omega arith
 returns-2 : tie.Need-returns-2
 returns-2 c = pass_same c.before.before.before.before.before.before.before.requires (sym c.before.same_bytes.ensures ∙ c.if2.true)
 
-add-result : tie.Need-overflow-add-result
+add-result : tie.Need-overflow_add-result
 add-result c = search rules
 
-add-result-2 : tie.Need-overflow-add-result-2
+add-result-2 : tie.Need-overflow_add-result-2
 unfolding after_transition
 add-result-2 c = omega arith
 

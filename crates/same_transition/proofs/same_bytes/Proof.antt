@@ -17,16 +17,16 @@ decreases-loop s first second count left₀ left = left
 loop-holds : tie.Need-loop-init invariant-loop decreases-loop
 loop-holds c = (omega arith, λ i from less. absurd (omega arith))
 
-sub-left : tie.Need-overflow-sub-left invariant-loop decreases-loop
+sub-left : tie.Need-overflow_sub-left invariant-loop decreases-loop
 sub-left c = omega arith
 
-add-if1 : tie.Need-overflow-add-if1 invariant-loop decreases-loop
+add-if1 : tie.Need-overflow_add-if1 invariant-loop decreases-loop
 add-if1 c = omega arith
 
 shared-slice-read-if1 : tie.Need-shared-slice-read-if1 invariant-loop decreases-loop
 shared-slice-read-if1 c = omega arith
 
-add-if1-2 : tie.Need-overflow-add-if1-2 invariant-loop decreases-loop
+add-if1-2 : tie.Need-overflow_add-if1-2 invariant-loop decreases-loop
 add-if1-2 c = omega arith
 
 shared-slice-read-if1-2 : tie.Need-shared-slice-read-if1-2 invariant-loop decreases-loop
@@ -46,8 +46,8 @@ loop-again c = (omega arith, from_more _ _ _ (omega arith) c.before.before.befor
 returns-2 : tie.Need-returns-2 invariant-loop decreases-loop
 returns-2 c = sym (bytes_same _ _ _ _ (λ i less. c.before.loop.invariant.1 i (omega arith) less))
 
-pub same-bytes-spec : {M : Type 1} → statement M
-same-bytes-spec =
+pub same_bytes_spec : {M : Type 1} → statement M
+same_bytes_spec =
     tie.close
     (tie.spec
     invariant-loop

@@ -43,8 +43,8 @@ returns c =
     let last = appended-as (ap closing (sym (to_z-of_z opened.before.before.before.ranges.remainder))) closed.write-closing.ensures in
     appended-as (sentence-parts _) (append-more opened.write-opening.ensures (append-more told-fields.write-fields.ensures last))
 
-pub compose-spec : {M : Type 1} → statement M
-compose-spec =
+pub compose_spec : {M : Type 1} → statement M
+compose_spec =
     tie.close
     (tie.spec
     write-opening-requires

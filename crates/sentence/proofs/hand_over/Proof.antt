@@ -16,5 +16,5 @@ same_length c = search rules
 returns : tie.Need-returns
 returns c = file-stretch 39 _ _ c.before.before.before.write-file.ensures c.file-answer.ensures
 
-pub hand-over-spec : {M : Type 1} → statement M
-hand-over-spec = tie.close (tie.spec write-file-requires file-answer-requires same_length returns)
+pub hand_over_spec : {M : Type 1} → statement M
+hand_over_spec = tie.close (tie.spec write-file-requires file-answer-requires same_length returns)

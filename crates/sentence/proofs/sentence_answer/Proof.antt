@@ -40,8 +40,8 @@ returns c =
     let same = ap (told e.args.number e.args.file e.args.place e.args.state) (to_z-of_z e.ranges.remainder) in
     sentence-handed same composed.compose.ensures handed.hand-over.ensures
 
-pub sentence-answer-spec : {M : Type 1} → statement M
-sentence-answer-spec =
+pub sentence_answer_spec : {M : Type 1} → statement M
+sentence_answer_spec =
     tie.close
     (tie.spec
     slice-aggregate-compose

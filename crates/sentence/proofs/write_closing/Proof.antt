@@ -46,8 +46,8 @@ returns c =
     let signed = appended-as (ap signed_decimal (sym (to_z-of_z named.before.before.before.before.ranges.remainder))) digits.write-signed.ensures in
     append-more named.part.ensures (append-more signed end.part2.ensures)
 
-pub write-closing-spec : {M : Type 1} → statement M
-write-closing-spec =
+pub write_closing_spec : {M : Type 1} → statement M
+write_closing_spec =
     tie.close
     (tie.spec
     slice-aggregate-part

@@ -45,8 +45,8 @@ returns c =
     let place = state.before.before.before.before.before in
     append-more place.before.before.before.before.before.write-named.ensures (append-more place.write-named2.ensures state.write-named3.ensures)
 
-pub write-fields-spec : {M : Type 1} → statement M
-write-fields-spec =
+pub write_fields_spec : {M : Type 1} → statement M
+write_fields_spec =
     tie.close
     (tie.spec
     slice-aggregate-write-named

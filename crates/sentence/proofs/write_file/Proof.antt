@@ -19,5 +19,5 @@ returns c = written-whole _ refl (omega arith) (file-filled c.before.before.part
 returns-2 : tie.Need-returns-2
 returns-2 c = written-short _ refl (omega arith)
 
-pub write-file-spec : {M : Type 1} → statement M
-write-file-spec = tie.close (tie.spec part-requires same_length returns returns-2)
+pub write_file_spec : {M : Type 1} → statement M
+write_file_spec = tie.close (tie.spec part-requires same_length returns returns-2)

@@ -16,5 +16,5 @@ same_length c = search rules
 returns : tie.Need-returns
 returns c = append-more c.before.before.before.before.before.before.part.ensures c.before.before.write-decimal.ensures
 
-pub write-named-spec : {M : Type 1} → statement M
-write-named-spec = tie.close (tie.spec part-requires write-decimal-requires same_length returns)
+pub write_named_spec : {M : Type 1} → statement M
+write_named_spec = tie.close (tie.spec part-requires write-decimal-requires same_length returns)

@@ -41,8 +41,8 @@ returns c =
     let colon = phrase.before.before.before.before in
     append-more colon.before.before.before.before.before.write-named.ensures (append-more colon.part.ensures phrase.write-phrase.ensures)
 
-pub write-opening-spec : {M : Type 1} → statement M
-write-opening-spec =
+pub write_opening_spec : {M : Type 1} → statement M
+write_opening_spec =
     tie.close
     (tie.spec
     slice-aggregate-write-named

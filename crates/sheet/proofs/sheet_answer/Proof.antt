@@ -25,12 +25,12 @@ judge-files-requires c κs = c.before.before.head-answer.ensures.good c.if1.fals
 enum-known-found : tie.Need-enum-known-found
 enum-known-found c = search rules
 
-add-write-sheet : tie.Need-overflow-add-write-sheet
+add-write-sheet : tie.Need-overflow_add-write-sheet
 add-write-sheet c =
     let files = c.before.before.before in
     omega (arith, (found-accepted files.judge-files.ensures c.before.found.given.1).inside, files.before.before.before.before.before.before.before.well-formed.1.0.0)
 
-sub-write-sheet : tie.Need-overflow-sub-write-sheet
+sub-write-sheet : tie.Need-overflow_sub-write-sheet
 sub-write-sheet c = search rules
 
 part-write-sheet-start : tie.Need-slice-bounds-write-sheet-start
@@ -69,8 +69,8 @@ returns-3 c =
     pair-refused (λ i h. omega (arith, files.before.before.before.before.before.before.shared-slice-known.given i)) (λ i h. omega (arith, files.before.before.before.before.before.shared-slice-known2.given i))
     a.out.now (found-refused files.judge-files.ensures c.before.found2.given.1)
 
-pub sheet-answer-spec : {M : Type 1} → statement M
-sheet-answer-spec =
+pub sheet_answer_spec : {M : Type 1} → statement M
+sheet_answer_spec =
     tie.close
     (tie.spec
     head-answer-requires

@@ -26,5 +26,5 @@ same_length c = search rules
 returns : tie.Need-returns
 returns c = gives-file 28 _ _ c.before.before.before.write-sheet.ensures c.file-answer.ensures
 
-pub write-sheet-spec : {M : Type 1} → statement M
-write-sheet-spec = tie.close (tie.spec no-rows-requires start-requires write-sheet-requires file-answer-requires same_length returns)
+pub write_sheet_spec : {M : Type 1} → statement M
+write_sheet_spec = tie.close (tie.spec no-rows-requires start-requires write-sheet-requires file-answer-requires same_length returns)

@@ -26,13 +26,13 @@ new-at c = eqb-true _ _ (sym c.before.is-first.ensures ∙ not-false _ c.if1.fal
 line-count-requires : tie.Need-line-count-requires
 line-count-requires c κs = omega (arith, (new-size c.before.before.before.before.requires (new-at c.before) c.count-related.ensures).1)
 
-mul-t9 : tie.Need-overflow-mul-t9
+mul-t9 : tie.Need-overflow_mul-t9
 unfolding line_count
 mul-t9 c =
     let asked = c.before.before in
     omega (arith, c.line-count.ensures, (new-size asked.before.before.before.requires (new-at asked) c.before.count-related.ensures).1)
 
-add-t10 : tie.Need-overflow-add-t10
+add-t10 : tie.Need-overflow_add-t10
 add-t10 c = let asked = c.before.before in omega (arith, new-few asked.before.before.before.requires (new-at asked))
 
 returns-2 : tie.Need-returns-2
@@ -40,8 +40,8 @@ returns-2 c =
     let asked = c.before.before in
     counted-new asked.before.before.before.requires (new-at asked) c.before.count-related.ensures _ (ap (λ (k : ℕ). 73 * k) c.line-count.ensures)
 
-pub count-block-spec : {M : Type 1} → statement M
-count-block-spec =
+pub count_block_spec : {M : Type 1} → statement M
+count_block_spec =
     tie.close
     (tie.spec
     is-first-requires

@@ -18,10 +18,10 @@ loop-holds c = counting-start _
 count-block-requires : tie.Need-count-block-requires invariant-loop decreases-loop
 count-block-requires c κs = record { in_rows = c.before.before.before.requires; inside = omega arith; known = c.before.loop.invariant.known }
 
-add_total : tie.Need-overflow-add-total invariant-loop decreases-loop
+add_total : tie.Need-overflow_add-total invariant-loop decreases-loop
 add_total c = omega (arith, c.before.count-block.ensures.few, c.before.before.before.before.before.requires.model.few)
 
-add-v : tie.Need-overflow-add-v invariant-loop decreases-loop
+add-v : tie.Need-overflow_add-v invariant-loop decreases-loop
 add-v c = omega arith
 
 loop-less : tie.Need-loop-smaller invariant-loop decreases-loop
@@ -33,8 +33,8 @@ loop-again c = counting-turn c.before.before.before.loop.invariant (omega arith)
 returns : tie.Need-returns invariant-loop decreases-loop
 returns c = counting-end c.before.before.before.requires.model c.before.loop.invariant (omega arith)
 
-pub sheet-length-spec : {M : Type 1} → statement M
-sheet-length-spec =
+pub sheet_length_spec : {M : Type 1} → statement M
+sheet_length_spec =
     tie.close
     (tie.spec
     invariant-loop

@@ -23,7 +23,7 @@ block-requires c κs =
     let fits = new-size a.0 new c.before.count-related.ensures in
     (omega (arith, a.0.inside, a.0.in_rows.model.few), fits.0, fits.1, new-room a.0 new c.before.count-related.ensures _ _ a.1)
 
-add-t13 : tie.Need-overflow-add-t13
+add-t13 : tie.Need-overflow_add-t13
 add-t13 c = omega (arith, new-few c.before.before.before.before.before.before.before.before.before.requires.0 (eqb-true _ _ (sym c.before.before.before.before.before.before.is-first.ensures ∙ not-false _ c.before.before.before.before.before.if1.false)))
 
 same_length : tie.Need-same-length
@@ -32,8 +32,8 @@ same_length c = search rules
 returns-2 : tie.Need-returns-2
 returns-2 c = put-new c.before.before.before.before.before.before.before.before.before.requires.0 (eqb-true _ _ (sym c.before.before.before.before.before.before.is-first.ensures ∙ not-false _ c.before.before.before.before.before.if1.false)) c.before.before.before.before.count-related.ensures c.before.before.block.ensures
 
-pub write-block-spec : {M : Type 1} → statement M
-write-block-spec =
+pub write_block_spec : {M : Type 1} → statement M
+write_block_spec =
     tie.close
     (tie.spec
     is-first-requires

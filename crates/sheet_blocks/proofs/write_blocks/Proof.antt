@@ -18,7 +18,7 @@ loop-holds c = writing_start _ _ (omega arith)
 write-block-requires : tie.Need-write-block-requires invariant-loop decreases-loop
 write-block-requires c κs = (record { in_rows = c.before.before.before.before.before.requires.0; inside = omega arith; known = c.before.before.loop.invariant.known }, c.before.before.loop.invariant.room)
 
-add-v : tie.Need-overflow-add-v invariant-loop decreases-loop
+add-v : tie.Need-overflow_add-v invariant-loop decreases-loop
 add-v c = omega arith
 
 loop-less : tie.Need-loop-smaller invariant-loop decreases-loop
@@ -33,8 +33,8 @@ same_length c = c.before.loop.invariant.ahead.size
 returns : tie.Need-returns invariant-loop decreases-loop
 returns c = writing-end c.before.before.before.before.requires.0.model c.before.loop.invariant (omega arith)
 
-pub write-blocks-spec : {M : Type 1} → statement M
-write-blocks-spec =
+pub write_blocks_spec : {M : Type 1} → statement M
+write_blocks_spec =
     tie.close
     (tie.spec
     invariant-loop

@@ -21,5 +21,5 @@ returns c = written-whole _ c.before.before.before.before.before.sheet-length.en
 returns-2 : tie.Need-returns-2
 returns-2 c = written-short _ c.before.sheet-length.ensures (omega arith)
 
-pub write-sheet-spec : {M : Type 1} → statement M
-write-sheet-spec = tie.close (tie.spec sheet-length-requires write-blocks-requires same_length returns returns-2)
+pub write_sheet_spec : {M : Type 1} → statement M
+write_sheet_spec = tie.close (tie.spec sheet-length-requires write-blocks-requires same_length returns returns-2)

@@ -25,7 +25,7 @@ returns c =
     let third = c.before.before.before.before.before.before.before.before.before.before in
     blank-written third.before.before.before.before.byte.ensures third.byte2.ensures c.before.before.before.before.before.before.byte3.ensures c.before.before.byte4.ensures refl refl refl refl
 
-pub blank-spec : {M : Type 1} → statement M
-blank-spec =
+pub blank_spec : {M : Type 1} → statement M
+blank_spec =
     tie.close
     (tie.spec byte-requires byte-requires-2 byte-requires-3 byte-requires-4 same_length returns)

@@ -22,7 +22,7 @@ rest-of-line-requires c κs = (omega arith, omega arith, omega (arith, cell-leng
 line-count-requires : tie.Need-line-count-requires
 line-count-requires c κs = search rules
 
-sub-further-lines : tie.Need-overflow-sub-further-lines
+sub-further-lines : tie.Need-overflow_sub-further-lines
 unfolding line_count
 sub-further-lines c = omega (arith, c.line-count.ensures)
 

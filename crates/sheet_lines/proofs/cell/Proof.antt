@@ -23,7 +23,7 @@ column-requires-3 c κs = search rules
 byte-requires-3 : tie.Need-byte-requires-3
 byte-requires-3 c κs = search rules
 
-add-byte : tie.Need-overflow-add-byte
+add-byte : tie.Need-overflow_add-byte
 add-byte c = search rules
 
 byte-requires-4 : tie.Need-byte-requires-4
@@ -40,8 +40,8 @@ returns c =
     cell-written first.byte.ensures second.byte2.ensures third.byte3.ensures c.before.before.byte4.ensures
     _ first.before.column.ensures.0 second.before.column2.ensures.0 third.before.column3.ensures.0 refl
 
-pub cell-spec : {M : Type 1} → statement M
-cell-spec =
+pub cell_spec : {M : Type 1} → statement M
+cell_spec =
     tie.close
     (tie.spec
     column-requires

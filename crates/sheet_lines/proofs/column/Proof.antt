@@ -14,12 +14,12 @@ returns c = (less _ (omega arith) refl, omega arith)
 div-result : tie.Need-nonzero-div-result
 div-result c = search rules
 
-add-result : tie.Need-overflow-add-result
+add-result : tie.Need-overflow_add-result
 add-result c = search rules
 
 returns-2 : tie.Need-returns-2
 unfolding column
 returns-2 c = (not_less _ (omega arith) refl, omega arith)
 
-pub column-spec : {M : Type 1} → statement M
-column-spec = tie.close (tie.spec returns div-result add-result returns-2)
+pub column_spec : {M : Type 1} → statement M
+column_spec = tie.close (tie.spec returns div-result add-result returns-2)

@@ -28,7 +28,7 @@ blank-requires-2 c κs = omega (arith, blank-length)
 rest-of-line-requires : tie.Need-rest-of-line-requires invariant-loop decreases-loop
 rest-of-line-requires c κs = (omega arith, omega arith, omega (arith, blank-length))
 
-sub-left : tie.Need-overflow-sub-left invariant-loop decreases-loop
+sub-left : tie.Need-overflow_sub-left invariant-loop decreases-loop
 sub-left c = omega arith
 
 loop-less : tie.Need-loop-smaller invariant-loop decreases-loop
@@ -43,8 +43,8 @@ same_length c = c.before.loop.invariant.ahead.size
 returns : tie.Need-returns invariant-loop decreases-loop
 returns c = going_end c.before.loop.invariant (omega arith)
 
-pub further-lines-spec : {M : Type 1} → statement M
-further-lines-spec =
+pub further_lines_spec : {M : Type 1} → statement M
+further_lines_spec =
     tie.close
     (tie.spec
     invariant-loop

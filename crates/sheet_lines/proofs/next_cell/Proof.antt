@@ -11,7 +11,7 @@ next-related-requires c κs = search rules
 cell-requires : tie.Need-cell-requires
 cell-requires c κs = search rules
 
-add-t12 : tie.Need-overflow-add-t12
+add-t12 : tie.Need-overflow_add-t12
 add-t12 c = search rules
 
 same_length : tie.Need-same-length
@@ -31,8 +31,8 @@ returns-2 : tie.Need-returns-2
 returns-2 c =
     none-taken c.before.before.before.before.before.next-related.ensures (omega arith) (omega arith) c.before.before.blank.ensures
 
-pub next-cell-spec : {M : Type 1} → statement M
-next-cell-spec =
+pub next_cell_spec : {M : Type 1} → statement M
+next_cell_spec =
     tie.close
     (tie.spec
     next-related-requires

@@ -19,7 +19,7 @@ loop-holds c = filling-start (omega arith) (omega arith)
 next-cell-requires : tie.Need-next-cell-requires invariant-loop decreases-loop
 next-cell-requires c κs = (omega arith, omega arith, omega arith)
 
-sub-left : tie.Need-overflow-sub-left invariant-loop decreases-loop
+sub-left : tie.Need-overflow_sub-left invariant-loop decreases-loop
 sub-left c = omega arith
 
 loop-less : tie.Need-loop-smaller invariant-loop decreases-loop
@@ -37,8 +37,8 @@ same_length c = omega arith
 returns : tie.Need-returns invariant-loop decreases-loop
 returns c = filling-end c.before.before.before.before.before.loop.invariant (omega arith) refl c.before.before.byte.ensures
 
-pub rest-of-line-spec : {M : Type 1} → statement M
-rest-of-line-spec =
+pub rest_of_line_spec : {M : Type 1} → statement M
+rest_of_line_spec =
     tie.close
     (tie.spec
     invariant-loop

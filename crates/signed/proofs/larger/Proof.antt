@@ -16,5 +16,5 @@ returns-2 c =
     let f = c.before.ranges in
     rw (to_z-of_z f.a) (first-larger _ _ (ap₂ lt_z (sym (to_z-of_z f.a)) (sym (to_z-of_z f.b)) ∙ c.if1.false))
 
-pub larger-spec : {M : Type 1} → statement M
-larger-spec = tie.close (tie.spec returns returns-2)
+pub larger_spec : {M : Type 1} → statement M
+larger_spec = tie.close (tie.spec returns returns-2)

@@ -5,13 +5,13 @@ use Rattle.signed.specs.TermsLaws.{term_is, term_fits, with-term-fits, with-term
 use Rattle.signed.proofs.with_term.Statement.{statement}
 use Rattle.signed.proofs.with_term.Tie as tie
 
-cast-result : tie.Need-overflow-cast-result
+cast-result : tie.Need-overflow_cast-result
 cast-result c = search rules
 
-mul-result : tie.Need-overflow-mul-result
+mul-result : tie.Need-overflow_mul-result
 mul-result c = rw (to_z-of_z c.ranges.factor, term_is c.requires) (term_fits c.requires)
 
-add-result : tie.Need-overflow-add-result
+add-result : tie.Need-overflow_add-result
 add-result c =
     rw (to_z-of_z (mul-result c), to_z-of_z c.ranges.sum, to_z-of_z c.ranges.factor, term_is c.requires) (with-term-fits c.requires)
 
@@ -20,5 +20,5 @@ returns c =
     rw (to_z-of_z (add-result c), to_z-of_z (mul-result c), to_z-of_z c.ranges.sum, to_z-of_z c.ranges.factor, term_is c.requires)
     (with-term c.requires)
 
-pub with-term-spec : {M : Type 1} → statement M
-with-term-spec = tie.close (tie.spec cast-result mul-result add-result returns)
+pub with_term_spec : {M : Type 1} → statement M
+with_term_spec = tie.close (tie.spec cast-result mul-result add-result returns)

@@ -24,7 +24,7 @@ returns c = shown-low c.before.before.before.loop.invariant (omega arith) (omega
 returns-2 : tie.Need-returns-2 invariant-loop decreases-loop
 returns-2 c = shown-high c.before.before.before.before.loop.invariant (omega arith) (omega arith)
 
-add_at : tie.Need-overflow-add-at invariant-loop decreases-loop
+add_at : tie.Need-overflow_add-at invariant-loop decreases-loop
 add_at c = omega arith
 
 loop-less : tie.Need-loop-smaller invariant-loop decreases-loop
@@ -36,8 +36,8 @@ loop-again c = shown-next c.before.before.before.before.loop.invariant (omega ar
 returns-3 : tie.Need-returns-3 invariant-loop decreases-loop
 returns-3 c = shown-end c.before.loop.invariant (omega arith)
 
-pub is-name-spec : {M : Type 1} → statement M
-is-name-spec =
+pub is_name_spec : {M : Type 1} → statement M
+is_name_spec =
     tie.close
     (tie.spec
     invariant-loop

@@ -27,8 +27,8 @@ digits-requires-2 c κs = search rules
 returns-4 : tie.Need-returns-4
 returns-4 c = c.digits2.ensures ∙ number_more _ _ (omega arith) c.before.if3.false
 
-pub number-spec : {M : Type 1} → statement M
-number-spec =
+pub number_spec : {M : Type 1} → statement M
+number_spec =
     tie.close
     (tie.spec
     returns

@@ -21,7 +21,7 @@ shared-slice-read-if1 c = omega arith
 returns : tie.Need-returns invariant-loop decreases-loop
 returns c = parts-here c.before.before.before.loop.invariant (λ h. c.if1.true)
 
-add_at : tie.Need-overflow-add-at invariant-loop decreases-loop
+add_at : tie.Need-overflow_add-at invariant-loop decreases-loop
 add_at c = omega arith
 
 loop-less : tie.Need-loop-smaller invariant-loop decreases-loop
@@ -33,8 +33,8 @@ loop-again c = parts-not c.before.before.before.loop.invariant (omega arith) c.i
 returns-2 : tie.Need-returns-2 invariant-loop decreases-loop
 returns-2 c = parts-here c.before.loop.invariant (λ h. absurd (omega arith))
 
-pub piece-end-spec : {M : Type 1} → statement M
-piece-end-spec =
+pub piece_end_spec : {M : Type 1} → statement M
+piece_end_spec =
     tie.close
     (tie.spec
     invariant-loop

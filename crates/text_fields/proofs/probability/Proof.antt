@@ -41,8 +41,8 @@ scaled-requires c κs = (digits-most _ _ _ c.digits.ensures, omega arith, omega 
 returns-7 : tie.Need-returns-7
 returns-7 c = parts-scaled _ (omega arith) (omega arith) c.before.before.before.before.if5.false c.before.before.if6.false c.before.digits.ensures c.scaled.ensures
 
-pub probability-spec : {M : Type 1} → statement M
-probability-spec =
+pub probability_spec : {M : Type 1} → statement M
+probability_spec =
     tie.close
     (tie.spec
     shared-slice-read-if2

@@ -27,7 +27,7 @@ shared-slice-read-if2-2 c = omega arith
 returns-2 : tie.Need-returns-2 invariant-loop decreases-loop
 returns-2 c = same_not c.before.before.before.before.loop.invariant (omega arith) c.if2.true
 
-add_at : tie.Need-overflow-add-at invariant-loop decreases-loop
+add_at : tie.Need-overflow_add-at invariant-loop decreases-loop
 add_at c = omega arith
 
 loop-less : tie.Need-loop-smaller invariant-loop decreases-loop

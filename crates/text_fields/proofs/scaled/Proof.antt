@@ -9,13 +9,13 @@ use Rattle.text_fields.proofs.scaled.Tie as tie
 returns : tie.Need-returns
 returns c = same _ (omega arith) refl
 
-mul-result : tie.Need-overflow-mul-result
+mul-result : tie.Need-overflow_mul-result
 mul-result c = omega arith
 
-mul-result-2 : tie.Need-overflow-mul-result-2
+mul-result-2 : tie.Need-overflow_mul-result-2
 mul-result-2 c = omega arith
 
-mul-result-3 : tie.Need-overflow-mul-result-3
+mul-result-3 : tie.Need-overflow_mul-result-3
 mul-result-3 c = omega arith
 
 returns-2 : tie.Need-returns-2
@@ -30,7 +30,7 @@ returns-4 c = scaled-as _ _ 5 c.before.if1.false (omega arith)
 returns-5 : tie.Need-returns-5
 returns-5 c = omega arith ∙ scaled-as _ _ 6 c.before.if1.false (omega arith)
 
-pub scaled-spec : {M : Type 1} → statement M
-scaled-spec =
+pub scaled_spec : {M : Type 1} → statement M
+scaled_spec =
     tie.close
     (tie.spec returns mul-result mul-result-2 mul-result-3 returns-2 returns-3 returns-4 returns-5)

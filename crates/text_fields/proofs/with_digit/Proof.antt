@@ -10,10 +10,10 @@ returns c = digit_low _ _ _ (omega arith)
 returns-2 : tie.Need-returns-2
 returns-2 c = digit-high _ _ _ (omega arith)
 
-mul-value : tie.Need-overflow-mul-value
+mul-value : tie.Need-overflow_mul-value
 mul-value c = omega arith
 
-add-value : tie.Need-overflow-add-value
+add-value : tie.Need-overflow_add-value
 add-value c = omega arith
 
 returns-3 : tie.Need-returns-3
@@ -22,5 +22,5 @@ returns-3 c = digit-read _ _ _ (omega arith) (omega arith) (omega arith)
 returns-4 : tie.Need-returns-4
 returns-4 c = digit-many _ _ _ (omega arith) (omega arith) (omega arith)
 
-pub with-digit-spec : {M : Type 1} → statement M
-with-digit-spec = tie.close (tie.spec returns returns-2 mul-value add-value returns-3 returns-4)
+pub with_digit_spec : {M : Type 1} → statement M
+with_digit_spec = tie.close (tie.spec returns returns-2 mul-value add-value returns-3 returns-4)

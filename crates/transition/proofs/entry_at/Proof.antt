@@ -20,5 +20,5 @@ returns c =
       next = omega arith;
     }
 
-pub entry-at-spec : {M : Type 1} → statement M
-entry-at-spec = tie.close (tie.spec byte-requires pair-requires returns)
+pub entry_at_spec : {M : Type 1} → statement M
+entry_at_spec = tie.close (tie.spec byte-requires pair-requires returns)

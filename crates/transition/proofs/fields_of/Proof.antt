@@ -6,7 +6,7 @@ use Rattle.transition.specs.KnownLaws.{place-known, place-in-table, fixed-inside
 use Rattle.transition.proofs.fields_of.Statement.{statement}
 use Rattle.transition.proofs.fields_of.Tie as tie
 
-mul-fields-at : tie.Need-overflow-mul-fields-at
+mul-fields-at : tie.Need-overflow_mul-fields-at
 mul-fields-at c = omega (arith, place-in-table c.before.requires, c.before.requires.known.size)
 
 element-copy-out-fields-at : tie.Need-element-copy-out-fields-at
@@ -18,6 +18,6 @@ fields-at-requires c κs = omega (arith, place-known c.before.before.requires, f
 returns : tie.Need-returns
 returns c = fields-known c.before.before.before.requires c.fields_at.ensures (omega (arith, place-known c.before.before.before.requires))
 
-pub fields-of-spec : {M : Type 1} → statement M
-fields-of-spec =
+pub fields_of_spec : {M : Type 1} → statement M
+fields_of_spec =
     tie.close (tie.spec mul-fields-at element-copy-out-fields-at fields-at-requires returns)

@@ -30,7 +30,7 @@ decreases-loop s n count places₀ place₀ r₀ places place r = count - r
 no-places-requires : tie.Need-no-places-requires invariant-loop decreases-loop
 no-places-requires c κs = search rules
 
-add-place : tie.Need-overflow-add-place invariant-loop decreases-loop
+add-place : tie.Need-overflow_add-place invariant-loop decreases-loop
 add-place c = omega (arith, few-states c.before.before.requires.known)
 
 loop-holds : tie.Need-loop-init invariant-loop decreases-loop
@@ -43,7 +43,7 @@ loop-holds c =
       size = sym c.no-places.ensures;
     }
 
-mul-places : tie.Need-overflow-mul-places invariant-loop decreases-loop
+mul-places : tie.Need-overflow_mul-places invariant-loop decreases-loop
 mul-places c = omega (arith, few-transitions c.before.before.before.before.requires.known)
 
 array-write-places : tie.Need-array-write-places invariant-loop decreases-loop
@@ -52,7 +52,7 @@ array-write-places c = omega (arith, few-transitions c.before.before.before.befo
 after-transition-requires : tie.Need-after-transition-requires invariant-loop decreases-loop
 after-transition-requires c κs = let start = c.before.before.before.before in let s = start.args.s.now in let l = c.before.loop in omega (arith, ap (after_transition s) l.invariant.here, start.requires.known.records l.r (omega arith))
 
-add_r : tie.Need-overflow-add-r invariant-loop decreases-loop
+add_r : tie.Need-overflow_add-r invariant-loop decreases-loop
 add_r c = omega (arith, few-transitions c.before.before.before.before.before.requires.known)
 
 loop-less : tie.Need-loop-smaller invariant-loop decreases-loop
@@ -71,7 +71,7 @@ loop-again c =
       size = length-set l.places l.r l.place ∙ l.invariant.size;
     }
 
-mul-places-2 : tie.Need-overflow-mul-places-2 invariant-loop decreases-loop
+mul-places-2 : tie.Need-overflow_mul-places-2 invariant-loop decreases-loop
 mul-places-2 c = omega (arith, few-transitions c.before.before.before.before.requires.known)
 
 array-write-places-2 : tie.Need-array-write-places-2 invariant-loop decreases-loop
@@ -88,8 +88,8 @@ returns c =
     (one-more-held s l.places start.args.count l.place (subst (λ (k : ℕ). PlacesHeld s k l.places) end l.invariant.held) (omega (arith, l.invariant.size, few)) (l.invariant.here ∙ ap (place_of s) end))
     (length-set l.places start.args.count l.place ∙ l.invariant.size)
 
-pub places-of-spec : {M : Type 1} → statement M
-places-of-spec =
+pub places_of_spec : {M : Type 1} → statement M
+places_of_spec =
     tie.close
     (tie.spec
     invariant-loop

@@ -56,13 +56,13 @@ refusal-requires-2 c κs = search rules
 returns-2 : tie.Need-returns-2 invariant-loop decreases-loop
 returns-2 c = refused (c.refusal2.ensures ∙ entry-empty _ _ _ _ _ _ _ _ c.before.before.before.before.before.before.loop.invariant.2 (omega arith) (omega arith) (omega (arith, taken_at c.before.before.before.pair.ensures (c.before.before.before.before.before.before.loop.place.at + 1) (omega arith)))) (omega (arith, ap number c.refusal2.ensures))
 
-add-lowest : tie.Need-overflow-add-lowest invariant-loop decreases-loop
+add-lowest : tie.Need-overflow_add-lowest invariant-loop decreases-loop
 add-lowest c = omega arith
 
-add_total : tie.Need-overflow-add-total invariant-loop decreases-loop
+add_total : tie.Need-overflow_add-total invariant-loop decreases-loop
 add_total c = omega arith
 
-sub-unread : tie.Need-overflow-sub-unread invariant-loop decreases-loop
+sub-unread : tie.Need-overflow_sub-unread invariant-loop decreases-loop
 sub-unread c = omega arith
 
 loop-less : tie.Need-loop-smaller invariant-loop decreases-loop
@@ -101,8 +101,8 @@ returns-5 c =
     let l = c.before.before.before.before.loop in
     record { fault = c.none.ensures ∙ same _ (omega arith) refl ∙ entries-end _ _ _ _ _ _ _ _ l.invariant.2 (omega arith) (omega arith); next = λ z. omega arith }
 
-pub entries-at-spec : {M : Type 1} → statement M
-entries-at-spec =
+pub entries_at_spec : {M : Type 1} → statement M
+entries_at_spec =
     tie.close
     (tie.spec
     invariant-loop

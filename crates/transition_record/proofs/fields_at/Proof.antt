@@ -6,7 +6,7 @@ use borrow.Author.Rules.{rules}
 use Rattle.transition_record.proofs.fields_at.Statement.{statement}
 use Rattle.transition_record.proofs.fields_at.Tie as tie
 
-add-new : tie.Need-overflow-add-new
+add-new : tie.Need-overflow_add-new
 add-new c = search rules
 
 new-requires : tie.Need-new-requires
@@ -37,8 +37,8 @@ returns c =
       entries = omega arith;
     }
 
-pub fields-at-spec : {M : Type 1} → statement M
-fields-at-spec =
+pub fields_at_spec : {M : Type 1} → statement M
+fields_at_spec =
     tie.close
     (tie.spec
     add-new

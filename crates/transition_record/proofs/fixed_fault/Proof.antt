@@ -5,7 +5,7 @@ use borrow.Author.Rules.{rules}
 use Rattle.transition_record.proofs.fixed_fault.Statement.{statement}
 use Rattle.transition_record.proofs.fixed_fault.Tie as tie
 
-add-new : tie.Need-overflow-add-new
+add-new : tie.Need-overflow_add-new
 add-new c = search rules
 
 new-requires : tie.Need-new-requires
@@ -80,7 +80,7 @@ returns-6 c =
     let first = second.before.before.before in
     too_many _ _ _ _ _ _ _ first.before.new.ensures first.byte.ensures second.before.before.if1.false second.before.if2.false second.byte2.ensures third.before.if3.false third.pair.ensures fourth.before.if4.false fourth.byte3.ensures c.before.before.if5.false c.before.if6.true c.refusal6.ensures
 
-add-if7 : tie.Need-overflow-add-if7
+add-if7 : tie.Need-overflow_add-if7
 add-if7 c = search rules
 
 refusal-requires-7 : tie.Need-refusal-requires-7
@@ -105,8 +105,8 @@ returns-8 c =
     let first = second.before.before.before in
     stand _ _ _ _ _ _ _ first.before.new.ensures first.byte.ensures second.before.before.if1.false second.before.if2.false second.byte2.ensures third.before.if3.false third.pair.ensures fourth.before.if4.false fourth.byte3.ensures c.before.before.before.if5.false c.before.before.if6.false c.before.if7.false c.none.ensures
 
-pub fixed-fault-spec : {M : Type 1} → statement M
-fixed-fault-spec =
+pub fixed_fault_spec : {M : Type 1} → statement M
+fixed_fault_spec =
     tie.close
     (tie.spec
     add-new

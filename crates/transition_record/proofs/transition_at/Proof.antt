@@ -33,13 +33,13 @@ fields-at-requires c κs =
     let opens = passed.before.before.open-model in
     fixed-whole _ _ opens.result opens.ensures passed.if1.false
 
-sub-if3 : tie.Need-overflow-sub-if3
+sub-if3 : tie.Need-overflow_sub-if3
 sub-if3 c =
     let passed = c.before.before.before.before in
     let opens = passed.before.before.open-model in
     omega (arith, fixed-whole _ _ opens.result opens.ensures passed.if1.false)
 
-mul-if3 : tie.Need-overflow-mul-if3
+mul-if3 : tie.Need-overflow_mul-if3
 mul-if3 c = search rules
 
 refusal-requires : tie.Need-refusal-requires
@@ -93,8 +93,8 @@ returns-4 c =
     read.entries_at.result read.entries_at.ensures (omega (arith, fixed-whole _ _ opens.result opens.ensures passed.if1.false))
     c.before.before.before.terms-fault.result c.before.first_of.result _ c.before.before.before.terms-fault.ensures c.before.first_of.ensures c.at.ensures
 
-pub transition-at-spec : {M : Type 1} → statement M
-transition-at-spec =
+pub transition_at_spec : {M : Type 1} → statement M
+transition_at_spec =
     tie.close
     (tie.spec
     open-model-requires

@@ -22,7 +22,7 @@ decreases-loop s count left₀ place₀ shared₀ left place shared = left
 loop-holds : tie.Need-loop-init invariant-loop decreases-loop
 loop-holds c = (omega arith, refl)
 
-add-new : tie.Need-overflow-add-new invariant-loop decreases-loop
+add-new : tie.Need-overflow_add-new invariant-loop decreases-loop
 add-new c = omega arith
 
 new-requires : tie.Need-new-requires invariant-loop decreases-loop
@@ -39,7 +39,7 @@ returns c =
     let l = c.before.before.before.before.before.before.loop in
     settled _ _ _ _ _ l.invariant.1 (omega arith) _ _ (taken_at c.before.before.pair.ensures (l.place.at + 1) (omega arith)) c.before.with-weight.ensures (omega arith)
 
-sub-left : tie.Need-overflow-sub-left invariant-loop decreases-loop
+sub-left : tie.Need-overflow_sub-left invariant-loop decreases-loop
 sub-left c = omega arith
 
 loop-less : tie.Need-loop-smaller invariant-loop decreases-loop
@@ -53,8 +53,8 @@ loop-again c =
 returns-2 : tie.Need-returns-2 invariant-loop decreases-loop
 returns-2 c = sym (weights-end _ _ _ _ (omega arith)) ∙ c.before.loop.invariant.1
 
-pub divisor-of-spec : {M : Type 1} → statement M
-divisor-of-spec =
+pub divisor_of_spec : {M : Type 1} → statement M
+divisor_of_spec =
     tie.close
     (tie.spec
     invariant-loop

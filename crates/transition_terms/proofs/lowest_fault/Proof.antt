@@ -20,5 +20,5 @@ none-requires c κs = search rules
 returns-2 : tie.Need-returns-2
 returns-2 c = is_one _ _ _ _ (omega arith) c.none.ensures
 
-pub lowest-fault-spec : {M : Type 1} → statement M
-lowest-fault-spec = tie.close (tie.spec divisor-of-requires refusal-requires returns none-requires returns-2)
+pub lowest_fault_spec : {M : Type 1} → statement M
+lowest_fault_spec = tie.close (tie.spec divisor-of-requires refusal-requires returns none-requires returns-2)

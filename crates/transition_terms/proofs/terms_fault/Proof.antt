@@ -22,7 +22,7 @@ returns c = any-judged _ _ _ _ _ c.before.enum_told.given.1 c.none.ensures
 returns-2 : tie.Need-returns-2
 returns-2 c = lowest-judged _ _ _ _ _ c.before.enum-told2.given.1 c.lowest-fault.ensures
 
-pub terms-fault-spec : {M : Type 1} → statement M
-terms-fault-spec =
+pub terms_fault_spec : {M : Type 1} → statement M
+terms_fault_spec =
     tie.close
     (tie.spec enum_told none-requires enum-told-2 lowest-fault-requires returns returns-2)

@@ -27,5 +27,5 @@ divisor-requires c κs = search rules
 returns-3 : tie.Need-returns-3
 returns-3 c = search rules
 
-pub with-weight-spec : {M : Type 1} → statement M
-with-weight-spec = tie.close (tie.spec returns returns-2 divisor-requires returns-3)
+pub with_weight_spec : {M : Type 1} → statement M
+with_weight_spec = tie.close (tie.spec returns returns-2 divisor-requires returns-3)

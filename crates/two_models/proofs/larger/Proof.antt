@@ -14,5 +14,5 @@ returns-2 : tie.Need-returns-2
 unfolding joined.larger
 returns-2 c = not_less _ (omega arith) refl
 
-pub larger-spec : {M : Type 1} → statement M
-larger-spec = tie.close (tie.spec returns returns-2)
+pub larger_spec : {M : Type 1} → statement M
+larger_spec = tie.close (tie.spec returns returns-2)

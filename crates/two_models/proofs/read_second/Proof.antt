@@ -34,8 +34,8 @@ returns-2 c =
     let told = refused-told current_terms _ scan.scan-file.ensures _ c.before.before.read2.given.1 in
     refused-second _ _ _ scan.before.before.before.before.requires.0 told.0 told.1 (refusal-as _ 3 _ _ c.refusal-in.ensures (omega arith) (omega arith))
 
-pub read-second-spec : {M : Type 1} → statement M
-read-second-spec =
+pub read_second_spec : {M : Type 1} → statement M
+read_second_spec =
     tie.close
     (tie.spec
     scan-file-requires

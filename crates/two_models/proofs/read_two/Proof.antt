@@ -37,8 +37,8 @@ returns-2 c =
     let told = refused-told current_terms _ scan.scan-file.ensures _ c.before.before.scanned2.given.1 in
     refused-first _ _ _ told.0 told.1 (refusal-as _ 1 _ _ c.refusal-in.ensures (omega arith) (omega arith))
 
-pub read-two-spec : {M : Type 1} → statement M
-read-two-spec =
+pub read_two_spec : {M : Type 1} → statement M
+read_two_spec =
     tie.close
     (tie.spec
     scan-file-requires

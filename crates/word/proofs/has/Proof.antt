@@ -5,11 +5,11 @@ use borrow.Author.Rules.{rules}
 use Rattle.word.proofs.has.Statement.{statement}
 use Rattle.word.proofs.has.Tie as tie
 
-shr-result : tie.Need-overflow-shr-result
+shr-result : tie.Need-overflow_shr-result
 shr-result c = search rules
 
 returns : tie.Need-returns
 returns c = bit_of-tested _ _ _ _ (omega arith) (omega arith)
 
-pub has-spec : {M : Type 1} → statement M
-has-spec = tie.close (tie.spec shr-result returns)
+pub has_spec : {M : Type 1} → statement M
+has_spec = tie.close (tie.spec shr-result returns)

@@ -6,11 +6,11 @@ use borrow.Author.Rules.{rules}
 use Rattle.word.proofs.with.Statement.{statement}
 use Rattle.word.proofs.with.Tie as tie
 
-shl-result : tie.Need-overflow-shl-result
+shl-result : tie.Need-overflow_shl-result
 shl-result c = search rules
 
 returns : tie.Need-returns
 returns c = set_bit-or word_bits _ _ (omega arith)
 
-pub with-spec : {M : Type 1} → statement M
-with-spec = tie.close (tie.spec shl-result returns)
+pub with_spec : {M : Type 1} → statement M
+with_spec = tie.close (tie.spec shl-result returns)

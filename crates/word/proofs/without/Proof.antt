@@ -6,11 +6,11 @@ use borrow.Author.Rules.{rules}
 use Rattle.word.proofs.without.Statement.{statement}
 use Rattle.word.proofs.without.Tie as tie
 
-shl-result : tie.Need-overflow-shl-result
+shl-result : tie.Need-overflow_shl-result
 shl-result c = search rules
 
 returns : tie.Need-returns
 returns c = clear_bit-and word_bits _ _ _ (omega arith) (omega arith) (omega arith)
 
-pub without-spec : {M : Type 1} → statement M
-without-spec = tie.close (tie.spec shl-result returns)
+pub without_spec : {M : Type 1} → statement M
+without_spec = tie.close (tie.spec shl-result returns)

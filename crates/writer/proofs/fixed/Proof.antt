@@ -19,5 +19,5 @@ returns : tie.Need-returns
 unfolding two_bytes
 returns c = append-more c.before.before.before.before.before.before.start.ensures c.before.before.byte.ensures
 
-pub fixed-spec : {M : Type 1} → statement M
-fixed-spec = tie.close (tie.spec start-requires byte-requires same_length returns)
+pub fixed_spec : {M : Type 1} → statement M
+fixed_spec = tie.close (tie.spec start-requires byte-requires same_length returns)

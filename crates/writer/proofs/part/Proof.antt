@@ -5,10 +5,10 @@ use borrow.Author.Rules.{rules}
 use Rattle.writer.proofs.part.Statement.{statement}
 use Rattle.writer.proofs.part.Tie as tie
 
-add-next : tie.Need-overflow-add-next
+add-next : tie.Need-overflow_add-next
 add-next c = search rules
 
-sub-copy : tie.Need-overflow-sub-copy
+sub-copy : tie.Need-overflow_sub-copy
 sub-copy c = search rules
 
 part-copy-start : tie.Need-slice-bounds-copy-start
@@ -26,7 +26,7 @@ same_length c = search rules
 returns : tie.Need-returns
 returns c = append-part _ _ _ _ (omega arith) (omega (arith, c.before.before.before.before.before.before.requires)) c.before.before.copy.ensures.1
 
-pub part-spec : {M : Type 1} → statement M
-part-spec =
+pub part_spec : {M : Type 1} → statement M
+part_spec =
     tie.close
     (tie.spec add-next sub-copy part-copy-start part-copy-end copy-requires same_length returns)

@@ -20,5 +20,5 @@ returns : tie.Need-returns
 unfolding four_bytes
 returns c = append-more c.before.before.before.before.before.before.pair.ensures c.before.before.pair2.ensures
 
-pub quad-spec : {M : Type 1} → statement M
-quad-spec = tie.close (tie.spec pair-requires pair-requires-2 same_length returns)
+pub quad_spec : {M : Type 1} → statement M
+quad_spec = tie.close (tie.spec pair-requires pair-requires-2 same_length returns)

@@ -27,6 +27,6 @@ returns c =
     let start = labels.before.before.before.before in
     append-model refl start.head.ensures labels.part.ensures records.part2.ensures
 
-pub write-model-spec : {M : Type 1} → statement M
-write-model-spec =
+pub write_model_spec : {M : Type 1} → statement M
+write_model_spec =
     tie.close (tie.spec head-requires part-requires part-requires-2 same_length returns)

@@ -19,5 +19,5 @@ returns c =
     let e = answer.before.before.before in
     sentence-as (ap (told e.args.number e.args.file e.args.place e.args.state) (to_z-of_z e.ranges.remainder)) answer.sentence-answer.ensures
 
-pub zolkirta-sentence-spec : {M : Type 1} → statement M
-zolkirta-sentence-spec = tie.close (tie.spec sentence-answer-requires same_length returns)
+pub zolkirta_sentence_spec : {M : Type 1} → statement M
+zolkirta_sentence_spec = tie.close (tie.spec sentence-answer-requires same_length returns)

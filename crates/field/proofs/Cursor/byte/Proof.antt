@@ -11,12 +11,12 @@ shared-slice-read-wide c = search rules
 wide-requires : tie.Need-wide-requires
 wide-requires c κs = search rules
 
-add-t7 : tie.Need-overflow-add-t7
+add-t7 : tie.Need-overflow_add-t7
 add-t7 c = search rules
 
 returns : tie.Need-returns
 unfolding byte_at
 returns c = omega arith
 
-pub byte-spec : {M : Type 1} → statement M
-byte-spec = tie.close (tie.spec shared-slice-read-wide wide-requires add-t7 returns)
+pub byte_spec : {M : Type 1} → statement M
+byte_spec = tie.close (tie.spec shared-slice-read-wide wide-requires add-t7 returns)

@@ -5,7 +5,7 @@ use borrow.Author.Rules.{rules}
 use Rattle.field.proofs.Cursor.pair.Statement.{statement}
 use Rattle.field.proofs.Cursor.pair.Tie as tie
 
-add_low : tie.Need-overflow-add-low
+add_low : tie.Need-overflow_add-low
 add_low c = search rules
 
 shared-slice-read-wide : tie.Need-shared-slice-read-wide
@@ -14,7 +14,7 @@ shared-slice-read-wide c = search rules
 wide-requires : tie.Need-wide-requires
 wide-requires c κs = search rules
 
-mul-t8 : tie.Need-overflow-mul-t8
+mul-t8 : tie.Need-overflow_mul-t8
 mul-t8 c = search rules
 
 shared-slice-read-wide-2 : tie.Need-shared-slice-read-wide-2
@@ -23,10 +23,10 @@ shared-slice-read-wide-2 c = search rules
 wide-requires-2 : tie.Need-wide-requires-2
 wide-requires-2 c κs = search rules
 
-add-t12 : tie.Need-overflow-add-t12
+add-t12 : tie.Need-overflow_add-t12
 add-t12 c = search rules
 
-add-t13 : tie.Need-overflow-add-t13
+add-t13 : tie.Need-overflow_add-t13
 add-t13 c = search rules
 
 returns : tie.Need-returns

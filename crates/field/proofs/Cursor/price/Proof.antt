@@ -10,7 +10,7 @@ use Rattle.field.proofs.Cursor.price.Tie as tie
 quad-requires : tie.Need-quad-requires
 quad-requires c κs = search rules
 
-add-lowered : tie.Need-overflow-add-lowered
+add-lowered : tie.Need-overflow_add-lowered
 add-lowered c = search rules
 
 lowered-requires : tie.Need-lowered-requires
@@ -21,5 +21,5 @@ returns c =
     rw (to_z-of_z {w = w64} {z = c.lowered.result} (record { sfits = omega arith }))
     (record { value = signed-four _ _ _ c.lowered.ensures.small (omega arith); small = omega arith; next = omega arith })
 
-pub price-spec : {M : Type 1} → statement M
-price-spec = tie.close (tie.spec quad-requires add-lowered lowered-requires returns)
+pub price_spec : {M : Type 1} → statement M
+price_spec = tie.close (tie.spec quad-requires add-lowered lowered-requires returns)

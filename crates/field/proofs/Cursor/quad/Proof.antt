@@ -12,13 +12,13 @@ pair-requires c κs = search rules
 pair-requires-2 : tie.Need-pair-requires-2
 pair-requires-2 c κs = search rules
 
-mul-t7 : tie.Need-overflow-mul-t7
+mul-t7 : tie.Need-overflow_mul-t7
 mul-t7 c = search rules
 
-add-t8 : tie.Need-overflow-add-t8
+add-t8 : tie.Need-overflow_add-t8
 add-t8 c = search rules
 
-add-t9 : tie.Need-overflow-add-t9
+add-t9 : tie.Need-overflow_add-t9
 add-t9 c = search rules
 
 returns : tie.Need-returns
@@ -26,5 +26,5 @@ unfolding four_at
 returns c =
     omega (arith, taken_at c.before.before.pair2.ensures _ c.before.before.before.before.pair.ensures.next)
 
-pub quad-spec : {M : Type 1} → statement M
-quad-spec = tie.close (tie.spec pair-requires pair-requires-2 mul-t7 add-t8 add-t9 returns)
+pub quad_spec : {M : Type 1} → statement M
+quad_spec = tie.close (tie.spec pair-requires pair-requires-2 mul-t7 add-t8 add-t9 returns)

@@ -13,7 +13,7 @@ use rule_kind::Kind;
 
 // What the call answers, and what it says: 1 for yes, 0 for no.
 #[repr(C)]
-#[derive(Drop)]
+#[derive(Clone, Copy)]
 pub struct AlikeAnswer {
     pub answer: Answer,
     pub alike: u32,

@@ -14,7 +14,7 @@ use fault::Fault;
 // fetch, starts in its file and how long it is; how many bytes were written into the (first) lent buffer; and for 16, 20 and 21 the state at which
 // an equation or the last price condition breaks, with its left side less its right.
 #[repr(C)]
-#[derive(Drop)]
+#[derive(Clone, Copy)]
 pub struct Answer {
     pub number: u32,
     pub file: u32,
@@ -28,7 +28,7 @@ pub struct Answer {
 
 // What a call that lends two buffers answers: beside the answer, how many bytes were written into the second.
 #[repr(C)]
-#[derive(Drop)]
+#[derive(Clone, Copy)]
 pub struct PairAnswer {
     pub answer: Answer,
     pub certificate_written: usize,

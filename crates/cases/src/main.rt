@@ -111,7 +111,7 @@ fn alike_and_print(
 }
 
 // The numbers of a case, as its call is given them.
-#[derive(Drop)]
+#[derive(Clone, Copy)]
 struct Numbers {
     first: u32,
     second: u32,

@@ -20,7 +20,7 @@ use pairs::Rows;
 use rule_kind::Kind;
 
 // What the refutations come to: the fault of one, and where there is none the cursor past them.
-#[derive(Drop)]
+#[derive(Clone, Copy)]
 struct Passed {
     fault: Fault,
     next: Cursor,

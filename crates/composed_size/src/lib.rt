@@ -21,7 +21,7 @@ use transition_record::Fields;
 const DENOMINATOR: usize = 65535;
 
 // So many transitions and entries, and so many transitions with a denominator that is more than its field holds.
-#[derive(Drop)]
+#[derive(Clone, Copy)]
 pub struct Sizes {
     pub transitions: usize,
     pub entries: usize,

@@ -12,7 +12,7 @@ ghost use Rattle.composed_states.specs.Own.{own_record, own_records, CanWriteOwn
 use model::{Model, Places};
 
 // The transitions that leave a state: from `first` on, and `past` is the one after them.
-#[derive(Drop)]
+#[derive(Clone, Copy)]
 pub struct Run {
     pub state: usize,
     pub first: usize,

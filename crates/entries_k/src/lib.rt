@@ -14,7 +14,7 @@ use rule_kind::Kind;
 
 // What the k entries come to: whether all of them are good; and where they are, how many remainders are not zero then, the sum of k times d
 // times cost, and the cursor past them.
-#[derive(Drop)]
+#[derive(Clone, Copy)]
 pub struct Taken {
     pub good: bool,
     pub nonzero: usize,

@@ -11,7 +11,7 @@ use remainders::Remainders;
 
 // What the w entries come to: whether all of them are good; and where they are, how many remainders of each table are not zero then, and the
 // cursor past them.
-#[derive(Drop)]
+#[derive(Clone, Copy)]
 pub struct Matched {
     pub good: bool,
     pub nonzero: usize,

@@ -5,7 +5,7 @@ ghost use Rattle.std.specs.Prelude.{◌<◌, ◌≡◌};
 ghost use Rattle.rules.specs.definitions.Faults as rules;
 ghost use Rattle.fault.specs.Faults.{fault_of, Placed};
 
-#[derive(Drop)]
+#[derive(Clone, Copy)]
 pub struct Fault {
     // The number of the refusal, 0 for nothing.
     pub number: u32,

@@ -32,7 +32,7 @@ fn first_not_below(s: &[u8], state: usize, r: usize, count: usize, places: &Plac
     at
 }
 
-#[derive(Drop)]
+#[derive(Clone, Copy)]
 struct Run {
     start: usize,
     end: usize,
@@ -50,7 +50,7 @@ fn run_of(s: &[u8], state: usize, count: usize, places: &Places) -> Run
     }
 }
 
-#[derive(Drop)]
+#[derive(Clone, Copy)]
 enum Fetched {
     Found { start: usize, end: usize },
     NoState,

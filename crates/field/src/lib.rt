@@ -5,18 +5,18 @@ ghost use Rattle.std.specs.Prelude.{◌+◌, ◌<◌, length, ◌≡◌};
 ghost use Rattle.rules.specs.definitions.Bytes.{byte_at, two_at, four_at};
 ghost use Rattle.field.specs.Taken.{Taken, IsByte, IsLowered, Priced};
 
-#[derive(Drop)]
+#[derive(Clone, Copy)]
 pub struct Cursor {
     pub at: usize,
 }
 
-#[derive(Drop)]
+#[derive(Clone, Copy)]
 pub struct Field {
     pub value: usize,
     pub next: Cursor,
 }
 
-#[derive(Drop)]
+#[derive(Clone, Copy)]
 pub struct Price {
     pub value: i64,
     pub next: Cursor,

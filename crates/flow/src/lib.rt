@@ -19,14 +19,14 @@ use rule_kind::Kind;
 const MARK: usize = 0x464C;
 
 // What a flow record comes to: its fault, and where there is none the cursor past it.
-#[derive(Drop)]
+#[derive(Clone, Copy)]
 pub struct Met {
     pub fault: Fault,
     pub next: Cursor,
 }
 
 // D and the k count of a flow, and where its entries begin.
-#[derive(Drop)]
+#[derive(Clone, Copy)]
 struct Head {
     d: usize,
     entries: usize,

@@ -13,7 +13,7 @@ use pairs::Rows;
 use rule_kind::Kind;
 
 // The certificate is accepted, and its blocks stand at a place; or it is refused, by the fault of a record.
-#[derive(Drop)]
+#[derive(Clone, Copy)]
 pub enum Judged {
     Accepted { blocks: usize },
     Refused(Fault),

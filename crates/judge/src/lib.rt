@@ -19,7 +19,7 @@ fn write_blocks(blocks: &[u8], out: &mut [u8]) -> Answer
     requires { length blocks.now ≤ length out.old }
     ensures { Gives (filled (blocks.now ∷ []) (out.old ∷ [])) (out.new ∷ []) result }
 {
-    bytes::copy(blocks, out);
+    out[..blocks.len()].copy_from_slice(blocks);
     answer::without_place(0, blocks.len())
 }
 

@@ -16,7 +16,7 @@ use model::{Places, Scanned};
 use rule_kind::Kind;
 
 // What a judging call finds: the model's counts and where in the certificate the accepted blocks begin; or the answer of a refusal.
-#[derive(Drop)]
+#[derive(Clone, Copy)]
 pub enum Verdict {
     Accepted {
         states: usize,

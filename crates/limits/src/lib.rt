@@ -29,7 +29,7 @@ pub const ROW_WORDS: usize = 2 * STATES;
 pub const RECORDS: usize = 7 * TRANSITIONS + 3 * ENTRIES;
 
 // Which terms a model's transitions may be written in (document 02, K10).
-#[derive(Drop)]
+#[derive(Clone, Copy)]
 pub enum Terms {
     Any,
     Lowest,

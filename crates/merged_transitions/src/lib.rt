@@ -12,7 +12,7 @@ use merged_transition::Weights;
 use model::Places;
 
 // The transitions of the merged model: how many, and how many bytes their records have.
-#[derive(Drop)]
+#[derive(Clone, Copy)]
 pub struct Kept {
     pub count: usize,
     pub size: usize,

@@ -16,7 +16,7 @@ use limits::{PLACES, Terms};
 pub type Places = [usize; PLACES];
 
 // What the head of a sound model says, and where its records end.
-#[derive(Drop)]
+#[derive(Clone, Copy)]
 pub struct Model {
     pub states: usize,
     pub actions: usize,
@@ -24,7 +24,7 @@ pub struct Model {
     pub end: usize,
 }
 
-#[derive(Drop)]
+#[derive(Clone, Copy)]
 pub enum Scanned {
     Sound(Model),
     Refused(Fault),

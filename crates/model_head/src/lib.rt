@@ -16,7 +16,7 @@ const HEAD_MARK: usize = 0x5041;
 const LABELS_MARK: usize = 0x4C42;
 
 // The fields of the head.
-#[derive(Drop)]
+#[derive(Clone, Copy)]
 pub struct Head {
     pub states: usize,
     pub actions: usize,

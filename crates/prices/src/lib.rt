@@ -14,14 +14,14 @@ use limits::STATES;
 // A price has four bytes in its file, and in a table.
 pub type Prices = [i32; STATES];
 
-#[derive(Drop)]
+#[derive(Clone, Copy)]
 pub struct Sums {
     pub first: i64,
     pub second: i64,
 }
 
 // The sums so far, and the place past the entries that they are of.
-#[derive(Drop)]
+#[derive(Clone, Copy)]
 struct Running {
     first: i64,
     second: i64,

@@ -11,7 +11,7 @@ const SPACE: u8 = 0x20;
 
 // Source and choice are NO_NUMBER where the field is no number, or no space follows it; the ten-thousandths are 0 where the rest breaks the form. The
 // name is told by where it begins in the line, at the end where there is none.
-#[derive(Drop)]
+#[derive(Clone, Copy)]
 pub struct Line {
     pub source: usize,
     pub choice: usize,
@@ -82,7 +82,7 @@ pub fn read_line(s: &[u8]) -> Line
 }
 
 // A head line. No states where it breaks the form.
-#[derive(Drop)]
+#[derive(Clone, Copy)]
 pub struct Head {
     pub states: usize,
     pub choices: usize,

@@ -15,7 +15,7 @@ use prism_names::Names;
 // What has been read: lines, choices that ended and the bytes of their records, names; and of the choice that has begun, where `targets` is not 0,
 // the place of its first line, its source, its number and action, how many targets, what they add up to, the last one, and the greatest common
 // divisor.
-#[derive(Drop)]
+#[derive(Clone, Copy)]
 pub struct Progress {
     pub lines: usize,
     pub choices: usize,
@@ -134,7 +134,7 @@ fn fits(states: usize, p: Progress, line: Line) -> bool
 }
 
 // What has been read after a line; not good where the line may not stand there.
-#[derive(Drop)]
+#[derive(Clone, Copy)]
 pub struct Stepped {
     pub good: bool,
     pub progress: Progress,

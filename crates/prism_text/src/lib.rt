@@ -13,7 +13,7 @@ use prism_step::Progress;
 const NEWLINE: u8 = 0x0A;
 
 // What reading the lines gave: the number of a refusal with its place, or 0 with what was read.
-#[derive(Drop)]
+#[derive(Clone, Copy)]
 pub struct ReadLines {
     pub number: u32,
     pub place: usize,

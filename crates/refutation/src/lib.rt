@@ -47,7 +47,7 @@ fn pair_fault(
 }
 
 // The fixed fields of a refutation, and where its prices begin.
-#[derive(Drop)]
+#[derive(Clone, Copy)]
 struct Head {
     challenger: usize,
     defender: usize,
@@ -69,7 +69,7 @@ fn head_at(cert: &[u8], at: usize) -> Head
 }
 
 // What a refutation comes to: its fault; and where there is none the pair that it removes, and the cursor past it.
-#[derive(Drop)]
+#[derive(Clone, Copy)]
 pub struct Refuted {
     pub fault: Fault,
     pub source: usize,

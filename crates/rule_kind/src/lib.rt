@@ -10,7 +10,7 @@ use field::Cursor;
 use limits::STATES;
 use model::Places;
 
-#[derive(Drop)]
+#[derive(Clone, Copy)]
 pub enum Kind {
     // Document 01's step rule.
     Plain,
@@ -212,7 +212,7 @@ pub fn further_price(kind: Kind, cert: &[u8], at: usize) -> i64
 }
 
 // Which price condition a transition has.
-#[derive(Drop)]
+#[derive(Clone, Copy)]
 pub enum Condition {
     // From A to B, over the move. An internal challenger has no move: from A to A.
     Across,

@@ -11,14 +11,14 @@ use pairs::Rows;
 const LINE: usize = 73;
 
 // How many bytes the blocks that are new at a state take, and how many blocks were seen.
-#[derive(Drop)]
+#[derive(Clone, Copy)]
 pub struct Counted {
     pub bytes: usize,
     pub seen: usize,
 }
 
 // The place after what was written, and how many blocks were seen.
-#[derive(Drop)]
+#[derive(Clone, Copy)]
 pub struct Put {
     pub next: usize,
     pub seen: usize,

@@ -20,7 +20,7 @@ const NEWLINE: usize = 0x0A;
 const CELLS: usize = 16;
 
 // The place after what was written, and the state from which on members are left.
-#[derive(Drop)]
+#[derive(Clone, Copy)]
 pub struct Written {
     pub next: usize,
     pub from: usize,

@@ -9,7 +9,7 @@ use field::Cursor;
 use model::Places;
 use transition_record::Fields;
 
-#[derive(Drop)]
+#[derive(Clone, Copy)]
 pub struct Entry {
     pub state: usize,
     pub weight: usize,

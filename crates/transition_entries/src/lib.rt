@@ -8,7 +8,7 @@ use fault::Fault;
 use field::Cursor;
 
 // What the entries of a transition come to: 6 and 7, and the cursor past them.
-#[derive(Drop)]
+#[derive(Clone, Copy)]
 pub struct Entries {
     pub fault: Fault,
     pub next: Cursor,

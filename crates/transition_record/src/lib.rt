@@ -14,7 +14,7 @@ use limits::{ENTRIES, Terms};
 const TRANSITION_MARK: usize = 0x5452;
 
 // The fixed fields of a transition, and where its entries begin.
-#[derive(Drop)]
+#[derive(Clone, Copy)]
 pub struct Fields {
     pub source: usize,
     pub action: usize,
@@ -81,7 +81,7 @@ fn fixed_fault(s: &[u8], n: usize, m: usize, last: usize, entries: usize, at: us
 }
 
 // What a transition record comes to: its fault; and where there is none its source, how many entries it has, and the cursor past it.
-#[derive(Drop)]
+#[derive(Clone, Copy)]
 pub struct Transition {
     pub fault: Fault,
     pub source: usize,

@@ -11,7 +11,7 @@ use limits::Terms;
 use model::{Model, Places, Scanned};
 
 // What the heads of two sound models say, or the answer of a refusal.
-#[derive(Drop)]
+#[derive(Clone, Copy)]
 pub enum TwoRead {
     Sound { first: Model, second: Model },
     Refused(Answer),

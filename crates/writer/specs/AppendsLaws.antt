@@ -123,15 +123,21 @@ module _ {all before left out : List ℕ} {at next : ℕ} (h : Ahead all at befo
   pub ahead-end : left ≡ [] → Appends all at before out next
   ahead-end e = h.rest out next (subst (λ (l : List ℕ). Appends l next out out next) (sym e) (append-none out next h.room))
 
--- bytes copied into a part
-pub append-part : (given out : List ℕ) (at next : ℕ) {part : List ℕ} → next ≡ at + length given → next ≤ length out → part ≡ take (length given) given ++ drop (length given) (mid_of at (next - at) out) → Appends given at out (put_mid at (next - at) out part) next
-append-part given out at next {part} e h f =
+-- bytes that a part is, and bytes copied into a part
+pub append-copied : (given out : List ℕ) (at next : ℕ) {part : List ℕ} → next ≡ at + length given → next ≤ length out → part ≡ given → Appends given at out (put_mid at (next - at) out part) next
+append-copied given out at next {part} e h is-given =
     record {
       place = e;
       room = h;
       size = same_len_mid at (next - at) out part (ap length is-given ∙ whole);
       written = ap₂ (λ (l r : List ℕ). take at out ++ (l ++ r)) is-given (Post-is at next out (omega (arith, e)));
     }
+  where
+    whole : length given ≡ length (mid_of at (next - at) out)
+    whole = omega (arith, e, mid_len at next out h)
+
+pub append-part : (given out : List ℕ) (at next : ℕ) {part : List ℕ} → next ≡ at + length given → next ≤ length out → part ≡ take (length given) given ++ drop (length given) (mid_of at (next - at) out) → Appends given at out (put_mid at (next - at) out part) next
+append-part given out at next {part} e h f = append-copied given out at next e h is-given
   where
     whole : length given ≡ length (mid_of at (next - at) out)
     whole = omega (arith, e, mid_len at next out h)

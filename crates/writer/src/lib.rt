@@ -85,7 +85,7 @@ pub fn part(out: &mut [u8], at: usize, given: &[u8]) -> usize
     ensures { Appends given.now at out.old out.new result }
 {
     let next = at + given.len();
-    bytes::copy(given, &mut out[at..next]);
+    out[at..next].copy_from_slice(given);
     next
 }
 

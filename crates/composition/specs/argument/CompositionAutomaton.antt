@@ -16,6 +16,7 @@ use Rattle.composition.specs.argument.MovesLaws.{among-each, move-among}
 -- what is made of an element stands at a place, and what stands at a place is made of an element
 module _ {X Y : Type 0} (f : X → Y) (d : Y) where
   made_at : (x : X) (xs : List X) → Among x xs → (c : ℕ) × (c < length (map f xs)) × (get_or (map f xs) c d ≡ f x)
+  made_at x [] x'' = elim x'' [ ]
   made_at x (y ∷ xs) here = (0, omega arith, refl)
   made_at x (y ∷ xs) (there a) = let r = made_at x xs a in (suc r.0, omega (arith, r.1), r.2)
 

@@ -20,6 +20,7 @@ use Rattle.composition.specs.argument.MoveSources.{moves-are}
 
 pub among-each : {X : Type 0} (P : X → Type 0) (x : X) (xs : List X) → Each P xs → Among x xs → P x
 unfolding Each
+among-each {X = X} P x [] h x3 = elim x3 [ ]
 among-each P x (y ∷ xs) h here = h.0
 among-each P x (y ∷ xs) h (there a) = among-each P x xs h.1 a
 

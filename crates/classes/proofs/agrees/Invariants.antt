@@ -1,0 +1,15 @@
+-- `agrees` meets its contract. The invariant: each of the first v rows has the bits of that of its state's block.
+use Prim.Native.Nat.{ℕ, ◌≤◌, ◌<◌, ◌-◌}
+use mathlib.Core.Path.{◌≡◌}
+use native.Mathlib.Omega.{arith}
+use borrow.Author.Count.{below_none}
+use borrow.Author.Tests.{not-true, not-false}
+use borrow.Author.Rules.{rules}
+use Rattle.classes.specs.ClassesLaws.{Alike, same_more, agrees-all, agrees-not}
+use Rattle.classes.proofs.agrees.Given as goal
+
+abbrev pub invariant-loop-v : goal.invariant-loop-v
+invariant-loop-v l = (l.v ≤ l.n) × ((w : ℕ) → w < l.v → Alike l.blocks l.members l.rows w)
+
+abbrev pub decreases-loop-v : goal.decreases-loop-v
+decreases-loop-v l = l.n - l.v

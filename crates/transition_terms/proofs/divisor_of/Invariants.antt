@@ -1,0 +1,19 @@
+-- `divisor_of` meets its contract. The invariant: the divisor so far with the weights left is that of all.
+use native.Mathlib.Omega.{arith}
+use borrow.Author.Rules.{rules}
+use Prim.Native.Nat.{ℕ, ◌+◌, ◌*◌}
+use mathlib.Core.List.{List}
+use mathlib.Core.Path.{◌≡◌, refl, sym, ◌∙◌, ap}
+use Rattle.numbers.specs.definitions.Divisor.{divisor, divisor_of}
+use Rattle.field.specs.Taken.{taken_at}
+use Rattle.transition_terms.specs.Divisors.{weights_at, divisor_at}
+use Rattle.transition_terms.specs.DivisorsLaws.{weights-end, goes_on, settled}
+use Rattle.transition_terms.proofs.divisor_of.Given as goal
+
+abbrev pub invariant-loop-left : goal.invariant-loop-left
+invariant-loop-left l =
+    (l.place.at + 3 * l.left ≡ l.initial.place.at + 3 * l.count)
+    × (divisor_of l.shared (weights_at l.s l.left l.place.at) ≡ divisor_at l.s l.count l.initial.place.at)
+
+abbrev pub decreases-loop-left : goal.decreases-loop-left
+decreases-loop-left l = l.left

@@ -1,0 +1,9 @@
+-- `pair` meets its contract.
+use native.Mathlib.Omega.{arith}
+use mathlib.Core.Path.{refl}
+use Rattle.writer.specs.AppendsLaws.{append-pair}
+use borrow.Author.Rules.{rules}
+use Rattle.writer.proofs.pair.Goals as goal
+
+pub returns : goal.returns
+returns c = append-pair (omega arith) refl refl c.byte-low.ensures c.byte.ensures

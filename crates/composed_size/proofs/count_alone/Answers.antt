@@ -1,0 +1,13 @@
+-- `count_alone` meets its contract.
+use Prim.Native.Nat.{◌*◌, ◌≤◌}
+use mathlib.Core.Path.{refl}
+use native.Mathlib.Nat.{mul-le-mul_right}
+use native.Mathlib.Omega.{arith}
+use Rattle.rules.specs.definitions.Limits.{limits}
+use Rattle.composed_size.proofs.count_alone.Goals as goal
+
+pub overflow_mul-result : goal.overflow_mul-result
+overflow_mul-result c = omega (arith, mul-le-mul_right c.args.entries c.requires.0)
+
+pub returns : goal.returns
+returns c = record { are = omega arith; few = omega (arith, mul-le-mul_right c.args.entries c.requires.0) }

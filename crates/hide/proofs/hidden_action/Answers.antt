@@ -1,0 +1,14 @@
+-- `hidden_action` meets its contract.
+use mathlib.Core.Path.{refl}
+use Rattle.bisimulation.specs.argument.ChoiceLaws.{is_true, is_false}
+use Rattle.bisimulation.specs.definitions.Hidden.{hidden_action}
+use borrow.Author.Rules.{rules}
+use Rattle.hide.proofs.hidden_action.Goals as goal
+
+pub returns-then-members-action : goal.returns-then-members-action
+unfolding hidden_action
+returns-then-members-action c = is_true _ c.if-members-action.true refl
+
+pub returns : goal.returns
+unfolding hidden_action
+returns c = is_false _ c.if-members-action.false refl

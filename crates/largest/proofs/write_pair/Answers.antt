@@ -1,0 +1,27 @@
+-- `write_pair` meets its contract: 41, or both files.
+use mathlib.Core.Path.{refl}
+use native.Mathlib.Omega.{arith}
+use Rattle.largest.specs.LargestLaws.{flows-fit, model-short, certificate-short, pair-written}
+use borrow.Author.Rules.{rules}
+use Rattle.largest.proofs.write_pair.Goals as goal
+
+pub overflow_mul-certificate_size : goal.overflow_mul-certificate_size
+overflow_mul-certificate_size c = omega (arith, flows-fit c.requires)
+
+pub overflow_mul-certificate_size-2 : goal.overflow_mul-certificate_size-2
+overflow_mul-certificate_size-2 c = omega (arith, flows-fit c.requires)
+
+pub overflow_add-certificate_size-2 : goal.overflow_add-certificate_size-2
+overflow_add-certificate_size-2 c = let w = c.requires in omega (arith, w.states, flows-fit w)
+
+pub returns-then-model_out-model_size : goal.returns-then-model_out-model_size
+returns-then-model_out-model_size c =
+    model-short _ _ _ _ c.requires c.if-model_out-model_size.true c.without_place.ensures c.unwritten.ensures
+
+pub returns-then-certificate_out-certificate_size : goal.returns-then-certificate_out-certificate_size
+returns-then-certificate_out-certificate_size c =
+    certificate-short _ _ _ _ c.requires c.if-model_out-model_size.false c.if-certificate_out-certificate_size.true c.without_place-then-certificate_out-certificate_size.ensures c.unwritten-then-certificate_out-certificate_size.ensures
+
+pub returns : goal.returns
+returns c =
+    pair-written _ _ _ _ c.requires c.write_model.ensures c.write_certificate.ensures c.without_place-2.ensures refl

@@ -1,0 +1,16 @@
+-- `prices_at` meets its contract. The invariant: the table holds the prices before i.
+use native.Mathlib.Omega.{arith}
+use Prim.Native.Nat.{ℕ, ◌+◌, ◌*◌, ◌-◌, ◌≤◌}
+use mathlib.Core.Path.{◌≡◌, ap, subst}
+use Rattle.rules.specs.definitions.Bytes.{signed_at}
+use Rattle.prices.specs.Prices.{HoldsPrices}
+use Rattle.prices.specs.PricesLaws.{none-held, read_fits, read_held}
+use borrow.Author.Rules.{rules}
+use Rattle.prices.proofs.prices_at.Given as goal
+
+abbrev pub invariant-loop-i : goal.invariant-loop-i
+invariant-loop-i l =
+    (l.place.at ≡ l.at + 4 * l.i) × (l.i ≤ l.n) × HoldsPrices l.i (λ k. signed_at l.s (l.at + 4 * k)) l.out
+
+abbrev pub decreases-loop-i : goal.decreases-loop-i
+decreases-loop-i l = l.n - l.i

@@ -1,0 +1,23 @@
+-- `write_choice` meets its contract: the fixed fields, and then the entries.
+use native.Mathlib.Omega.{arith}
+use native.Mathlib.Nat.{div-le_self}
+use Rattle.rules.specs.definitions.Bytes.{two_bytes}
+use Rattle.prism_choice.specs.TargetsLaws.{choice-written}
+use borrow.Author.Rules.{rules}
+use Rattle.prism_choice.proofs.write_choice.Goals as goal
+
+pub fixed-entries-requires : goal.fixed-entries-requires
+fixed-entries-requires c =
+    let h = c.requires in
+    (omega arith, omega arith, omega arith, omega (arith, div-le_self 10000 c.args.divisor), omega (arith, h.targets.most))
+
+pub write_targets-requires : goal.write_targets-requires
+unfolding two_bytes
+write_targets-requires c =
+    let h = c.requires in
+    let f = c.fixed-entries.ensures in
+    (h.targets, h.divides, omega (arith, h.room, f.place, f.size))
+
+pub returns : goal.returns
+returns c =
+    choice-written _ _ _ _ _ c.fixed-entries.ensures c.write_targets.ensures

@@ -1,0 +1,29 @@
+-- `write_transitions` meets its contract. The invariant is `Changing`.
+use Prim.Native.Nat.{◌-◌}
+use native.Mathlib.Omega.{arith}
+use Rattle.joined.specs.definitions.Joined.{raised_transition}
+use Rattle.writer.specs.ChangedRecords.{Changing, changing-start, changing-turn, changing-end}
+use Rattle.raised.specs.RaisedLaws.{raised-count, record-asks}
+use Rattle.raised.proofs.write_transitions.Goals as goal
+
+pub loop-r-init : goal.loop-r-init
+loop-r-init c = let a = c.requires in changing-start _ _ a.known.transitions (omega (arith, a.room))
+
+pub write_transition-next-requires : goal.write_transition-next-requires
+write_transition-next-requires c = record-asks c.requires c.loop-r.invariant (omega arith)
+
+pub overflow_add-r : goal.overflow_add-r
+overflow_add-r c = omega arith
+
+pub loop-r-smaller : goal.loop-r-smaller
+loop-r-smaller c = omega arith
+
+pub loop-r-preserved : goal.loop-r-preserved
+loop-r-preserved c =
+    changing-turn _ _ c.loop-r.invariant (omega arith) c.write_transition-next.ensures
+
+pub shape_of-out : goal.shape_of-out
+shape_of-out c = c.loop-r.invariant.ahead.size
+
+pub returns : goal.returns
+returns c = changing-end _ _ c.loop-r.invariant (omega arith)

@@ -1,0 +1,13 @@
+-- `write_transitions` meets its contract. The invariant is `Changing`.
+use Prim.Native.Nat.{◌-◌}
+use native.Mathlib.Omega.{arith}
+use Rattle.joined.specs.definitions.Joined.{raised_transition}
+use Rattle.writer.specs.ChangedRecords.{Changing, changing-start, changing-turn, changing-end}
+use Rattle.raised.specs.RaisedLaws.{raised-count, record-asks}
+use Rattle.raised.proofs.write_transitions.Given as goal
+
+abbrev pub invariant-loop-r : goal.invariant-loop-r
+invariant-loop-r l = Changing (raised_transition l.k) (raised-count l.k) l.s l.count l.at l.initial.out l.r l.out l.next
+
+abbrev pub decreases-loop-r : goal.decreases-loop-r
+decreases-loop-r l = l.count - l.r

@@ -1,0 +1,18 @@
+-- `arrive` meets its contract. The invariant is `Arriving`.
+use mathlib.Core.Path.{refl}
+use mir.Syntax.{w64}
+use mir.Val.{to_z}
+use mir.Facts.{to_z-of_z}
+use native.Mathlib.Omega.{arith}
+use borrow.Author.Rules.{rules}
+use Rattle.transition.specs.Known.{entries_of}
+use Rattle.remainders.specs.MovingLaws.{Arriving, arriving-start, arriving-asks, arriving-turn, arriving-end}
+use Rattle.remainders.proofs.arrive.Given as goal
+
+abbrev pub invariant-loop-left : goal.invariant-loop-left
+invariant-loop-left l =
+    Arriving l.s (entries_of l.s l.r) (to_z w64 l.factor) l.first l.initial.remainders l.remainders l.left l.next.at l.now_nonzero
+
+abbrev pub decreases-loop-left : goal.decreases-loop-left
+decreases-loop-left l =
+    l.left

@@ -1,0 +1,13 @@
+-- `write_file` meets its contract. The invariant is `Writing`.
+use Prim.Native.Nat.{◌-◌}
+use mathlib.Core.Path.{sym, ◌∙◌}
+use native.Mathlib.Omega.{arith}
+use lib.ListN.{length}
+use Rattle.rewritten_flows.specs.FlowLoops.{Writing, start-inside, start-length, writing_start, file-written, writing-end, writing-asks, writing-less, writing-turn}
+use Rattle.rewritten_flows.proofs.write_file.Given as goal
+
+abbrev pub invariant-loop-at : goal.invariant-loop-at
+invariant-loop-at l = Writing l.cert l.divisors l.initial.at l.initial.out l.at l.out
+
+abbrev pub decreases-loop-at : goal.decreases-loop-at
+decreases-loop-at l = length l.cert - l.at

@@ -12,11 +12,11 @@ use Rattle.rules.specs.definitions.SoundModel.{Bytes}
 use Rattle.rules.specs.definitions.Answers as rules
 use Rattle.rules.specs.definitions.Answers.{answer_without_place, unwritten}
 use Rattle.rules.specs.definitions.Demands.{outcome_by}
-use Rattle.rules.specs.argument.DemandsHold.{demands-hold}
-use Rattle.rules.specs.argument.JudgedFirst.{Found}
-use Rattle.rules.specs.argument.PlainRules.{plain_rules}
+use Rattle.rules.proofs.argument.DemandsHold.{demands-hold}
+use Rattle.rules.proofs.argument.JudgedFirst.{Found}
+use Rattle.rules.proofs.argument.PlainRules.{plain_rules}
 use Rattle.joined.specs.definitions.AlikeAnswer.{Named, parts_number, tests_parts, alike_says, AlikeNumber, SaysAlike}
-use Rattle.joined.specs.argument.AlikeAnswerLaws.{parts-named, parts-follow, alike-numbered, says-alike, alike-refused, found-parts, found-parted, found-said}
+use Rattle.joined.proofs.argument.AlikeAnswerLaws.{parts-named, parts-follow, alike-numbered, says-alike, alike-refused, found-parts, found-parted, found-said}
 use Rattle.limits.specs.TermsBy.{current_terms}
 use Rattle.rule_kind.specs.declared.Kind.TheVariants.{Plain}
 use Rattle.answer.specs.declared.Answer.{Answer}

@@ -5,7 +5,7 @@ use Rattle.std.proofs.Math.Decide.{dec_lt}
 use Rattle.rules.specs.definitions.Faults as rules-faults
 use Rattle.rules.specs.definitions.Answers as rules
 use Rattle.rules.specs.definitions.Answers.{Outcome, left_in, first_written, refusal_in, answer_without_place, file_of, unwritten, filled_with, filled_each, filled, files_outcome}
-use Rattle.rules.specs.argument.AnswerLaws.{left-unwritten, file-short, file-whole, files-without}
+use Rattle.rules.proofs.argument.AnswerLaws.{left-unwritten, file-short, file-whole, files-without}
 use Rattle.answer.specs.declared.Answer.{Answer}
 use Rattle.answer.specs.Answered.{answered, Says, FileAnswered, FileWritten, StretchInside, Gives, OutcomeIs}
 

@@ -1,4 +1,2 @@
 -- The automaton, the step rule, the largest relation and two automata side by side, for automata of any size: no bytes, no limits.
 pub mod definitions
-pub mod argument
-pub mod cases

@@ -1,4 +1,2 @@
 -- The block sheet: request K4 of document 02.
 pub mod definitions
-pub mod argument
-pub mod cases

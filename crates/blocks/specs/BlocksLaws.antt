@@ -2,7 +2,7 @@
 use Rattle.std.specs.Prelude.{ℕ, zero, suc, ◌+◌, ◌-◌, ◌≤◌, ◌<◌, ◌≡◌, refl, Bool, true, false, List, length, take, drop, get_or}
 use Rattle.std.proofs.Common.{sym, ◌∙◌, ap, subst, get_or-take, get_or-drop, arith}
 use Rattle.bisimulation.specs.definitions.Choice.{if_less, if_same, if_true, all_below}
-use Rattle.bisimulation.specs.argument.ChoiceLaws.{either_same, via}
+use Rattle.bisimulation.proofs.argument.ChoiceLaws.{either_same, via}
 use Rattle.bisimulation.specs.definitions.Automaton.{Automaton}
 use Rattle.bisimulation.specs.definitions.Pairs.{Pairs}
 use Rattle.rules.specs.definitions.Limits.{limits}
@@ -10,7 +10,7 @@ use Rattle.rules.specs.definitions.Bytes.{byte_at, two_at}
 use Rattle.rules.specs.definitions.Certificate.{numbered_fault, pairs_fault, blocks_at, blocks_fault}
 use Rattle.rules.specs.definitions.Faults as rules
 use Rattle.rules.specs.definitions.Faults.{fault, no_fault, Passes, certificate_record, open_fault}
-use Rattle.rules.specs.argument.FaultLaws.{first_stops, first_passes, certificate-refuses, opened, pass-if_less}
+use Rattle.rules.proofs.argument.FaultLaws.{first_stops, first_passes, certificate-refuses, opened, pass-if_less}
 use Rattle.fault.specs.declared.Fault.{Fault}
 use Rattle.fault.specs.Faults.{fault_of, Placed}
 use Rattle.fault.specs.FaultsLaws.{none_is, placed-some}

@@ -1,12 +1,12 @@
 -- The head's ways out, for each kind of step rule.
 use Rattle.std.specs.Prelude.{ℕ, ◌≤◌, ◌<◌, ◌≡◌, List, length}
 use Rattle.std.proofs.Common.{◌∙◌, ap, arith}
-use Rattle.bisimulation.specs.argument.ChoiceLaws.{less, not_less}
+use Rattle.bisimulation.proofs.argument.ChoiceLaws.{less, not_less}
 use Rattle.rules.specs.definitions.Limits.{limits}
 use Rattle.rules.specs.definitions.Faults as rules
 use Rattle.rules.specs.definitions.Faults.{certificate_record, open_fault}
 use Rattle.rules.specs.definitions.Certificate.{refutation_count, certificate_head_fault}
-use Rattle.rules.specs.argument.FaultLaws.{first_stops, first_passes, certificate-refuses, opened}
+use Rattle.rules.proofs.argument.FaultLaws.{first_stops, first_passes, certificate-refuses, opened}
 use Rattle.rule_kind.specs.Kinds.{rule_of, mark_of}
 use Rattle.rule_kind.specs.KindsLaws.{mark-of}
 use Rattle.rule_kind.specs.declared.Kind.{Kind}

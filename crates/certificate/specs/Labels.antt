@@ -8,7 +8,7 @@ use Rattle.bisimulation.specs.definitions.Pairs.{equal_labels}
 use Rattle.rules.specs.definitions.Limits.{limits}
 use Rattle.rules.specs.definitions.Model.{automaton_of}
 use Rattle.rules.specs.definitions.Reading.{model_at}
-use Rattle.rules.specs.argument.SoundModelLaws.{each_at}
+use Rattle.rules.proofs.argument.SoundModelLaws.{each_at}
 use Rattle.pairs.specs.Rows.{HoldsPairs}
 use Rattle.classes.specs.Classes.{SmallBytes, same_labels}
 use Rattle.classes.specs.ClassesLaws.{holds-start}

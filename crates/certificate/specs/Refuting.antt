@@ -5,7 +5,7 @@ use Rattle.std.proofs.Math.Path.{refl, sym, ap, ap₂, subst}
 use Rattle.std.proofs.Common.{◌∙◌, eq-eqb, ne_eqb}
 use Rattle.std.proofs.Math.ListN.{get_or}
 use native.Mathlib.Omega.{arith}
-use Rattle.bisimulation.specs.argument.ChoiceLaws.{false-not}
+use Rattle.bisimulation.proofs.argument.ChoiceLaws.{false-not}
 use Rattle.bisimulation.specs.definitions.Automaton.{Automaton}
 use Rattle.bisimulation.specs.definitions.Pairs.{Pairs, equal_labels, removed}
 use Rattle.rules.specs.definitions.Limits.{limits}
@@ -14,8 +14,8 @@ use Rattle.rules.specs.definitions.Faults.{certificate_record}
 use Rattle.rules.specs.definitions.Certificate.{FileRule, refutation_count, certificate_head_fault, challenger_at, defender_at, after_refutation, refutation_fault, pairs_after, blocks_at, same_block}
 use Rattle.rules.specs.definitions.CertificateAt.{after_refutations, blocks_place}
 use Rattle.rules.specs.definitions.Judging.{Judgement, refused_in, refuse_record_at, questions, judge_flows, judge_blocks, judge_refutations, judge_certificate}
-use Rattle.rules.specs.argument.BlocksRecord.{blocks-good}
-use Rattle.rules.specs.argument.FaultLaws.{none_first, certificate-refuses, opened}
+use Rattle.rules.proofs.argument.BlocksRecord.{blocks-good}
+use Rattle.rules.proofs.argument.FaultLaws.{none_first, certificate-refuses, opened}
 use Rattle.field.specs.declared.Cursor.{Cursor}
 use Rattle.fault.specs.declared.Fault.{Fault}
 use Rattle.fault.specs.Faults.{fault_of, Placed}
@@ -30,7 +30,7 @@ use Rattle.refutation.specs.RefutationJudged.{RefutationJudged}
 use Rattle.flows.specs.declared.Judged.{Judged}
 use Rattle.flows.specs.declared.Judged.TheVariants.{Refused}
 use Rattle.flows.specs.FlowsJudged.{InFile, Judges, judges, BlocksAgree, JudgesFlows}
-use Rattle.rules.specs.argument.JudgingLaws.{record-stops, record-passes}
+use Rattle.rules.proofs.argument.JudgingLaws.{record-stops, record-passes}
 use Rattle.certificate.specs.declared.Passed.{Passed}
 use Rattle.certificate.specs.CertificateJudged.{JudgesBlocks}
 

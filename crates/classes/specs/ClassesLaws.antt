@@ -3,7 +3,7 @@ use Rattle.std.specs.Prelude.{ℕ, ◌+◌, ◌<◌, ◌≡◌, Bool, true, fals
 use Rattle.std.proofs.Math.Path.{refl, sym}
 use Rattle.std.proofs.Common.{ap, ap₂, ◌∙◌, arith, below_more, eq-eqb, ne_eqb}
 use Rattle.std.proofs.Math.Decide.{ℕ_discrete, dec_lt}
-use Rattle.bisimulation.specs.argument.ChoiceLaws.{false-not, all-below, below_all}
+use Rattle.bisimulation.proofs.argument.ChoiceLaws.{false-not, all-below, below_all}
 use Rattle.bisimulation.specs.definitions.Automaton.{Automaton}
 use Rattle.bisimulation.specs.definitions.Pairs.{Pairs, equal_labels}
 use Rattle.rules.specs.definitions.Certificate.{agree, same_block}

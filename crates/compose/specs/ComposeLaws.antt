@@ -5,7 +5,7 @@ use Rattle.std.proofs.Common.{◌∙◌, ap, ap₂, subst, mul-le-mul, arith}
 use Rattle.std.proofs.Math.Bool.{true, false}
 use Rattle.std.proofs.Math.Decide.{dec_lt}
 use Rattle.bisimulation.specs.definitions.Choice.{if_less}
-use Rattle.bisimulation.specs.argument.ChoiceLaws.{not_less, past_less, kept_less, false-not}
+use Rattle.bisimulation.proofs.argument.ChoiceLaws.{not_less, past_less, kept_less, false-not}
 use Rattle.bisimulation.specs.definitions.Composed.{highest_label}
 use Rattle.rules.specs.definitions.Limits.{limits, current}
 use Rattle.rules.specs.definitions.Model.{Transition, Model, automaton_of}
@@ -14,16 +14,16 @@ use Rattle.rules.specs.definitions.SoundModel.{Bytes, sum_over, entry_count}
 use Rattle.rules.specs.definitions.Answers as rules
 use Rattle.rules.specs.definitions.Answers.{Outcome, answer_without_place}
 use Rattle.rules.specs.definitions.Made.{made_outcome, OfTwo, two_files}
-use Rattle.rules.specs.argument.SoundModelLaws.{current-fit, sound-any}
-use Rattle.rules.specs.argument.LengthLaws.{file-length}
-use Rattle.rules.specs.argument.MadeLaws.{many-states, many-transitions, many-entries, made-over, made-within, both_read}
+use Rattle.rules.proofs.argument.SoundModelLaws.{current-fit, sound-any}
+use Rattle.rules.proofs.argument.LengthLaws.{file-length}
+use Rattle.rules.proofs.argument.MadeLaws.{many-states, many-transitions, many-entries, made-over, made-within, both_read}
 use Rattle.composition.specs.definitions.Composition.{composed, composed_file}
 use Rattle.composition.specs.definitions.ComposeAnswer.{long_denominator, passes_composed, compose_outcome}
-use Rattle.composition.specs.argument.ComposedCounts.{longer, long-counted}
-use Rattle.composition.specs.argument.ComposedLabels.{composed-states, composed-highest}
-use Rattle.composition.specs.argument.SoundComposition.{few-denominators, labels-few, composed-passes, composed-sound}
-use Rattle.composition.specs.argument.SoundComposition.{over-sizes, over-denominators, over-labels}
-use Rattle.composition.specs.argument.ComposeAnswerLaws.{compose-demands}
+use Rattle.composition.proofs.argument.ComposedCounts.{longer, long-counted}
+use Rattle.composition.proofs.argument.ComposedLabels.{composed-states, composed-highest}
+use Rattle.composition.proofs.argument.SoundComposition.{few-denominators, labels-few, composed-passes, composed-sound}
+use Rattle.composition.proofs.argument.SoundComposition.{over-sizes, over-denominators, over-labels}
+use Rattle.composition.proofs.argument.ComposeAnswerLaws.{compose-demands}
 use Rattle.model.specs.declared.Model.{Model as Found}
 use Rattle.transition.specs.Known.{automaton_in, Known}
 use Rattle.transition.specs.KnownLaws.{known-states, few-states}

@@ -7,7 +7,7 @@ use Rattle.bisimulation.specs.definitions.Joined.{larger}
 use Rattle.rules.specs.definitions.Bytes.{two_bytes}
 use Rattle.rules.specs.definitions.Model.{head_bytes, labels_bytes, model_bytes}
 use Rattle.rules.specs.definitions.Reading.{model_at}
-use Rattle.rules.specs.argument.SoundModelLaws.{each_map}
+use Rattle.rules.proofs.argument.SoundModelLaws.{each_map}
 use Rattle.model.specs.declared.Model.{Model as Found}
 use Rattle.writer.specs.Appends.{Appends, head_bytes_of}
 use Rattle.writer.specs.AppendsLaws.{append-model}

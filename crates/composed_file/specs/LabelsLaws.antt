@@ -9,14 +9,14 @@ use native.Mathlib.Omega.{arith}
 use Rattle.bisimulation.specs.definitions.Composed.{state_at, pair_label}
 use Rattle.rules.specs.definitions.Bytes.{byte_at}
 use Rattle.rules.specs.definitions.Reading.{model_at}
-use Rattle.rules.specs.argument.AnswerLaws.{labels_length}
-use Rattle.rules.specs.argument.ModelAutomaton.{automaton-label}
-use Rattle.rules.specs.argument.SoundModelLaws.{each_at}
+use Rattle.rules.proofs.argument.AnswerLaws.{labels_length}
+use Rattle.rules.proofs.argument.ModelAutomaton.{automaton-label}
+use Rattle.rules.proofs.argument.SoundModelLaws.{each_at}
 use Rattle.transition.specs.Known.{automaton_in}
 use Rattle.writer.specs.Appends.{Appends}
 use Rattle.composition.specs.definitions.Composition.{gathered, composed}
-use Rattle.composition.specs.argument.GatheredLaws.{gathered-cong}
-use Rattle.composition.specs.argument.ComposedLabels.{composed-states, composed-label}
+use Rattle.composition.proofs.argument.GatheredLaws.{gathered-cong}
+use Rattle.composition.proofs.argument.ComposedLabels.{composed-states, composed-label}
 use Rattle.writer.specs.AppendsLaws.{appended-as}
 use Rattle.composed_size.specs.Sides.{composed_in}
 use Rattle.composed_states.specs.Gathering.{Gathering, gathering-start, gathering-room, gathering-all}

@@ -10,12 +10,12 @@ use Rattle.bisimulation.specs.definitions.Composed.{state_at}
 use Rattle.rules.specs.definitions.Model.{Entry, Transition, entries_bytes, transition_bytes, automaton_of}
 use Rattle.rules.specs.definitions.Reading.{states_of, entry_count_at, entries_at, transition_at, model_at, place_of}
 use Rattle.rules.specs.definitions.SoundModel.{Each, sum_over}
-use Rattle.rules.specs.argument.ReadBack.{entries_bytes-length, transition_bytes-length}
-use Rattle.rules.specs.argument.FetchedRun.{length-entries_at}
-use Rattle.rules.specs.argument.ModelAutomaton.{transition-is}
-use Rattle.rules.specs.argument.AnswerLaws.{labels_length}
-use Rattle.rules.specs.argument.SoundModelLaws.{each_map}
-use Rattle.rules.specs.argument.MappedLists.{each_both, each-most}
+use Rattle.rules.proofs.argument.ReadBack.{entries_bytes-length, transition_bytes-length}
+use Rattle.rules.proofs.argument.FetchedRun.{length-entries_at}
+use Rattle.rules.proofs.argument.ModelAutomaton.{transition-is}
+use Rattle.rules.proofs.argument.AnswerLaws.{labels_length}
+use Rattle.rules.proofs.argument.SoundModelLaws.{each_map}
+use Rattle.rules.proofs.argument.MappedLists.{each_both, each-most}
 use Rattle.transition_record.specs.declared.Fields.{Fields}
 use Rattle.transition.specs.declared.Entry as read
 use Rattle.transition.specs.Entries.{EntryTaken}
@@ -27,7 +27,7 @@ use Rattle.writer.specs.ChangedRecords.{entry_at, EntryFits}
 use Rattle.placed_entries.specs.Placed.{placed_entry, CanPlaceEntries}
 use Rattle.placed_entries.specs.PlacedLaws.{placed-fit}
 use Rattle.composition.specs.definitions.Composition.{transition_of, pair_entry, pair_entries, pair_transition, still}
-use Rattle.composition.specs.argument.PairEntriesLaws.{pair-length}
+use Rattle.composition.proofs.argument.PairEntriesLaws.{pair-length}
 use Rattle.composed_moves.specs.MoveRecords.{left_record, right_record, together_record, CanWriteLeft, CanWriteRight, CanWriteTogether, pairs_at, RowFits, CanWritePairs}
 
 -- an entry of the left with all of the right's is placing: the stride 1, and the offset and the factor of the left's

@@ -9,8 +9,8 @@ use Rattle.rules.specs.definitions.SoundModel.{sum_over, entry_count}
 use Rattle.transition_record.specs.declared.Fields.{Fields}
 use Rattle.transition.specs.Known.{automaton_in}
 use Rattle.composition.specs.definitions.Composition.{shared_below}
-use Rattle.composition.specs.argument.PairCounts.{left_count}
-use Rattle.composition.specs.argument.ComposedCounts.{longer}
+use Rattle.composition.proofs.argument.PairCounts.{left_count}
+use Rattle.composition.proofs.argument.ComposedCounts.{longer}
 use Rattle.composed_size.specs.declared.Sizes.{Sizes}
 use Rattle.composed_size.specs.Sides.{composed_in}
 

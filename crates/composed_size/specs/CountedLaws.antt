@@ -4,25 +4,25 @@ use Rattle.std.proofs.Math.Path.{sym, ap, ap₂, subst}
 use Rattle.std.proofs.Common.{◌∙◌, mul-le-mul, add-one, arith}
 use Rattle.std.proofs.Math.ListN.{length}
 use Rattle.bisimulation.specs.definitions.Choice.{if_same, if_true}
-use Rattle.bisimulation.specs.argument.ChoiceLaws.{same, not_same, is_true, is_false, either_less}
+use Rattle.bisimulation.proofs.argument.ChoiceLaws.{same, not_same, is_true, is_false, either_less}
 use Rattle.bisimulation.specs.definitions.Sum.{sum}
-use Rattle.bisimulation.specs.argument.SumLaws.{sum_cong}
+use Rattle.bisimulation.proofs.argument.SumLaws.{sum_cong}
 use Rattle.bisimulation.specs.definitions.Automaton.{Automaton}
 use Rattle.bisimulation.specs.definitions.Joined.{larger}
 use Rattle.bisimulation.specs.definitions.Composed.{highest, Shared}
 use Rattle.rules.specs.definitions.Bytes.{byte_at}
 use Rattle.rules.specs.definitions.Model.{Transition, automaton_of}
 use Rattle.rules.specs.definitions.Reading.{states_of, transition_at, model_at}
-use Rattle.rules.specs.argument.ModelAutomaton.{automaton-transitions, automaton-label, transition-is}
-use Rattle.rules.specs.argument.FetchedRun.{length-entries_at}
+use Rattle.rules.proofs.argument.ModelAutomaton.{automaton-transitions, automaton-label, transition-is}
+use Rattle.rules.proofs.argument.FetchedRun.{length-entries_at}
 use Rattle.model.specs.declared.Model.{Model as Found}
 use Rattle.transition_record.specs.declared.Fields.{Fields}
 use Rattle.transition.specs.Known.{automaton_in, KnownTransition, FieldsOf}
 use Rattle.transition.specs.KnownLaws.{known-states, known-transitions, few-transitions, fields-small}
 use Rattle.composition.specs.definitions.Composition.{shared_below, is_shared, transition_of}
-use Rattle.composition.specs.argument.SharedLaws.{test-shared, test-alone}
-use Rattle.composition.specs.argument.PairCounts.{left_count, right_count, pair_count, left-shared, left_alone, pairs-same}
-use Rattle.composition.specs.argument.ComposedCounts.{longer, composed-transitions, composed-entries, composed-long}
+use Rattle.composition.proofs.argument.SharedLaws.{test-shared, test-alone}
+use Rattle.composition.proofs.argument.PairCounts.{left_count, right_count, pair_count, left-shared, left_alone, pairs-same}
+use Rattle.composition.proofs.argument.ComposedCounts.{longer, composed-transitions, composed-entries, composed-long}
 use Rattle.composed_size.specs.declared.Sizes.{Sizes}
 use Rattle.composed_size.specs.Sides.{Side, Sides}
 use Rattle.composed_size.specs.Counted.{SizesAre, Added, AtMost, pair_most, move_most, all_most, Counted, CountedAt, SumsCounted}

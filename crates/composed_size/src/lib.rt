@@ -8,7 +8,7 @@ ghost use Rattle.rules.specs.definitions.Limits.{limits};
 ghost use Rattle.rules.specs.definitions.Reading.{states_of};
 ghost use Rattle.transition.specs.Known.{automaton_in};
 ghost use Rattle.composition.specs.definitions.Composition.{shared_below};
-ghost use Rattle.composition.specs.argument.ComposedCounts.{longer};
+ghost use Rattle.composition.proofs.argument.ComposedCounts.{longer};
 ghost use Rattle.composed_size.specs.Sides.{Side, Sides};
 ghost use Rattle.composed_size.specs.Counted.{pair_most, move_most, all_most, SmallFields};
 ghost use Rattle.composed_size.specs.Counted.{AtMost, Counted, CountedAt, SumsCounted, Added};

@@ -5,7 +5,7 @@ use Rattle.std.proofs.Math.Decide.{ℕ_discrete}
 use Rattle.writer.specs.Appends.{Appends}
 use Rattle.writer.specs.AppendsLaws.{appended-as, append-none, append-more}
 use Rattle.composition.specs.definitions.Composition.{gathered}
-use Rattle.composition.specs.argument.GatheredLaws.{gathered_next, gathered_none, gathered-past}
+use Rattle.composition.proofs.argument.GatheredLaws.{gathered_next, gathered_none, gathered-past}
 
 -- those of the numbers below k are appended, and there is room for all below n
 pub record Gathering (f : ℕ → List ℕ) (n at : ℕ) (before : List ℕ) (k : ℕ) (out : List ℕ) (next : ℕ) : Type 0 where

@@ -7,15 +7,15 @@ use Rattle.bisimulation.specs.definitions.Composed.{together, IsMove, move_denom
 use Rattle.rules.specs.definitions.Model.{automaton_of}
 use Rattle.rules.specs.definitions.Reading.{states_of, model_at}
 use Rattle.rules.specs.definitions.SoundModel.{TransitionRules}
-use Rattle.rules.specs.argument.MappedLists.{each-unmapped}
+use Rattle.rules.proofs.argument.MappedLists.{each-unmapped}
 use Rattle.model.specs.declared.Model.{Model as Found}
 use Rattle.transition.specs.Known.{automaton_in, Known}
 use Rattle.transition.specs.KnownLaws.{known-states}
 use Rattle.composition.specs.definitions.Composition.{is_shared, moves_of, moved, composed}
-use Rattle.composition.specs.argument.SharedLaws.{test-shared}
-use Rattle.composition.specs.argument.MovedLaws.{rules-at, moved-denominator}
-use Rattle.composition.specs.argument.MovesLaws.{among-each, move-among}
-use Rattle.composition.specs.argument.ComposedLabels.{composed-states}
+use Rattle.composition.proofs.argument.SharedLaws.{test-shared}
+use Rattle.composition.proofs.argument.MovedLaws.{rules-at, moved-denominator}
+use Rattle.composition.proofs.argument.MovesLaws.{among-each, move-among}
+use Rattle.composition.proofs.argument.ComposedLabels.{composed-states}
 use Rattle.composed_size.specs.Sides.{composed_in, CanCompose}
 
 module _ {left : List ℕ} {m : Found} {left_table right : List ℕ} {k : Found} {right_table : List ℕ} (c : CanCompose left m left_table right k right_table) where

@@ -5,7 +5,7 @@ use Rattle.std.proofs.Common.{◌∙◌, ap, arith}
 use Rattle.std.proofs.Math.Bool.{Bool}
 use mathlib.Core.List.{List, [], ◌∷◌}
 use Rattle.bisimulation.specs.definitions.Choice.{if_same, if_true}
-use Rattle.bisimulation.specs.argument.ChoiceLaws.{same, not_same, is_true, is_false, of_same}
+use Rattle.bisimulation.proofs.argument.ChoiceLaws.{same, not_same, is_true, is_false, of_same}
 use Rattle.bisimulation.specs.definitions.Composed.{right_alone}
 use Rattle.rules.specs.definitions.Reading.{states_of, model_at}
 use Rattle.transition_record.specs.declared.Fields.{Fields}
@@ -15,7 +15,7 @@ use Rattle.transition.specs.KnownLaws.{known-transitions, known-transition}
 use Rattle.writer.specs.Appends.{Appends}
 use Rattle.writer.specs.AppendsLaws.{appended-as, append-none}
 use Rattle.composition.specs.definitions.Composition.{gathered, is_shared, right_move, moved}
-use Rattle.composition.specs.argument.GatheredLaws.{gathered-cong}
+use Rattle.composition.proofs.argument.GatheredLaws.{gathered-cong}
 use Rattle.composed_size.specs.Sides.{CanCompose}
 use Rattle.composition.specs.definitions.Composition.{shared_below}
 use Rattle.composed_size.specs.CountedLaws.{shared-sides}

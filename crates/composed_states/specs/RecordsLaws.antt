@@ -4,7 +4,7 @@ use Rattle.std.specs.Prelude.{◌≡◌, true, false}
 use Rattle.std.proofs.Math.Path.{refl, ap}
 use Rattle.std.proofs.Common.{sym, ◌∙◌}
 use mathlib.Core.List.{List, [], ◌∷◌, ◌++◌, map, map-append, append-nil}
-use Rattle.bisimulation.specs.argument.ChoiceLaws.{same, not_same, is_true, is_false}
+use Rattle.bisimulation.proofs.argument.ChoiceLaws.{same, not_same, is_true, is_false}
 use Rattle.bisimulation.specs.definitions.Automaton.{Automaton}
 use Rattle.bisimulation.specs.definitions.Composed.{Move, left_alone, together}
 use Rattle.rules.specs.definitions.Model.{transition_bytes, transitions_bytes}

@@ -1,4 +1,2 @@
 -- Two models working side by side, and a model with actions hidden: request K11 of document 02.
 pub mod definitions
-pub mod argument
-pub mod cases

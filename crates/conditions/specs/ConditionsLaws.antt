@@ -10,18 +10,18 @@ use mir.Val.{to_z, of_z}
 use Rattle.std.proofs.Math.Facts.{to_z-of_z}
 use Rattle.std.proofs.Math.Decide.{ℕ_discrete}
 use Rattle.bisimulation.specs.definitions.Choice.{if_same, if_true, both, all_below}
-use Rattle.bisimulation.specs.argument.ChoiceLaws.{same, not_same, all_below_cong, all_both}
+use Rattle.bisimulation.proofs.argument.ChoiceLaws.{same, not_same, all_below_cong, all_both}
 use Rattle.bisimulation.specs.definitions.Automaton.{Automaton}
 use Rattle.bisimulation.specs.definitions.Prices.{price_at, price_of_targets}
 use Rattle.rules.specs.definitions.Limits.{limits}
 use Rattle.rules.specs.definitions.Reading.{states_of, count_of, entries_at}
 use Rattle.rules.specs.definitions.Faults.{Fault}
 use Rattle.rules.specs.definitions.PlainRule.{price_condition, all_with_action, below, last_fault}
-use Rattle.rules.specs.argument.BreakLaws.{by-test}
+use Rattle.rules.proofs.argument.BreakLaws.{by-test}
 use Rattle.costs.specs.definitions.CostPrices.{price_with_cost}
 use Rattle.cost_files.specs.definitions.CostModel.{highest_cost}
 use Rattle.cost_files.specs.definitions.CostFile.{cost_condition, last_cost_fault}
-use Rattle.cost_files.specs.argument.CostReadingLaws.{cost-at}
+use Rattle.cost_files.proofs.argument.CostReadingLaws.{cost-at}
 use Rattle.strong_files.specs.definitions.StrongFile.{own_with_action, all_own}
 use Rattle.rule_kind.specs.declared.Kind.{Kind}
 use Rattle.rule_kind.specs.declared.Kind.TheVariants.{Plain, Costs, Strong}

@@ -4,12 +4,12 @@ use Rattle.std.specs.Prelude.{◌≡◌, List, length}
 use Rattle.std.proofs.Math.Path.{refl, ap, subst}
 use Rattle.std.proofs.Common.{sym, ◌∙◌}
 use native.Mathlib.Omega.{arith}
-use Rattle.bisimulation.specs.argument.ChoiceLaws.{less, not_less}
+use Rattle.bisimulation.proofs.argument.ChoiceLaws.{less, not_less}
 use Rattle.rules.specs.definitions.Bytes.{byte_at}
 use Rattle.rules.specs.definitions.Faults as rules
 use Rattle.rules.specs.definitions.Faults.{model_record, open_fault, Passes}
 use Rattle.rules.specs.definitions.Reading.{Scan, sound, refused, scan_model, refuse_bytes_left}
-use Rattle.rules.specs.argument.ReadingLaws.{refuse-stops, refuse-passes, refuse-cases, Sound, Tells, scan-tells}
+use Rattle.rules.proofs.argument.ReadingLaws.{refuse-stops, refuse-passes, refuse-cases, Sound, Tells, scan-tells}
 use Rattle.rules.specs.definitions.Limits.{Limits}
 use Rattle.fault.specs.declared.Fault.{Fault}
 use Rattle.model.specs.Scanned.{scan_of, PlacesHeld, PlacesOf, Scans, scans, left-held}

@@ -2,7 +2,7 @@
 use Rattle.std.specs.Prelude.{ℕ, zero, suc, ◌+◌, ◌-◌, ◌*◌, ◌/◌, ◌%◌, ◌^◌, ◌≤◌, ◌<◌, ◌≡◌, refl, List, ◌∷◌, length, take, drop, set, replicate}
 use Rattle.std.proofs.Common.{sym, ◌∙◌, ap, ap₂, subst, length-set, length-drop, take_all, drop-cons, drop-set-lt, get_or-set_same, pow-suc, arith}
 use Rattle.numbers.specs.definitions.Decimal.{decimal}
-use Rattle.numbers.specs.argument.DecimalLaws.{before, one-digit, more-digits}
+use Rattle.numbers.proofs.argument.DecimalLaws.{before, one-digit, more-digits}
 use Rattle.decimals.specs.Digits.{Filling}
 
 pub filling-start : (x : ℕ) → x < 2 ^ 64 → Filling x (replicate 20 0) 19 x

@@ -3,7 +3,7 @@ use Rattle.std.specs.Prelude.{ℕ, suc, ◌-◌, ◌^◌, ◌≤◌, ◌<◌, �
 use Rattle.std.proofs.Common.{sym, ◌∙◌, ap, Fits, SFits, to_z, of_z, to_z-of_z, ltb-true, le-ltb, arith}
 use Rattle.std.specs.Int.Signed.{lt_z, non_neg}
 use Rattle.std.specs.Int.{w64}
-use Rattle.bisimulation.specs.argument.ChoiceLaws.{false-not}
+use Rattle.bisimulation.proofs.argument.ChoiceLaws.{false-not}
 use Rattle.numbers.specs.definitions.Decimal.{decimal}
 use Rattle.sentences.specs.definitions.Sentence.{signed_decimal}
 

@@ -4,15 +4,15 @@ use Rattle.std.proofs.Common.{sym, ◌∙◌, subst, length-set, get_or-set_same
 use Rattle.std.proofs.Math.Path.{ap}
 use Rattle.std.proofs.lemmas.List.{length-replicate}
 use Rattle.std.proofs.Math.Decide.{ℕ_discrete}
-use Rattle.numbers.specs.argument.DivisorLaws.{divides-most}
+use Rattle.numbers.proofs.argument.DivisorLaws.{divides-most}
 use Rattle.rules.specs.definitions.Limits.{limits}
 use Rattle.rules.specs.definitions.Model.{no_transition, automaton_of}
 use Rattle.rules.specs.definitions.SoundModel.{TransitionRules}
 use Rattle.rules.specs.definitions.LowestTerms.{divisor_in}
 use Rattle.rules.specs.definitions.Reading.{entry_count_at, transition_at, model_at, place_of}
-use Rattle.rules.specs.argument.SoundModelLaws.{each_at}
-use Rattle.rules.specs.argument.ModelAutomaton.{transition-is}
-use Rattle.rules.specs.argument.TermsLaws.{divisor-some, divisor-denominator}
+use Rattle.rules.proofs.argument.SoundModelLaws.{each_at}
+use Rattle.rules.proofs.argument.ModelAutomaton.{transition-is}
+use Rattle.rules.proofs.argument.TermsLaws.{divisor-some, divisor-denominator}
 use Rattle.rewriting.specs.definitions.Rewritten.{divisor_at}
 use Rattle.transition_record.specs.declared.Fields.{Fields}
 use Rattle.transition_terms.specs.Divisors as read

@@ -4,11 +4,11 @@ use Rattle.std.proofs.Math.Path.{refl, ap, subst}
 use Rattle.std.proofs.Common.{sym, ◌∙◌, ap₂, subst₂, mul-le-mul, arith}
 use mathlib.Core.List.{List}
 use Rattle.std.proofs.Math.IntN.{ℤ}
-use Rattle.bisimulation.specs.argument.ChoiceLaws.{less, not_less, is_true, is_false, either_less, either_true, false-not}
+use Rattle.bisimulation.proofs.argument.ChoiceLaws.{less, not_less, is_true, is_false, either_less, either_true, false-not}
 use Rattle.rules.specs.definitions.Bytes.{byte_at, two_at, three_at, four_at}
 use Rattle.rules.specs.definitions.Certificate.{FileRule, k_fault}
 use Rattle.rules.specs.definitions.Faults.{Fault, fault}
-use Rattle.rules.specs.argument.FaultLaws.{pass_on}
+use Rattle.rules.proofs.argument.FaultLaws.{pass_on}
 use Rattle.rules.specs.definitions.Limits.{limits}
 use Rattle.field.specs.declared.Field.{Field}
 use Rattle.field.specs.Taken as field

@@ -4,13 +4,13 @@ use Rattle.std.specs.Prelude.{◌≡◌, true, false, length, ℤ, pos, neg_ℤ}
 use Rattle.std.proofs.Math.Path.{refl, ap, subst}
 use Rattle.std.proofs.Common.{sym, ◌∙◌, arith}
 use mathlib.Core.List.{List}
-use Rattle.bisimulation.specs.argument.ChoiceLaws.{false-not, less, not_less, is_true, is_false, either_less, either_true}
+use Rattle.bisimulation.proofs.argument.ChoiceLaws.{false-not, less, not_less, is_true, is_false, either_less, either_true}
 use Rattle.bisimulation.specs.definitions.Automaton.{Automaton}
 use Rattle.bisimulation.specs.definitions.Pairs.{Pairs}
 use Rattle.rules.specs.definitions.Bytes.{byte_at, two_at, four_at}
 use Rattle.rules.specs.definitions.Certificate.{w_fault}
 use Rattle.rules.specs.definitions.Faults.{Fault, fault}
-use Rattle.rules.specs.argument.FaultLaws.{pass_on}
+use Rattle.rules.proofs.argument.FaultLaws.{pass_on}
 use Rattle.rules.specs.definitions.Limits.{limits}
 use Rattle.field.specs.declared.Field.{Field}
 use Rattle.field.specs.Taken as field

@@ -1,13 +1,13 @@
 -- The sums over a flow's entries decide the equations of each step rule, by its kind.
 use Rattle.std.specs.Prelude.{ℕ, ◌+◌, ◌<◌, ◌≡◌, refl, ◌≢◌, Bool, true, false, List, []}
 use Rattle.std.proofs.Common.{sym, ◌∙◌, ap, ap₂, arith}
-use Rattle.bisimulation.specs.argument.ChoiceLaws.{false-not}
+use Rattle.bisimulation.proofs.argument.ChoiceLaws.{false-not}
 use Rattle.bisimulation.specs.definitions.Automaton.{Automaton}
 use Rattle.rules.specs.definitions.Certificate.{FileRule, k_count_at, k_of, flow_at, k_fault}
 use Rattle.rules.specs.definitions.Faults.{Fault, first_of, Passes}
 use Rattle.rules.specs.definitions.PlainRule.{external_equations_fault}
 use Rattle.rules.specs.definitions.PlainSays.{InPlainQuestion}
-use Rattle.rules.specs.argument.PlainDecides.{six-cases}
+use Rattle.rules.proofs.argument.PlainDecides.{six-cases}
 use Rattle.cost_files.specs.definitions.CostFile.{cost_equations_fault}
 use Rattle.strong.specs.definitions.StrongStepRule.{strong_total, strong_move}
 use Rattle.strong_files.specs.definitions.StrongFile.{strong_file, total_fault, strong_equations_fault}

@@ -4,11 +4,11 @@ use Rattle.std.specs.Prelude.{ℕ, zero, suc, ◌+◌, ◌≤◌, ◌<◌, ◌�
 use Rattle.std.proofs.Common.{sym, ◌∙◌, ap, ap₂, arith}
 use Rattle.std.proofs.Math.Decide.{ℕ_discrete}
 use Rattle.bisimulation.specs.definitions.Choice.{if_same}
-use Rattle.bisimulation.specs.argument.ChoiceLaws.{same, not_same}
+use Rattle.bisimulation.proofs.argument.ChoiceLaws.{same, not_same}
 use Rattle.bisimulation.specs.definitions.Sum.{sum}
-use Rattle.bisimulation.specs.argument.SumLaws.{sum_cong, sum_zero}
+use Rattle.bisimulation.proofs.argument.SumLaws.{sum_cong, sum_zero}
 use Rattle.rules.specs.definitions.Faults.{Fault, Passes}
-use Rattle.rules.specs.argument.SoundModelLaws.{sum-with}
+use Rattle.rules.proofs.argument.SoundModelLaws.{sum-with}
 
 pub record Entries : Type 1 where
   -- the fields of the entry at a place, and its size

@@ -8,21 +8,21 @@ use Rattle.std.proofs.Math.Nat.{zero-add}
 use native.Mathlib.Omega.{arith}
 use Rattle.std.proofs.Math.Decide.{ℕ_discrete, dec_lt}
 use Rattle.bisimulation.specs.definitions.Choice.{if_same, if_true}
-use Rattle.bisimulation.specs.argument.ChoiceLaws.{same, not_same, turned, times_same}
+use Rattle.bisimulation.proofs.argument.ChoiceLaws.{same, not_same, turned, times_same}
 use Rattle.bisimulation.specs.definitions.Automaton.{Automaton, SoundAutomaton}
 use Rattle.bisimulation.specs.definitions.Pairs.{Pairs}
-use Rattle.bisimulation.specs.argument.Raised.{Raised, above, below}
+use Rattle.bisimulation.proofs.argument.Raised.{Raised, above, below}
 use Rattle.rules.specs.definitions.Bytes.{byte_at, two_at, three_at, four_at}
-use Rattle.rules.specs.argument.ModelAutomaton.{automaton-weight}
+use Rattle.rules.proofs.argument.ModelAutomaton.{automaton-weight}
 use Rattle.rules.specs.definitions.Limits.{limits}
 use Rattle.rules.specs.definitions.Reading.{states_of, model_at}
-use Rattle.rules.specs.argument.SoundModelLaws.{sound-automaton}
+use Rattle.rules.proofs.argument.SoundModelLaws.{sound-automaton}
 use Rattle.rules.specs.definitions.Certificate.{FileRule, k_fault, w_fault, k_count_at, w_count_at, after_k, flow_at}
 use Rattle.rules.specs.definitions.Faults.{Fault, fault_by, fault, no_fault, first_of, Passes}
 use Rattle.rules.specs.definitions.PlainRule.{break_from, first_break}
-use Rattle.rules.specs.argument.FaultLaws.{none_first, first_stops, first_passes}
-use Rattle.rules.specs.argument.BreakLaws.{break-none, break-passed}
-use Rattle.rules.specs.argument.EntryFaults.{passed-k, passed-w}
+use Rattle.rules.proofs.argument.FaultLaws.{none_first, first_stops, first_passes}
+use Rattle.rules.proofs.argument.BreakLaws.{break-none, break-passed}
+use Rattle.rules.proofs.argument.EntryFaults.{passed-k, passed-w}
 use Rattle.limits.specs.Sizes as sizes
 use Rattle.transition.specs.Known.{automaton_in, Known, KnownTransition, entries_of}
 use Rattle.transition.specs.KnownLaws.{few-states, known-states, known-transitions, known-transition, entries-known}

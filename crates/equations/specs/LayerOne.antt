@@ -6,14 +6,14 @@ use Rattle.std.proofs.Common.{◌∙◌, ap, zero-mul, arith}
 use Rattle.std.proofs.Math.IntN.{sub_ℕ}
 use Rattle.std.proofs.Math.Decide.{ℕ_discrete}
 use Rattle.bisimulation.specs.definitions.Choice.{if_same, unless_same}
-use Rattle.bisimulation.specs.argument.ChoiceLaws.{same, not_same, either_same}
+use Rattle.bisimulation.proofs.argument.ChoiceLaws.{same, not_same, either_same}
 use Rattle.bisimulation.specs.definitions.Sum.{sum}
-use Rattle.bisimulation.specs.argument.SumLaws.{sum_cong, sum_zero}
+use Rattle.bisimulation.proofs.argument.SumLaws.{sum_cong, sum_zero}
 use Rattle.bisimulation.specs.definitions.Automaton.{Automaton}
 use Rattle.bisimulation.specs.definitions.StepRule.{Flow, Holds, arriving, leaving, over_targets, before_move, after_move, at_target}
 use Rattle.rules.specs.definitions.Faults.{Fault, no_fault, fault_by, first_of}
 use Rattle.rules.specs.definitions.PlainRule.{break_from, first_break, external_equations_fault}
-use Rattle.rules.specs.argument.BreakLaws.{break-none, break-at}
+use Rattle.rules.proofs.argument.BreakLaws.{break-none, break-at}
 use Rattle.equations.specs.Differences.{sides_of}
 use Rattle.equations.specs.RuleEquations.{same_first}
 

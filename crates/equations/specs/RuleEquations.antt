@@ -6,23 +6,23 @@ use Rattle.std.proofs.Common.{◌∙◌, arith}
 use Rattle.std.proofs.Math.IntN.{sub_ℕ}
 use Rattle.std.proofs.Math.Decide.{ℕ_discrete}
 use Rattle.bisimulation.specs.definitions.Choice.{if_same, if_true, unless_same, both}
-use Rattle.bisimulation.specs.argument.ChoiceLaws.{same, not_same, is_true, not_true, either_same}
+use Rattle.bisimulation.proofs.argument.ChoiceLaws.{same, not_same, is_true, not_true, either_same}
 use Rattle.bisimulation.specs.definitions.Automaton.{Automaton}
-use Rattle.bisimulation.specs.argument.SumLaws.{sum_times}
+use Rattle.bisimulation.proofs.argument.SumLaws.{sum_times}
 use Rattle.bisimulation.specs.definitions.Pairs.{Pairs, is_pair}
-use Rattle.bisimulation.specs.argument.PairsLaws.{is_pair_true, is_pair_of}
+use Rattle.bisimulation.proofs.argument.PairsLaws.{is_pair_true, is_pair_of}
 use Rattle.bisimulation.specs.definitions.StepRule.{Flow, Sides, arriving, leaving, over_targets, over_sources, before_move, after_move, internal_move, at_target}
 use Rattle.rules.specs.definitions.Bytes.{byte_at, two_at, three_at, four_at}
 use Rattle.rules.specs.definitions.Certificate.{FileRule, k_count_at, after_k, w_count_at, k_of, w_of, flow_at, k_fault, w_fault}
 use Rattle.rules.specs.definitions.Faults.{Fault, fault_by, fault, no_fault, first_of, Passes}
 use Rattle.rules.specs.definitions.PlainRule.{break_from, first_break, internal_equations_fault, external_equations_fault, plain_equations_fault}
-use Rattle.rules.specs.argument.PlainDecides.{kind-internal, kind-external}
-use Rattle.rules.specs.argument.FaultLaws.{first_stops, first-none, first_passes}
-use Rattle.rules.specs.argument.BreakLaws.{break-none}
-use Rattle.rules.specs.argument.EntryFaults.{passed-k, passed-w}
+use Rattle.rules.proofs.argument.PlainDecides.{kind-internal, kind-external}
+use Rattle.rules.proofs.argument.FaultLaws.{first_stops, first-none, first_passes}
+use Rattle.rules.proofs.argument.BreakLaws.{break-none}
+use Rattle.rules.proofs.argument.EntryFaults.{passed-k, passed-w}
 use Rattle.costs.specs.definitions.CostStepRule.{cost_of_layer, cost_equation}
-use Rattle.costs.specs.argument.CostLaws.{internal_cost, external_cost}
-use Rattle.costs.specs.argument.Free.{free}
+use Rattle.costs.proofs.argument.CostLaws.{internal_cost, external_cost}
+use Rattle.costs.proofs.argument.Free.{free}
 use Rattle.cost_files.specs.definitions.CostFile.{cost_equation_fault}
 use Rattle.entries_k.specs.Taking.{k_sum, cost_of_k}
 use Rattle.equations.specs.Differences.{w_sum, k_total, w_total, before_left, before_right, after_left, after_right, taken_at, given_at, first_left, first_right, second_left, second_right, target_left, target_right, cost_left, cost_right, sides_of, before_break, after_break, target_break, cost_break}

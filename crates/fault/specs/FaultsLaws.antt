@@ -2,7 +2,7 @@
 use Rattle.std.specs.Prelude.{ℕ, ◌≡◌}
 use Rattle.std.proofs.Common.{sym, ◌∙◌, ap}
 use Rattle.rules.specs.definitions.Faults as rules
-use Rattle.rules.specs.argument.FaultLaws.{pass_on}
+use Rattle.rules.proofs.argument.FaultLaws.{pass_on}
 use Rattle.fault.specs.declared.Fault.{Fault}
 use Rattle.fault.specs.Faults.{fault_of, Placed}
 

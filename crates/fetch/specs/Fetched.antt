@@ -9,9 +9,9 @@ use Rattle.rules.specs.definitions.Reading.{run_start, run_end}
 use Rattle.rules.specs.definitions.Answers.{Answer, refusal_in, answer_without_place, file_of, run_answer, fetch_answer, fetch_outcome}
 use Rattle.rules.specs.definitions.SoundModel.{Bytes}
 use Rattle.rules.specs.definitions.FetchDemands.{FetchDemands}
-use Rattle.rules.specs.argument.SoundModelLaws.{current-fit}
-use Rattle.rules.specs.argument.AnswerLaws.{fetch-file, fetch-inside}
-use Rattle.rules.specs.argument.FetchHolds.{fetch-demands}
+use Rattle.rules.proofs.argument.SoundModelLaws.{current-fit}
+use Rattle.rules.proofs.argument.AnswerLaws.{fetch-file, fetch-inside}
+use Rattle.rules.proofs.argument.FetchHolds.{fetch-demands}
 use Rattle.fault.specs.Faults.{fault_of}
 use Rattle.answer.specs.declared.Answer as declared
 use Rattle.answer.specs.Answered.{Says, StretchInside, CallAnswered}

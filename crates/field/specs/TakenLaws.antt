@@ -7,7 +7,7 @@ use Rattle.std.proofs.Math.Facts.{to_z_pos}
 use Rattle.std.proofs.Math.Decide.{dec_lt}
 use Rattle.rules.specs.definitions.Bytes.{four_at, signed_at}
 use Rattle.rules.specs.definitions.Encoding.{four_bytes, complement}
-use Rattle.rules.specs.argument.Standing.{stands-all, four_is, signed_is}
+use Rattle.rules.proofs.argument.Standing.{stands-all, four_is, signed_is}
 use Rattle.field.specs.Taken.{IsLowered}
 
 -- a number moved down, by its two cases

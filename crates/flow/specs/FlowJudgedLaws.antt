@@ -7,7 +7,7 @@ use Rattle.rules.specs.definitions.Bytes.{two_at, four_at}
 use Rattle.rules.specs.definitions.Certificate.{k_count_at, w_count_at, after_k, after_flow, k_fault, w_fault}
 use Rattle.rules.specs.definitions.Faults as rules
 use Rattle.rules.specs.definitions.Faults.{fault, Passes}
-use Rattle.rules.specs.argument.FaultLaws.{pass_on}
+use Rattle.rules.proofs.argument.FaultLaws.{pass_on}
 use Rattle.fault.specs.Faults.{fault_of, Placed}
 use Rattle.fault.specs.declared.Fault.{Fault}
 use Rattle.field.specs.Taken as field

@@ -2,14 +2,14 @@
 use Rattle.std.specs.Prelude.{ℕ, ◌+◌, ◌*◌, ◌≤◌, ◌<◌, ◌≡◌, refl, List, length, ℤ}
 use Rattle.std.proofs.Common.{◌∙◌, arith}
 use Rattle.bisimulation.specs.definitions.Choice.{if_less}
-use Rattle.bisimulation.specs.argument.ChoiceLaws.{less, not_less, same, not_same}
+use Rattle.bisimulation.proofs.argument.ChoiceLaws.{less, not_less, same, not_same}
 use Rattle.bisimulation.specs.definitions.Automaton.{Automaton}
 use Rattle.bisimulation.specs.definitions.Pairs.{Pairs}
 use Rattle.rules.specs.definitions.Bytes.{four_at}
 use Rattle.rules.specs.definitions.Certificate.{FileRule, k_count_at, w_count_at, after_k, after_flow, k_fault, w_fault, flow_at, flow_fault}
 use Rattle.rules.specs.definitions.Faults as rules
 use Rattle.rules.specs.definitions.Faults.{fault, Passes, certificate_record, first_of}
-use Rattle.rules.specs.argument.FaultLaws.{pass_on, first_stops, first-none, certificate-refuses, opened}
+use Rattle.rules.proofs.argument.FaultLaws.{pass_on, first_stops, first-none, certificate-refuses, opened}
 use Rattle.fault.specs.Faults.{fault_of, Placed}
 use Rattle.fault.specs.FaultsLaws.{none_is}
 use Rattle.fault.specs.declared.Fault.{Fault}

@@ -6,12 +6,12 @@ use Rattle.rules.specs.definitions.Reading.{model_at, scan_whole, read_whole, no
 use Rattle.rules.specs.definitions.SoundModel.{Bytes}
 use Rattle.rules.specs.definitions.Answers as rules
 use Rattle.rules.specs.definitions.Answers.{Outcome, refusal_in, file_of}
-use Rattle.rules.specs.argument.SoundModelLaws.{current-fit}
-use Rattle.rules.specs.argument.ReadSound.{read-whole-sound}
+use Rattle.rules.proofs.argument.SoundModelLaws.{current-fit}
+use Rattle.rules.proofs.argument.ReadSound.{read-whole-sound}
 use Rattle.composition.specs.definitions.Hiding.{hidden_file}
 use Rattle.composition.specs.definitions.HideAnswer.{hide_outcome}
-use Rattle.composition.specs.argument.HidingLaws.{hidden-length}
-use Rattle.composition.specs.argument.HideAnswerLaws.{hide-refused, hide-read, hide-demands}
+use Rattle.composition.proofs.argument.HidingLaws.{hidden-length}
+use Rattle.composition.proofs.argument.HideAnswerLaws.{hide-refused, hide-read, hide-demands}
 use Rattle.limits.specs.TermsBy.{current_terms}
 use Rattle.fault.specs.declared.Fault.{Fault}
 use Rattle.fault.specs.Faults.{fault_of}

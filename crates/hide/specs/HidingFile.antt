@@ -11,9 +11,9 @@ use Rattle.bisimulation.specs.definitions.Hidden.{hidden_action}
 use Rattle.rules.specs.definitions.Bytes.{byte_at}
 use Rattle.rules.specs.definitions.Model.{Transition, Model, transition_bytes, transitions_bytes}
 use Rattle.rules.specs.definitions.Reading.{count_of, action_at, entry_count_at, after_transition, transition_at, transitions_at, model_at, place_of}
-use Rattle.rules.specs.argument.FetchedRun.{length-entries_at}
-use Rattle.rules.specs.argument.ReadBack.{transition_bytes-length}
-use Rattle.rules.specs.argument.ReadingLaws.{place_of-next}
+use Rattle.rules.proofs.argument.FetchedRun.{length-entries_at}
+use Rattle.rules.proofs.argument.ReadBack.{transition_bytes-length}
+use Rattle.rules.proofs.argument.ReadingLaws.{place_of-next}
 use Rattle.composition.specs.definitions.Hiding.{member_of, hidden_transition, hidden, hidden_file}
 use Rattle.transition.specs.KnownLaws.{known-transition, place-known, fixed-inside}
 use Rattle.writer.specs.Appends.{Appends}

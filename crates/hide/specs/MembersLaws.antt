@@ -11,7 +11,7 @@ use Rattle.std.proofs.Math.Seq.{drop-length}
 use Rattle.std.proofs.Math.Decide.{ℕ_discrete}
 use native.Mathlib.Omega.{arith}
 use Rattle.bisimulation.specs.definitions.Choice.{if_true}
-use Rattle.bisimulation.specs.argument.ChoiceLaws.{same, not_same, is_true, is_false, either_true}
+use Rattle.bisimulation.proofs.argument.ChoiceLaws.{same, not_same, is_true, is_false, either_true}
 use Rattle.bisimulation.specs.definitions.Hidden.{hidden_action}
 use Rattle.composition.specs.definitions.Hiding.{member_of}
 use Rattle.hide.specs.Members.{chosen_in, HoldsMembers}

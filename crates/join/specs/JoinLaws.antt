@@ -2,7 +2,7 @@
 use Rattle.std.specs.Prelude.{ℕ, ◌+◌, ◌*◌, ◌-◌, ◌≤◌, ◌<◌, ◌≡◌, refl, Bool, true, false, List, [], ◌∷◌, length}
 use Rattle.std.proofs.Common.{sym, ◌∙◌, ap, subst, arith}
 use Rattle.std.proofs.Math.Decide.{dec_lt}
-use Rattle.bisimulation.specs.argument.ChoiceLaws.{less, not_less}
+use Rattle.bisimulation.proofs.argument.ChoiceLaws.{less, not_less}
 use Rattle.rules.specs.definitions.Limits.{current}
 use Rattle.rules.specs.definitions.Model.{Model}
 use Rattle.rules.specs.definitions.Reading.{model_at, read_whole}
@@ -10,11 +10,11 @@ use Rattle.rules.specs.definitions.SoundModel.{Bytes, entry_count}
 use Rattle.rules.specs.definitions.Answers as rules
 use Rattle.rules.specs.definitions.Answers.{Outcome, answer_without_place}
 use Rattle.rules.specs.definitions.Made.{passes_limit, made_outcome, OfTwo, two_files}
-use Rattle.rules.specs.argument.SoundModelLaws.{current-fit}
-use Rattle.rules.specs.argument.MadeLaws.{within-passes, many-states, many-transitions, many-entries, passes-within, made-over, made-within, both_read}
+use Rattle.rules.proofs.argument.SoundModelLaws.{current-fit}
+use Rattle.rules.proofs.argument.MadeLaws.{within-passes, many-states, many-transitions, many-entries, passes-within, made-over, made-within, both_read}
 use Rattle.joined.specs.definitions.Joined.{joined, joined_file}
 use Rattle.joined.specs.definitions.JoinAnswer.{passes_joined, join_outcome}
-use Rattle.joined.specs.argument.JoinAnswerLaws.{join-demands}
+use Rattle.joined.proofs.argument.JoinAnswerLaws.{join-demands}
 use Rattle.model.specs.declared.Model.{Model as Found}
 use Rattle.two_models.specs.TwoModels.{BothSound, RefusesTwo}
 use Rattle.answer.specs.declared.Answer.{Answer}

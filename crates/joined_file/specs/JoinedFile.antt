@@ -4,7 +4,7 @@ use Rattle.rules.specs.definitions.Limits.{current}
 use Rattle.rules.specs.definitions.Model.{Model}
 use Rattle.rules.specs.definitions.Reading.{states_of, model_at}
 use Rattle.joined.specs.definitions.Joined.{joined, joined_file}
-use Rattle.rules.specs.argument.LengthLaws.{Within}
+use Rattle.rules.proofs.argument.LengthLaws.{Within}
 use Rattle.two_models.specs.TwoModels.{BothSound}
 use Rattle.model.specs.declared.Model.{Model as Found}
 use Rattle.transition.specs.Known.{Known}

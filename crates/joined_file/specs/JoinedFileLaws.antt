@@ -9,12 +9,12 @@ use Rattle.rules.specs.definitions.Limits.{current}
 use Rattle.rules.specs.definitions.Bytes.{two_bytes}
 use Rattle.rules.specs.definitions.Model.{transitions_bytes, model_bytes}
 use Rattle.rules.specs.definitions.Reading.{model_at}
-use Rattle.rules.specs.argument.FetchedRun.{before-records}
+use Rattle.rules.proofs.argument.FetchedRun.{before-records}
 use Rattle.bisimulation.specs.definitions.Joined.{larger}
 use Rattle.joined.specs.definitions.Joined.{raised_transition, joined, joined_file}
 use Rattle.rules.specs.definitions.SoundModel.{entry_count}
-use Rattle.rules.specs.argument.LengthLaws.{file-length}
-use Rattle.joined.specs.argument.JoinedLaws.{joined-states, joined-transitions, joined_length, joined-sound}
+use Rattle.rules.proofs.argument.LengthLaws.{file-length}
+use Rattle.joined.proofs.argument.JoinedLaws.{joined-states, joined-transitions, joined_length, joined-sound}
 use Rattle.model.specs.declared.Model.{Model as Found}
 use Rattle.transition.specs.KnownLaws.{known-own}
 use Rattle.writer.specs.Appends.{Appends, head_bytes_of}

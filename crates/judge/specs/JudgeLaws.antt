@@ -7,11 +7,11 @@ use Rattle.rules.specs.definitions.JudgedBy.{plain_pairs}
 use Rattle.rules.specs.definitions.Answers as rules
 use Rattle.rules.specs.definitions.Answers.{answer_without_place, filled, writes_blocks, JudgeNumber}
 use Rattle.rules.specs.definitions.Demands.{outcome_by}
-use Rattle.rules.specs.argument.PlainRules.{plain_rules}
-use Rattle.rules.specs.argument.DemandsHold.{demands-hold, blocks-follow, judge-numbered}
-use Rattle.cost_files.specs.argument.CostAnswerLaws.{cost-demands-hold}
+use Rattle.rules.proofs.argument.PlainRules.{plain_rules}
+use Rattle.rules.proofs.argument.DemandsHold.{demands-hold, blocks-follow, judge-numbered}
+use Rattle.cost_files.proofs.argument.CostAnswerLaws.{cost-demands-hold}
 use Rattle.limits.specs.TermsBy.{current_terms}
-use Rattle.strong_files.specs.argument.StrongAnswerLaws.{strong-demands}
+use Rattle.strong_files.proofs.argument.StrongAnswerLaws.{strong-demands}
 use Rattle.rule_kind.specs.Kinds.{pairs_by}
 use Rattle.rule_kind.specs.declared.Kind.{Kind}
 use Rattle.rule_kind.specs.declared.Kind.TheVariants.{Plain, Costs, Strong}

@@ -2,14 +2,14 @@
 use Rattle.std.specs.Prelude.{ℕ, ◌+◌, ◌≤◌, ◌<◌, ◌≡◌, true, false, List, length}
 use Rattle.std.proofs.Math.Path.{refl, sym, ap, subst}
 use Rattle.std.proofs.Common.{◌∙◌, arith}
-use Rattle.bisimulation.specs.argument.ChoiceLaws.{false-not}
+use Rattle.bisimulation.proofs.argument.ChoiceLaws.{false-not}
 use Rattle.rules.specs.definitions.Limits.{limits}
 use Rattle.rules.specs.definitions.Bytes.{byte_at}
 use Rattle.rules.specs.definitions.Faults as rules-faults
 use Rattle.rules.specs.definitions.SoundModel.{Bytes}
 use Rattle.rules.specs.definitions.Reading.{Scan, refused, model_at, head_fault, scan_whole, read_whole, reading_of, no_model, count_of, place_of}
-use Rattle.rules.specs.argument.ReadingLaws.{head-terms, head-stops, Tells, whole_tells}
-use Rattle.rules.specs.argument.SoundModelLaws.{sound-any}
+use Rattle.rules.proofs.argument.ReadingLaws.{head-terms, head-stops, Tells, whole_tells}
+use Rattle.rules.proofs.argument.SoundModelLaws.{sound-any}
 use Rattle.limits.specs.TermsBy.{terms_of, limits_by}
 use Rattle.limits.specs.declared.Terms.{Terms}
 use Rattle.fault.specs.Faults.{fault_of, Placed}
@@ -23,7 +23,7 @@ use Rattle.transition.specs.ModelRead.{sound-known}
 use Rattle.transition.specs.KnownLaws.{known-told}
 use Rattle.cost_files.specs.definitions.CostModel.{highest_cost, transitions_end}
 use Rattle.cost_files.specs.definitions.CostReading.{scan_cost_model, read_costs}
-use Rattle.cost_files.specs.argument.CostReadingLaws.{cost-scan, scan-told, scan-sound, scan-low, cost-refusal-told, cost-head-stops}
+use Rattle.cost_files.proofs.argument.CostReadingLaws.{cost-scan, scan-told, scan-sound, scan-low, cost-refusal-told, cost-head-stops}
 use Rattle.rule_kind.specs.Kinds.{has_costs, pairs_by, CostsThere}
 use Rattle.rule_kind.specs.declared.Kind.{Kind}
 use Rattle.rule_kind.specs.declared.Kind.TheVariants.{Plain, Costs, Strong}

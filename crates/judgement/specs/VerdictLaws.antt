@@ -12,16 +12,16 @@ use Rattle.rules.specs.definitions.Judging.{refused_in, judge_certificate, judge
 use Rattle.rules.specs.definitions.Answers as rules
 use Rattle.rules.specs.definitions.Answers.{Outcome, refusal_in, answer_without_place, file_of, unwritten, Follows, first_lent}
 use Rattle.rules.specs.definitions.Demands.{outcome_by}
-use Rattle.rules.specs.argument.Numbers.{JudgementNumber, certificate-numbered, unread-number}
+use Rattle.rules.proofs.argument.Numbers.{JudgementNumber, certificate-numbered, unread-number}
 use Rattle.rules.specs.definitions.SoundModel.{FitsWidths}
 use Rattle.rules.specs.definitions.CertificateAt.{blocks_place}
-use Rattle.rules.specs.argument.SoundModelLaws.{limits-fit, with-fits}
-use Rattle.rules.specs.argument.JudgingLaws.{certificate-terms}
-use Rattle.rules.specs.argument.PlainRules.{plain_rules_at, stored_rules}
+use Rattle.rules.proofs.argument.SoundModelLaws.{limits-fit, with-fits}
+use Rattle.rules.proofs.argument.JudgingLaws.{certificate-terms}
+use Rattle.rules.proofs.argument.PlainRules.{plain_rules_at, stored_rules}
 use Rattle.limits.specs.TermsBy.{terms_of, limits_by}
 use Rattle.limits.specs.declared.Terms.{Terms}
-use Rattle.cost_files.specs.argument.CostRules.{cost_rules_at, stored_cost_rules}
-use Rattle.rules.specs.argument.PairOutcome.{outcome-refused, outcome-short, outcome-unaccepted, outcome-accepted}
+use Rattle.cost_files.proofs.argument.CostRules.{cost_rules_at, stored_cost_rules}
+use Rattle.rules.proofs.argument.PairOutcome.{outcome-refused, outcome-short, outcome-unaccepted, outcome-accepted}
 use Rattle.fault.specs.Faults.{fault_of, Placed}
 use Rattle.fault.specs.declared.Fault.{Fault}
 use Rattle.transition.specs.Known.{automaton_in, Known}
@@ -32,7 +32,7 @@ use Rattle.flows.specs.declared.Judged.TheVariants.{Accepted, Refused}
 use Rattle.answer.specs.declared.Answer.{Answer}
 use Rattle.answer.specs.Answered.{Says}
 use Rattle.answer.specs.AnsweredLaws.{gives-unwritten, without-stretch, with-stretch}
-use Rattle.strong_files.specs.argument.StrongRules.{strong_rules_at}
+use Rattle.strong_files.proofs.argument.StrongRules.{strong_rules_at}
 use Rattle.rule_kind.specs.Kinds.{pairs_by, rule_of}
 use Rattle.rule_kind.specs.declared.Kind.{Kind}
 use Rattle.rule_kind.specs.declared.Kind.TheVariants.{Plain, Costs, Strong}

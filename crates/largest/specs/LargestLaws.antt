@@ -8,12 +8,12 @@ use Rattle.rules.specs.definitions.Model.{transitions_bytes, head_bytes, labels_
 use Rattle.rules.specs.definitions.Encoding.{list_bytes, refutation_bytes, blocks_bytes, four_bytes, w_bytes, flow_bytes, certificate_bytes}
 use Rattle.rules.specs.definitions.Answers as rules
 use Rattle.rules.specs.definitions.Answers.{second_written, answer_without_place, unwritten}
-use Rattle.rules.specs.argument.AnswerLaws.{none-second, first_short, second_short, both-fit}
+use Rattle.rules.proofs.argument.AnswerLaws.{none-second, first_short, second_short, both-fit}
 use Rattle.largest_pair.specs.definitions.LargestPair.{zeros, self_loop, largest_model, stays, flows_against, largest_certificate, largest_model_file, largest_certificate_file}
 use Rattle.largest_pair.specs.definitions.FewFlows.{most_flows}
 use Rattle.largest_pair.specs.definitions.LargestAnswer.{outside_limits, largest_outcome, WithinLimits}
-use Rattle.largest_pair.specs.argument.LargestLaws.{list-append, bytes-replicate, flow-length, largest-states, largest-transitions, model-length, certificate-length}
-use Rattle.largest_pair.specs.argument.LargestAnswerLaws.{largest-outside, largest-inside, largest-demands}
+use Rattle.largest_pair.proofs.argument.LargestLaws.{list-append, bytes-replicate, flow-length, largest-states, largest-transitions, model-length, certificate-length}
+use Rattle.largest_pair.proofs.argument.LargestAnswerLaws.{largest-outside, largest-inside, largest-demands}
 use Rattle.writer.specs.Appends.{Appends, head_bytes_of}
 use Rattle.writer.specs.AppendsLaws.{Ahead, ahead-start, ahead-turn, ahead-end, append-more, appended-as, file-filled}
 use Rattle.answer.specs.declared.Answer.{Answer}

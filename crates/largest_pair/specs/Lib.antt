@@ -1,4 +1,2 @@
 -- How large a certificate can get: request K13 of document 02.
 pub mod definitions
-pub mod argument
-pub mod cases

@@ -6,7 +6,7 @@ use Rattle.rules.specs.definitions.Reading.{states_of, model_at}
 use Rattle.rules.specs.definitions.SoundModel.{SoundModel}
 use Rattle.rules.specs.definitions.BlockCount.{block_count}
 use Rattle.quotient.specs.definitions.Quotient.{by_block, merged_file}
-use Rattle.rules.specs.argument.NumberedBlocks.{NumberedBlocks}
+use Rattle.rules.proofs.argument.NumberedBlocks.{NumberedBlocks}
 use Rattle.transition.specs.Known.{Known}
 use Rattle.merged_transitions.specs.declared.Kept.{Kept}
 use Rattle.merged_transitions.specs.MergedTransitions.{transitions_in, Holds}

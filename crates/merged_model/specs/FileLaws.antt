@@ -14,8 +14,8 @@ use Rattle.rules.specs.definitions.Reading.{states_of, actions_of, model_at}
 use Rattle.rules.specs.definitions.SoundModel.{SoundModel}
 use Rattle.rules.specs.definitions.BlockCount.{block_count}
 use Rattle.quotient.specs.definitions.Quotient.{block_labels, by_block, quotient, merged_file}
-use Rattle.rules.specs.argument.NumberedBlocks.{NumberedBlocks}
-use Rattle.quotient.specs.argument.QuotientLaws.{quotient-sound, merged-states, merged-below}
+use Rattle.rules.proofs.argument.NumberedBlocks.{NumberedBlocks}
+use Rattle.quotient.proofs.argument.QuotientLaws.{quotient-sound, merged-states, merged-below}
 use Rattle.answer.specs.Answered.{FileWritten}
 use Rattle.answer.specs.AnsweredLaws.{written-short, written-whole}
 use Rattle.limits.specs.Sizes as sizes

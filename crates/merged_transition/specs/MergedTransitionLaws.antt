@@ -12,11 +12,11 @@ use Rattle.rules.specs.definitions.Model.{Entry, entries_bytes, transition_bytes
 use Rattle.rules.specs.definitions.LowestTerms.{divisor_in, divided_entry, in_lowest}
 use Rattle.rules.specs.definitions.Reading.{states_of, count_of, entry_count_at, transition_at, model_at, place_of}
 use Rattle.quotient.specs.definitions.Quotient.{weight_to_block, block_entries, added_up, merged_transition}
-use Rattle.rules.specs.argument.TermsLaws.{divisor-some}
-use Rattle.quotient.specs.argument.QuotientLaws.{added-rules}
+use Rattle.rules.proofs.argument.TermsLaws.{divisor-some}
+use Rattle.quotient.proofs.argument.QuotientLaws.{added-rules}
 use Rattle.rules.specs.definitions.BlockCount.{block_count}
-use Rattle.rules.specs.argument.ModelAutomaton.{automaton-source, automaton-action, automaton-denominator}
-use Rattle.rules.specs.argument.SoundModelLaws.{each_map}
+use Rattle.rules.proofs.argument.ModelAutomaton.{automaton-source, automaton-action, automaton-denominator}
+use Rattle.rules.proofs.argument.SoundModelLaws.{each_map}
 use Rattle.transition_record.specs.declared.Fields.{Fields}
 use Rattle.transition.specs.Known.{FieldsOf, entries_of}
 use Rattle.transition.specs.KnownLaws.{known-states, rules-of, entries-known}

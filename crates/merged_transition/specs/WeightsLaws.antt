@@ -11,17 +11,17 @@ use Rattle.std.proofs.Math.Seq.{get_or-set_same, get_or-set_other}
 use Rattle.std.proofs.Math.Decide.{ℕ_discrete, dec_lt}
 use native.Mathlib.Omega.{arith}
 use Rattle.bisimulation.specs.definitions.Choice.{if_same}
-use Rattle.bisimulation.specs.argument.ChoiceLaws.{same, not_same, either_same}
+use Rattle.bisimulation.proofs.argument.ChoiceLaws.{same, not_same, either_same}
 use Rattle.numbers.specs.definitions.Divisor.{Divides, divisor, divisor_of}
-use Rattle.numbers.specs.argument.DivisorLaws.{DividesEach, divides-zero, divisor-greatest, divisor_of-greatest, divides-each-other, one-divides}
-use Rattle.rules.specs.argument.TermsLaws.{weights-divided}
-use Rattle.rules.specs.argument.SoundModelLaws.{each_map, each_append, each-parts}
+use Rattle.numbers.proofs.argument.DivisorLaws.{DividesEach, divides-zero, divisor-greatest, divisor_of-greatest, divides-each-other, one-divides}
+use Rattle.rules.proofs.argument.TermsLaws.{weights-divided}
+use Rattle.rules.proofs.argument.SoundModelLaws.{each_map, each_append, each-parts}
 use Rattle.rules.specs.definitions.Bytes.{byte_at, two_at, two_bytes}
 use Rattle.rules.specs.definitions.Limits.{limits}
 use Rattle.rules.specs.definitions.Model.{Entry, entries_bytes}
 use Rattle.rules.specs.definitions.LowestTerms.{divided_entry}
 use Rattle.rules.specs.definitions.Reading.{states_of, entry_count_at, entries_at, place_of}
-use Rattle.rules.specs.argument.ReadBack.{entries_bytes-length}
+use Rattle.rules.proofs.argument.ReadBack.{entries_bytes-length}
 use Rattle.quotient.specs.definitions.Quotient.{weight_to_block, block_entries}
 use Rattle.rules.specs.definitions.SoundModel.{Each, sum_over}
 use Rattle.transition_record.specs.declared.Fields.{Fields}

@@ -5,12 +5,12 @@ use Rattle.std.proofs.Common.{◌∙◌, take-suc, arith}
 use Rattle.std.proofs.Math.Bool.{true, false, cond}
 use mathlib.Core.List.{List, [], ◌∷◌, ◌++◌, append_assoc, append-nil}
 use Rattle.bisimulation.specs.definitions.Choice.{if_same, if_true}
-use Rattle.bisimulation.specs.argument.ChoiceLaws.{false-not}
+use Rattle.bisimulation.proofs.argument.ChoiceLaws.{false-not}
 use Rattle.rules.specs.definitions.Model.{Transition, no_transition}
 use Rattle.rules.specs.definitions.BlockCount.{block_count}
 use Rattle.quotient.specs.definitions.Quotient.{merged_transition, from_block, same_transition, is_among, distinct, by_block}
 use Rattle.rules.specs.definitions.SoundModel.{Each}
-use Rattle.quotient.specs.argument.SameTransitions.{Positive, same-tells, tells-same, same-through}
+use Rattle.quotient.proofs.argument.SameTransitions.{Positive, same-tells, tells-same, same-through}
 
 -- one of two tests holds
 or : Bool → Bool → Bool

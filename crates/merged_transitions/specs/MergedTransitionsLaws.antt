@@ -6,18 +6,18 @@ use mathlib.Core.List.{List, [], ◌∷◌, ◌++◌, append_assoc, append-nil}
 use lib.ListN.{length, get_or, take, drop, length-append}
 use Rattle.std.proofs.Math.Seq.{take-append_seam, drop-append_seam}
 use Rattle.bisimulation.specs.definitions.Choice.{if_true}
-use Rattle.bisimulation.specs.argument.ChoiceLaws.{same, not_same, is_true, is_false}
+use Rattle.bisimulation.proofs.argument.ChoiceLaws.{same, not_same, is_true, is_false}
 use Rattle.rules.specs.definitions.Model.{Transition, transition_bytes, transitions_bytes, no_transition, automaton_of}
 use Rattle.rules.specs.definitions.Reading.{entry_count_at, transition_at, model_at, place_of}
 use Rattle.rules.specs.definitions.SoundModel.{Each, sum_over, TransitionRules, LowestTerms}
-use Rattle.rules.specs.argument.SoundModelLaws.{each_at, each_map}
-use Rattle.rules.specs.argument.ReadBack.{transition_bytes-length}
-use Rattle.rules.specs.argument.ModelAutomaton.{transition-is}
-use Rattle.rules.specs.argument.FetchedRun.{length-entries_at}
-use Rattle.quotient.specs.argument.KeyedSums.{each_all, sum_over-most, sum_over-length}
+use Rattle.rules.proofs.argument.SoundModelLaws.{each_at, each_map}
+use Rattle.rules.proofs.argument.ReadBack.{transition_bytes-length}
+use Rattle.rules.proofs.argument.ModelAutomaton.{transition-is}
+use Rattle.rules.proofs.argument.FetchedRun.{length-entries_at}
+use Rattle.quotient.proofs.argument.KeyedSums.{each_all, sum_over-most, sum_over-length}
 use Rattle.rules.specs.definitions.BlockCount.{block_count}
 use Rattle.quotient.specs.definitions.Quotient.{merged_transition, from_block, is_among, distinct, by_block}
-use Rattle.quotient.specs.argument.QuotientLaws.{merged-few, merged-rules, merged-lowest, each-distinct, each_from, transitions-length}
+use Rattle.quotient.proofs.argument.QuotientLaws.{merged-few, merged-rules, merged-lowest, each-distinct, each_from, transitions-length}
 use Rattle.limits.specs.Sizes.{records}
 use Rattle.transition.specs.Known.{Known}
 use Rattle.transition.specs.KnownLaws.{known-states, known-transitions, known-transition}

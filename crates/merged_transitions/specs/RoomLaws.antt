@@ -6,15 +6,15 @@ use mathlib.Core.List.{List, [], ◌∷◌, ◌++◌}
 use Rattle.std.proofs.Math.Seq.{take_all}
 use native.Mathlib.Omega.{arith}
 use Rattle.bisimulation.specs.definitions.Choice.{if_same}
-use Rattle.bisimulation.specs.argument.ChoiceLaws.{same, either_same}
+use Rattle.bisimulation.proofs.argument.ChoiceLaws.{same, either_same}
 use Rattle.bisimulation.specs.definitions.Sum.{sum}
-use Rattle.bisimulation.specs.argument.SumLaws.{sum_mono}
+use Rattle.bisimulation.proofs.argument.SumLaws.{sum_mono}
 use Rattle.rules.specs.definitions.Model.{Transition, transition_bytes, no_transition}
 use Rattle.rules.specs.definitions.SoundModel.{Each, sum_over}
 use Rattle.rules.specs.definitions.BlockCount.{block_count}
 use Rattle.quotient.specs.definitions.Quotient.{merged_transition, from_block, distinct, by_block}
-use Rattle.quotient.specs.argument.KeyedSums.{sum-next, sum_over-append, sum_over-most, sum_at, sum_at-all}
-use Rattle.quotient.specs.argument.QuotientLaws.{sum-distinct, sum-from, sum-by-block}
+use Rattle.quotient.proofs.argument.KeyedSums.{sum-next, sum_over-append, sum_over-most, sum_at, sum_at-all}
+use Rattle.quotient.proofs.argument.QuotientLaws.{sum-distinct, sum-from, sum-by-block}
 use Rattle.merged_transitions.specs.MergedTransitions.{before, here}
 
 -- sums over the first elements

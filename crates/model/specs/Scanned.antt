@@ -3,10 +3,10 @@ use Rattle.std.specs.Prelude.{ℕ, ◌+◌, ◌<◌, ◌≡◌, List, length, ge
 use Rattle.std.proofs.Math.Path.{refl}
 use Rattle.std.proofs.Common.{sym, ◌∙◌, ap}
 use Rattle.rules.specs.definitions.Limits.{limits}
-use Rattle.bisimulation.specs.argument.ChoiceLaws.{either_less}
+use Rattle.bisimulation.proofs.argument.ChoiceLaws.{either_less}
 use Rattle.rules.specs.definitions.Faults.{fault}
 use Rattle.rules.specs.definitions.Reading.{head_fault, Scan, sound, refused, refuse_bytes_left, scan_whole, place_of}
-use Rattle.rules.specs.argument.ReadingLaws.{head-terms, head-stops}
+use Rattle.rules.proofs.argument.ReadingLaws.{head-terms, head-stops}
 use Rattle.rules.specs.definitions.Answers.{Answer, refusal_in, answer_without_place, scan_answer}
 use Rattle.fault.specs.Faults.{fault_of, Placed}
 use Rattle.fault.specs.declared.Fault.{Fault}

@@ -1,4 +1,3 @@
 -- Numbers in decimal, and the greatest common divisor: what several requests of document 02 need.
 pub mod definitions
-pub mod argument
 pub mod cases

@@ -11,7 +11,7 @@ use Rattle.std.proofs.lemmas.List.{length-replicate, get_or-replicate}
 use Rattle.std.proofs.Math.Seq.{get_or-set_same, get_or-set_other}
 use borrow.Author.Tests.{eqb-true, eqb-false}
 use Rattle.bisimulation.specs.definitions.Choice.{both, if_true, count_below}
-use Rattle.bisimulation.specs.argument.ChoiceLaws.{less, not_less, false-not, count_below_cong, count-above}
+use Rattle.bisimulation.proofs.argument.ChoiceLaws.{less, not_less, false-not, count_below_cong, count-above}
 use Rattle.bisimulation.specs.definitions.Pairs.{Pairs, is_pair, removed}
 use Rattle.rules.specs.definitions.Limits.{limits}
 use Rattle.limits.specs.Sizes.{row_words}

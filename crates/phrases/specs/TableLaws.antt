@@ -6,9 +6,9 @@ use Rattle.std.proofs.Math.ListN.{get_or-append}
 use Rattle.std.proofs.Math.Seq.{take-append_seam, drop-append-add, get_or-append_seam}
 use Rattle.std.proofs.Math.Decide.{dec_lt}
 use Rattle.bisimulation.specs.definitions.Choice.{if_less}
-use Rattle.bisimulation.specs.argument.ChoiceLaws.{less, not_less, past_less, false-not}
+use Rattle.bisimulation.proofs.argument.ChoiceLaws.{less, not_less, past_less, false-not}
 use Rattle.sentences.specs.definitions.Phrases.{bytes_of, phrases, other_phrase, phrase_of}
-use Rattle.sentences.specs.argument.PhraseLaws.{phrases-count, other-phrase}
+use Rattle.sentences.proofs.argument.PhraseLaws.{phrases-count, other-phrase}
 use Rattle.phrases.specs.Table.{row_of, rows, table_of, lengths_of, all_fit, IsTable}
 
 -- a phrase in its row

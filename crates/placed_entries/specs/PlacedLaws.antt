@@ -6,8 +6,8 @@ use Rattle.std.proofs.Math.Nat.{mul-le-mul_left}
 use Rattle.rules.specs.definitions.Model.{Entry}
 use Rattle.rules.specs.definitions.Reading.{states_of, entry_count_at, place_of}
 use Rattle.rules.specs.definitions.SoundModel.{Each}
-use Rattle.rules.specs.argument.SoundModelLaws.{each_map}
-use Rattle.rules.specs.argument.MappedLists.{each_both, each-most}
+use Rattle.rules.proofs.argument.SoundModelLaws.{each_map}
+use Rattle.rules.proofs.argument.MappedLists.{each_both, each-most}
 use Rattle.transition_record.specs.declared.Fields.{Fields}
 use Rattle.transition.specs.declared.Entry as read
 use Rattle.transition.specs.Entries.{EntryTaken}

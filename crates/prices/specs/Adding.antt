@@ -3,7 +3,7 @@ use Rattle.std.specs.Prelude.{ℕ, ◌+◌, ◌*◌, ◌^◌, ◌≤◌, ◌≡�
 use Rattle.rules.specs.definitions.Model.{Entry}
 use Rattle.rules.specs.definitions.Reading.{entries_at}
 use Rattle.rules.specs.definitions.SoundModel.{Each, sum_over}
-use Rattle.rules.specs.argument.EntryPrices.{price_of_entries}
+use Rattle.rules.proofs.argument.EntryPrices.{price_of_entries}
 use Rattle.prices.specs.declared.Running.{Running}
 use Rattle.prices.specs.Prices.{price_in, HasPrice}
 

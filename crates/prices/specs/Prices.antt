@@ -5,7 +5,7 @@ use Rattle.rules.specs.definitions.Limits.{limits}
 use Rattle.rules.specs.definitions.Model.{Entry}
 use Rattle.rules.specs.definitions.Reading.{entries_at}
 use Rattle.rules.specs.definitions.SoundModel.{Each, sum_over}
-use Rattle.rules.specs.argument.EntryPrices.{price_of_entries}
+use Rattle.rules.proofs.argument.EntryPrices.{price_of_entries}
 
 -- the price of a state in a table
 abbrev pub price_in : List ℤ → ℕ → ℤ

@@ -14,7 +14,7 @@ use Rattle.rules.specs.definitions.Bytes.{signed_at}
 use Rattle.rules.specs.definitions.Model.{Entry}
 use Rattle.rules.specs.definitions.Reading.{states_of, entries_at}
 use Rattle.rules.specs.definitions.SoundModel.{Each, sum_over}
-use Rattle.rules.specs.argument.EntryPrices.{price_of_entries}
+use Rattle.rules.proofs.argument.EntryPrices.{price_of_entries}
 use Rattle.field.specs.declared.Price.{Price}
 use Rattle.field.specs.Taken.{Priced}
 use Rattle.transition_record.specs.declared.Fields.{Fields}

@@ -1,4 +1,2 @@
 -- PRISM's explicit files: request K9 of document 02.
 pub mod definitions
-pub mod argument
-pub mod cases

@@ -8,7 +8,7 @@ use Rattle.rules.specs.definitions.Bytes.{two_bytes}
 use Rattle.rules.specs.definitions.Limits.{limits}
 use Rattle.rules.specs.definitions.Model.{Entry, entries_bytes, transition_bytes}
 use Rattle.prism.specs.definitions.HeldModel.{entry_over}
-use Rattle.prism.specs.argument.PairTable.{PairSet, each_more, Paired, paired-length, paired-next, paired-more}
+use Rattle.prism.proofs.argument.PairTable.{PairSet, each_more, Paired, paired-length, paired-next, paired-more}
 use Rattle.writer.specs.Appends.{Appends, fixed_bytes}
 use Rattle.writer.specs.AppendsLaws.{append-none, append-more, entries-append, record-bytes}
 use Rattle.prism_choice.specs.Targets.{targets_in, over_divisor, TargetsFit}

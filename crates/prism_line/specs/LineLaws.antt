@@ -5,17 +5,17 @@ use Rattle.std.proofs.Common.{sym, ◌∙◌, subst, inl, inr, length-drop, drop
 use mathlib.Core.List.{List, [], ◌∷◌}
 use Rattle.std.proofs.Math.Decide.{ℕ_discrete, dec_lt}
 use Rattle.bisimulation.specs.definitions.Choice.{both}
-use Rattle.bisimulation.specs.argument.ChoiceLaws.{less, not_less, not_same, is_true, is_false, either_true, past_less, past_same, kept_true, one-test, both_true, true-both}
+use Rattle.bisimulation.proofs.argument.ChoiceLaws.{less, not_less, not_same, is_true, is_false, either_true, past_less, past_same, kept_true, one-test, both_true, true-both}
 use Rattle.numbers.specs.definitions.Decimal.{value_of, is_number}
-use Rattle.numbers.specs.argument.DecimalLaws.{number_digits}
+use Rattle.numbers.proofs.argument.DecimalLaws.{number_digits}
 use Rattle.rules.specs.definitions.Limits.{limits}
 use Rattle.prism.specs.definitions.Lines as prism
 use Rattle.prism.specs.definitions.Lines.{pieces, ten_thousandths, is_name, line_by, fields_line, read_line, ReadHead, head_by, fields_head, read_head}
 use Rattle.prism.specs.definitions.Reading.{Choice, begun, goes_on}
-use Rattle.prism.specs.argument.PieceLaws.{digits-without, pieces-one, pieces-some, piece-last}
-use Rattle.prism.specs.argument.LineLaws.{name-shown, shown-without, good-not}
-use Rattle.prism.specs.argument.HeadLaws.{HeadRules, head-not}
-use Rattle.prism.specs.argument.GoesOnLaws.{GoesOn, goes-on-pieces}
+use Rattle.prism.proofs.argument.PieceLaws.{digits-without, pieces-one, pieces-some, piece-last}
+use Rattle.prism.proofs.argument.LineLaws.{name-shown, shown-without, good-not}
+use Rattle.prism.proofs.argument.HeadLaws.{HeadRules, head-not}
+use Rattle.prism.proofs.argument.GoesOnLaws.{GoesOn, goes-on-pieces}
 use Rattle.text_fields.specs.Fields.{PieceEnds, number_below}
 use Rattle.text_fields.specs.FieldLaws.{ends-parted, ends_last, number-value, number_small, no_number, small-number, parts-most}
 use Rattle.prism_line.specs.LineRead.{capped, SameLine, Unfit, LineRead, HeadRead}

@@ -6,11 +6,11 @@ use Rattle.std.proofs.Common.{◌∙◌, subst, length-drop, length-take-le, add
 use mathlib.Core.List.{List, [], ◌∷◌, ◌++◌}
 use Rattle.std.proofs.Math.Decide.{ℕ_discrete}
 use Rattle.bisimulation.specs.definitions.Choice.{if_true}
-use Rattle.bisimulation.specs.argument.ChoiceLaws.{less, not_less, is_true, is_false}
+use Rattle.bisimulation.proofs.argument.ChoiceLaws.{less, not_less, is_true, is_false}
 use Rattle.rules.specs.definitions.Limits.{limits}
 use Rattle.prism.specs.definitions.Reading.{same_bytes, place_among, action_of, with_name}
-use Rattle.prism.specs.argument.PairTable.{PairSet, pair_set, each_more, Paired, paired-length, paired-next, paired-more}
-use Rattle.prism.specs.argument.NameLaws.{place-stays, place-behind, action-place, action-most, with-count}
+use Rattle.prism.proofs.argument.PairTable.{PairSet, pair_set, each_more, Paired, paired-length, paired-next, paired-more}
+use Rattle.prism.proofs.argument.NameLaws.{place-stays, place-behind, action-place, action-most, with-count}
 use Rattle.prism_names.specs.Names.{between, names_in, KnownNames, NameKept}
 
 module _ (names : List (List ℕ)) (name : List ℕ) where

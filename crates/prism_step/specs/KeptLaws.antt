@@ -5,19 +5,19 @@ use Rattle.std.proofs.Common.{◌∙◌, arith}
 use mathlib.Core.List.{List, [], ◌∷◌, ◌++◌, map, map-append, append-nil}
 use Rattle.std.proofs.lemmas.List.{length-map}
 use Rattle.std.proofs.Math.Decide.{ℕ_discrete}
-use Rattle.bisimulation.specs.argument.ChoiceLaws.{same, not_same}
+use Rattle.bisimulation.proofs.argument.ChoiceLaws.{same, not_same}
 use Rattle.numbers.specs.definitions.Divisor.{divisor, divisor_of}
-use Rattle.numbers.specs.argument.DivisorLaws.{divisor-first, divisor-greatest, divides-positive}
+use Rattle.numbers.proofs.argument.DivisorLaws.{divisor-first, divisor-greatest, divides-positive}
 use Rattle.rules.specs.definitions.Limits.{limits}
 use Rattle.rules.specs.definitions.Model.{Entry, Transition, transition_bytes, transitions_bytes}
 use Rattle.rules.specs.definitions.SoundModel.{sum_over}
-use Rattle.rules.specs.argument.ReadBack.{transition_bytes-length}
+use Rattle.rules.proofs.argument.ReadBack.{transition_bytes-length}
 use Rattle.prism.specs.definitions.Lines as prism
 use Rattle.prism.specs.definitions.Reading as reading
 use Rattle.prism.specs.definitions.Reading.{Choice, Pending, begun, last_target, action_of, with_name, with_extended, with_begun, choices_of}
 use Rattle.prism.specs.definitions.HeldModel.{weights_of, transition_of, transition_over, entry_over}
-use Rattle.prism.specs.argument.PairTable.{PairSet, pair_set}
-use Rattle.prism.specs.argument.NameLaws.{with-count}
+use Rattle.prism.proofs.argument.PairTable.{PairSet, pair_set}
+use Rattle.prism.proofs.argument.NameLaws.{with-count}
 use Rattle.prism_line.specs.declared.Line.{Line}
 use Rattle.prism_names.specs.Names.{between, names_in, NameKept}
 use Rattle.prism_names.specs.NamesLaws.{names-length}

@@ -2,7 +2,7 @@
 use Rattle.std.specs.Prelude.{ℕ, ◌+◌, ◌*◌, ◌≤◌, ◌<◌, ◌≡◌, refl, Bool, true, false, cond, not, List, ltb, eqb, length}
 use Rattle.std.proofs.Common.{sym, ◌∙◌, subst, arith}
 use Rattle.bisimulation.specs.definitions.Choice.{if_less, if_same, both}
-use Rattle.bisimulation.specs.argument.ChoiceLaws.{same, not_same, either_same, past_same, kept_less, false-not}
+use Rattle.bisimulation.proofs.argument.ChoiceLaws.{same, not_same, either_same, past_same, kept_less, false-not}
 use Rattle.rules.specs.definitions.Limits.{limits}
 use Rattle.rules.specs.definitions.Model.{transition_bytes}
 use Rattle.prism.specs.definitions.Reading.{Choice}

@@ -5,13 +5,13 @@ use Rattle.std.proofs.Common.{◌∙◌, length-append, eqb-true, arith}
 use Rattle.std.proofs.Math.Bool.{Bool, true, false}
 use Rattle.std.proofs.Math.Decide.{ℕ_discrete, dec_lt}
 use Rattle.bisimulation.specs.definitions.Choice.{if_less, if_same, if_true, both}
-use Rattle.bisimulation.specs.argument.ChoiceLaws.{less, not_less, same, not_same, is_true, is_false, kept_less, kept_same, kept_true, past_same, past_less, of_same, both_true, false-not}
+use Rattle.bisimulation.proofs.argument.ChoiceLaws.{less, not_less, same, not_same, is_true, is_false, kept_less, kept_same, kept_true, past_same, past_less, of_same, both_true, false-not}
 use Rattle.rules.specs.definitions.Limits.{limits}
 use Rattle.prism.specs.definitions.Lines as prism
 use Rattle.prism.specs.definitions.Lines.{good, read_line}
 use Rattle.prism.specs.definitions.Reading as reading
 use Rattle.prism.specs.definitions.Reading.{Choice, Pending, none, begun, goes_on, total_of, unless_total, refused_at, ReadText, choices_of, choices_with, last_target, action_of, with_name, Step, fault, read, step_read, step_by, step_on, step_begins, with_extended, with_begun}
-use Rattle.prism.specs.argument.LineLaws.{line-good, parts-some, line_value}
+use Rattle.prism.proofs.argument.LineLaws.{line-good, parts-some, line_value}
 use Rattle.prism_line.specs.declared.Line.{Line}
 use Rattle.prism_line.specs.LineRead.{LineRead, SameLine, capped}
 use Rattle.prism_names.specs.Names.{names_in}

@@ -6,7 +6,7 @@ use Rattle.std.proofs.Math.Bool.{false}
 use mathlib.Core.List.{List, [], ◌∷◌}
 use Rattle.std.proofs.Math.Nat.{sub-zero}
 use Rattle.bisimulation.specs.definitions.Choice.{if_true}
-use Rattle.bisimulation.specs.argument.ChoiceLaws.{is_true, is_false, false-not}
+use Rattle.bisimulation.proofs.argument.ChoiceLaws.{is_true, is_false, false-not}
 use Rattle.rules.specs.definitions.Limits.{limits}
 use Rattle.prism.specs.definitions.Lines as prism
 use Rattle.prism.specs.definitions.Lines.{ReadLine, good, broken, read_line}

@@ -7,14 +7,14 @@ use Rattle.std.proofs.Math.ListN.{length, drop, length-drop}
 use Rattle.std.proofs.Math.Seq.{drop-length, take_all}
 use Rattle.std.proofs.Math.Decide.{ℕ_discrete}
 use Rattle.bisimulation.specs.definitions.Choice.{if_same}
-use Rattle.bisimulation.specs.argument.ChoiceLaws.{same, not_same, is_true, is_false}
+use Rattle.bisimulation.proofs.argument.ChoiceLaws.{same, not_same, is_true, is_false}
 use Rattle.rules.specs.definitions.Bytes.{byte_at}
 use Rattle.rules.specs.definitions.Limits.{limits}
 use Rattle.rules.specs.definitions.Model.{transitions_bytes}
 use Rattle.prism.specs.definitions.Lines as prism
 use Rattle.prism.specs.definitions.Reading as reading
 use Rattle.prism.specs.definitions.Reading.{Choice, Pending, ReadText, holds, refused_at, unless_total, last_piece, at_end, choices_of, after_step, nothing_read}
-use Rattle.prism.specs.argument.ReadingLaws.{rest_at, rest_end}
+use Rattle.prism.proofs.argument.ReadingLaws.{rest_at, rest_end}
 use Rattle.text_fields.specs.Fields.{PieceEnds}
 use Rattle.prism_line.specs.declared.Line.{Line}
 use Rattle.prism_line.specs.declared.Head.{Head}

@@ -5,7 +5,7 @@ use Rattle.rules.specs.definitions.Limits.{limits}
 use Rattle.prism.specs.definitions.Lines as prism
 use Rattle.prism.specs.definitions.Reading as reading
 use Rattle.prism.specs.definitions.Reading.{Choice}
-use Rattle.prism.specs.argument.ReadingLaws.{read_rest}
+use Rattle.prism.proofs.argument.ReadingLaws.{read_rest}
 use Rattle.prism_line.specs.declared.Head.{Head}
 use Rattle.prism_names.specs.Names.{names_in}
 use Rattle.prism_step.specs.declared.Progress.{Progress}

@@ -6,8 +6,8 @@ use mathlib.Core.List.{List, map}
 use Rattle.std.proofs.lemmas.List.{length-map}
 use Rattle.rules.specs.definitions.Model.{Entry, Transition, entries_bytes, transition_bytes}
 use Rattle.rules.specs.definitions.Reading.{count_of, after_transition, entries_at, transition_at, place_of}
-use Rattle.rules.specs.argument.FetchedRun.{length-entries_at}
-use Rattle.rules.specs.argument.ModelAutomaton.{automaton-source, automaton-action, automaton-denominator}
+use Rattle.rules.proofs.argument.FetchedRun.{length-entries_at}
+use Rattle.rules.proofs.argument.ModelAutomaton.{automaton-source, automaton-action, automaton-denominator}
 use Rattle.transition_record.specs.declared.Fields.{Fields}
 use Rattle.transition.specs.Known.{FieldsOf}
 use Rattle.transition.specs.KnownLaws.{known-transition}

@@ -13,9 +13,9 @@ use Rattle.rules.specs.definitions.Answers as rules
 use Rattle.rules.specs.definitions.Answers.{Outcome, refusal_in, file_of, files_outcome}
 use Rattle.prism.specs.definitions.Reading.{nothing_read, choices_of, refused_at, read_prism}
 use Rattle.prism.specs.definitions.HeldModel.{transition_of, held_model}
-use Rattle.prism.specs.argument.PieceLaws.{Without, stretch-without, stretch-parted, last-without}
-use Rattle.prism.specs.argument.ReadingLaws.{read_rest, read-head, read-no-head, read-unended}
-use Rattle.prism.specs.argument.PrismHolds.{text-refused, text-held, prism-demands-today}
+use Rattle.prism.proofs.argument.PieceLaws.{Without, stretch-without, stretch-parted, last-without}
+use Rattle.prism.proofs.argument.ReadingLaws.{read_rest, read-head, read-no-head, read-unended}
+use Rattle.prism.proofs.argument.PrismHolds.{text-refused, text-held, prism-demands-today}
 use Rattle.fault.specs.declared.Fault.{Fault}
 use Rattle.fault.specs.Faults.{fault_of, Placed}
 use Rattle.answer.specs.declared.Answer.{Answer}

@@ -10,13 +10,13 @@ use Rattle.quotient.specs.definitions.ReduceAnswer.{writes_merged, ReduceNumber}
 use Rattle.rules.specs.definitions.Answers as rules
 use Rattle.rules.specs.definitions.Answers.{files_outcome}
 use Rattle.rules.specs.definitions.Demands.{outcome_by}
-use Rattle.rules.specs.argument.AnswerLaws.{files-without}
-use Rattle.rules.specs.argument.PlainRules.{plain_rules}
-use Rattle.rules.specs.argument.Demand3Holds.{holds_read}
-use Rattle.rules.specs.argument.DemandsHold.{demands-hold}
-use Rattle.quotient.specs.argument.ReduceAnswerLaws.{merged-follow-today, reduce-numbered}
-use Rattle.rules.specs.argument.NumberedBlocks.{NumberedBlocks, accepted-numbered}
-use Rattle.replacement.specs.argument.ReplacementLaws.{reduce-demands}
+use Rattle.rules.proofs.argument.AnswerLaws.{files-without}
+use Rattle.rules.proofs.argument.PlainRules.{plain_rules}
+use Rattle.rules.proofs.argument.Demand3Holds.{holds_read}
+use Rattle.rules.proofs.argument.DemandsHold.{demands-hold}
+use Rattle.quotient.proofs.argument.ReduceAnswerLaws.{merged-follow-today, reduce-numbered}
+use Rattle.rules.proofs.argument.NumberedBlocks.{NumberedBlocks, accepted-numbered}
+use Rattle.replacement.proofs.argument.ReplacementLaws.{reduce-demands}
 use Rattle.limits.specs.TermsBy.{current_terms}
 use Rattle.rule_kind.specs.declared.Kind.TheVariants.{Plain}
 use Rattle.answer.specs.declared.Answer.{Answer}

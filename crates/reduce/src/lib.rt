@@ -4,7 +4,7 @@
 ghost use Rattle.std.specs.Prelude.{[], ◌∷◌};
 ghost use Rattle.rules.specs.definitions.Reading.{model_at};
 ghost use Rattle.rules.specs.definitions.Answers.{files_outcome};
-ghost use Rattle.rules.specs.argument.NumberedBlocks.{NumberedBlocks};
+ghost use Rattle.rules.proofs.argument.NumberedBlocks.{NumberedBlocks};
 ghost use Rattle.quotient.specs.definitions.Quotient.{merged_file};
 ghost use Rattle.transition.specs.Known.{KnownModel};
 ghost use Rattle.answer.specs.Answered.{Gives};

@@ -2,13 +2,13 @@
 use Rattle.std.specs.Prelude.{ℕ, ◌+◌, ◌*◌, ◌≤◌, ◌<◌, ◌≡◌, refl, Bool, List, length, ℤ}
 use Rattle.std.proofs.Common.{sym, ◌∙◌, arith}
 use Rattle.std.proofs.Math.Path.{ap, ap₂}
-use Rattle.bisimulation.specs.argument.ChoiceLaws.{less, not_less}
+use Rattle.bisimulation.proofs.argument.ChoiceLaws.{less, not_less}
 use Rattle.bisimulation.specs.definitions.Pairs.{Pairs}
 use Rattle.rules.specs.definitions.Bytes.{signed_at}
 use Rattle.rules.specs.definitions.Faults as rules
 use Rattle.rules.specs.definitions.Faults.{certificate_record, open_fault}
 use Rattle.rules.specs.definitions.Certificate.{FileRule, challenger_at, defender_at, prices_at, after_refutation, pair_fault, refutation_fault}
-use Rattle.rules.specs.argument.FaultLaws.{first_stops, first_passes, certificate-refuses, opened}
+use Rattle.rules.proofs.argument.FaultLaws.{first_stops, first_passes, certificate-refuses, opened}
 use Rattle.field.specs.declared.Cursor.{Cursor}
 use Rattle.fault.specs.declared.Fault.{Fault}
 use Rattle.fault.specs.Faults.{fault_of, Placed}

@@ -6,23 +6,23 @@ use Rattle.std.specs.Int.Signed.{mag, le_z, lt_z}
 use Rattle.std.specs.Int.{w64}
 use native.Mathlib.Omega.{arith}
 use Rattle.bisimulation.specs.definitions.Choice.{if_true, unless_true, both}
-use Rattle.bisimulation.specs.argument.ChoiceLaws.{same, not_same, all_below_cong, false-not}
+use Rattle.bisimulation.proofs.argument.ChoiceLaws.{same, not_same, all_below_cong, false-not}
 use Rattle.bisimulation.specs.definitions.Automaton.{Automaton, SoundAutomaton}
 use Rattle.bisimulation.specs.definitions.Prices.{Side, price_of_targets}
 use Rattle.bisimulation.specs.definitions.Pairs.{Pairs}
 use Rattle.rules.specs.definitions.Limits.{limits}
 use Rattle.rules.specs.definitions.Bytes.{signed_at}
 use Rattle.rules.specs.definitions.Reading.{states_of, model_at}
-use Rattle.rules.specs.argument.SoundModelLaws.{sound-automaton}
+use Rattle.rules.proofs.argument.SoundModelLaws.{sound-automaton}
 use Rattle.rules.specs.definitions.Faults as rules
 use Rattle.rules.specs.definitions.PlainRule.{by_kind, price_condition, all_related, below, last_fault, internal_prices_fault, external_prices_fault, plain_prices_fault}
-use Rattle.rules.specs.argument.PlainDecides.{AlikeOnStates, price-same}
+use Rattle.rules.proofs.argument.PlainDecides.{AlikeOnStates, price-same}
 use Rattle.costs.specs.definitions.CostPrices.{price_with_cost}
 use Rattle.costs.specs.definitions.CostRefutation.{price_after}
-use Rattle.costs.specs.argument.Free.{free, free_price}
+use Rattle.costs.proofs.argument.Free.{free, free_price}
 use Rattle.cost_files.specs.definitions.CostFile.{cost_condition, last_cost_fault, cost_prices_fault}
-use Rattle.cost_files.specs.argument.CostDecides.{with-cost-same}
-use Rattle.cost_files.specs.argument.FreePrices.{free-internal, free-external}
+use Rattle.cost_files.proofs.argument.CostDecides.{with-cost-same}
+use Rattle.cost_files.proofs.argument.FreePrices.{free-internal, free-external}
 use Rattle.strong.specs.definitions.StrongRefutation.{price_a, prices_b, prices_g}
 use Rattle.strong_files.specs.definitions.StrongFile.{all_own, strong_prices_fault}
 use Rattle.rule_kind.specs.declared.Kind.{Kind}

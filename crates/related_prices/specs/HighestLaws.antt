@@ -8,12 +8,12 @@ use mir.Syntax.{w64}
 use mir.Val.{to_z, of_z}
 use Rattle.std.proofs.Math.Decide.{ℕ_discrete, dec_lt}
 use Rattle.bisimulation.specs.definitions.Choice.{if_true}
-use Rattle.bisimulation.specs.argument.ChoiceLaws.{is_true, all-below, below_all, false-not}
+use Rattle.bisimulation.proofs.argument.ChoiceLaws.{is_true, all-below, below_all, false-not}
 use Rattle.bisimulation.specs.definitions.Automaton.{Automaton}
 use Rattle.bisimulation.specs.definitions.Pairs.{Pairs}
 use Rattle.rules.specs.definitions.Limits.{limits}
 use Rattle.rules.specs.definitions.PlainRule.{all_related}
-use Rattle.rules.specs.argument.PlainDecides.{holds-T, T-holds}
+use Rattle.rules.proofs.argument.PlainDecides.{holds-T, T-holds}
 use Rattle.word.specs.Bits.{word_bits, bit_of, clear_bit, AreSame, IsNextBelow}
 use Rattle.word.specs.BitsLaws.{bit_of-put, bit_of-other}
 use Rattle.pairs.specs.Rows.{row_bits, row_bit, IsPart, HoldsPairs}

@@ -9,16 +9,16 @@ use Rattle.std.specs.Int.Signed.{mag}
 use Rattle.std.specs.Int.{w64}
 use Rattle.std.proofs.Math.Decide.{ℕ_discrete}
 use Rattle.bisimulation.specs.definitions.Choice.{if_same}
-use Rattle.bisimulation.specs.argument.ChoiceLaws.{same, not_same}
-use Rattle.bisimulation.specs.argument.Raised.{Raised}
-use Rattle.bisimulation.specs.argument.RaisedLaws.{raised_add, raised_times}
+use Rattle.bisimulation.proofs.argument.ChoiceLaws.{same, not_same}
+use Rattle.bisimulation.proofs.argument.Raised.{Raised}
+use Rattle.bisimulation.proofs.argument.RaisedLaws.{raised_add, raised_times}
 use Rattle.rules.specs.definitions.Bytes.{byte_at}
 use Rattle.rules.specs.definitions.Limits.{limits}
 use Rattle.rules.specs.definitions.Model.{Entry, weight_of}
 use Rattle.limits.specs.Sizes as sizes
 use Rattle.rules.specs.definitions.Reading.{states_of, entry_count_at, entries_at, place_of}
 use Rattle.rules.specs.definitions.SoundModel.{Each, sum_over}
-use Rattle.rules.specs.argument.SoundModelLaws.{From, StatesFrom, no-weight}
+use Rattle.rules.proofs.argument.SoundModelLaws.{From, StatesFrom, no-weight}
 use Rattle.transition_record.specs.declared.Fields.{Fields}
 use Rattle.transition.specs.declared.Entry as read
 use Rattle.transition.specs.Known.{automaton_in, FieldsOf, entries_of}

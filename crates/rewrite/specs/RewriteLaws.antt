@@ -2,7 +2,7 @@
 use Rattle.std.specs.Prelude.{ℕ, ◌+◌, ◌≤◌, ◌<◌, ◌≡◌, false, List, [], ◌∷◌, ◌++◌, length, take, drop}
 use Rattle.std.proofs.Math.Path.{refl, sym, ap₂, subst}
 use Rattle.std.proofs.Common.{◌∙◌, ap, arith}
-use Rattle.bisimulation.specs.argument.ChoiceLaws.{not_less, either_less, false-not}
+use Rattle.bisimulation.proofs.argument.ChoiceLaws.{not_less, either_less, false-not}
 use Rattle.rules.specs.definitions.Limits.{limits}
 use Rattle.rules.specs.definitions.Model.{model_bytes}
 use Rattle.rules.specs.definitions.SoundModel.{Bytes}
@@ -15,19 +15,19 @@ use Rattle.rules.specs.definitions.JudgedBy.{AcceptedBy}
 use Rattle.rules.specs.definitions.Answers as rules
 use Rattle.rules.specs.definitions.Answers.{Outcome, second_written, refusal_in, answer_without_place, file_of, unwritten, files_outcome, Follows, judged_outcome, read_outcome, pair_outcome}
 use Rattle.rules.specs.definitions.Demands.{outcome_by}
-use Rattle.rules.specs.argument.SoundModelLaws.{limits-fit}
-use Rattle.rules.specs.argument.AnswerLaws.{none-second, first_short, second_short, both-fit}
-use Rattle.rules.specs.argument.AnyRule.{PairRules, pairs_of}
-use Rattle.rules.specs.argument.AcceptedExactly.{narrow-model, accepted-stands}
-use Rattle.rules.specs.argument.CertificateKept.{CertificateStands}
-use Rattle.rules.specs.argument.PlainRules.{stored_rules}
+use Rattle.rules.proofs.argument.SoundModelLaws.{limits-fit}
+use Rattle.rules.proofs.argument.AnswerLaws.{none-second, first_short, second_short, both-fit}
+use Rattle.rules.proofs.argument.AnyRule.{PairRules, pairs_of}
+use Rattle.rules.proofs.argument.AcceptedExactly.{narrow-model, accepted-stands}
+use Rattle.rules.proofs.argument.CertificateKept.{CertificateStands}
+use Rattle.rules.proofs.argument.PlainRules.{stored_rules}
 use Rattle.cost_files.specs.definitions.CostModel.{cost_model_bytes, costs_in}
-use Rattle.cost_files.specs.argument.CostRules.{stored_cost_rules}
+use Rattle.cost_files.proofs.argument.CostRules.{stored_cost_rules}
 use Rattle.rewriting.specs.definitions.Rewritten.{rewritten_model}
 use Rattle.rewriting.specs.definitions.RewriteAnswer.{refuse_large, rewrites}
-use Rattle.rewriting.specs.argument.RewrittenFiles.{rewritten-certificate-length}
-use Rattle.rewriting.specs.argument.RewrittenPairs.{plain-rewritten, cost-rewritten}
-use Rattle.rewriting.specs.argument.RewriteHolds.{plain-rewrite-demands, cost-rewrite-demands}
+use Rattle.rewriting.proofs.argument.RewrittenFiles.{rewritten-certificate-length}
+use Rattle.rewriting.proofs.argument.RewrittenPairs.{plain-rewritten, cost-rewritten}
+use Rattle.rewriting.proofs.argument.RewriteHolds.{plain-rewrite-demands, cost-rewrite-demands}
 use Rattle.limits.specs.declared.Terms.TheVariants.{Any}
 use Rattle.rule_kind.specs.Kinds.{is_strong, rule_of, pairs_by}
 use Rattle.rule_kind.specs.declared.Kind.{Kind}

@@ -1,4 +1,2 @@
 -- Document 02, K10: a stored pair rewritten in lowest terms.
 pub mod definitions
-pub mod argument
-pub mod cases

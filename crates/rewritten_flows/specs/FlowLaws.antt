@@ -11,10 +11,10 @@ use Rattle.rules.specs.definitions.SoundModel.{Each}
 use Rattle.rules.specs.definitions.Certificate.{k_count_at, after_k, w_count_at, after_flow}
 use Rattle.rules.specs.definitions.Encoding.{KEntry, FlowRecord, four_bytes, list_bytes, k_bytes, w_bytes, flow_bytes}
 use Rattle.rules.specs.definitions.CertificateAt.{entries_from, k_at, flow_record_at, flows_from}
-use Rattle.rules.specs.argument.Standing.{Stands, stands-first, stands-second, stands_at}
-use Rattle.rules.specs.argument.EntryLists.{length-entries_from, length-list_bytes}
-use Rattle.rules.specs.argument.FlowRecords.{length-flow, flow-after}
-use Rattle.rules.specs.argument.CertificateStands.{FlowsFill, fill-next, fill-ends, fill-last}
+use Rattle.rules.proofs.argument.Standing.{Stands, stands-first, stands-second, stands_at}
+use Rattle.rules.proofs.argument.EntryLists.{length-entries_from, length-list_bytes}
+use Rattle.rules.proofs.argument.FlowRecords.{length-flow, flow-after}
+use Rattle.rules.proofs.argument.CertificateStands.{FlowsFill, fill-next, fill-ends, fill-last}
 use Rattle.rewriting.specs.definitions.RewriteAnswer.{passes_k}
 use Rattle.field.specs.declared.Field.{Field}
 use Rattle.field.specs.Taken.{Taken, taken_at}

@@ -5,7 +5,7 @@ use Rattle.std.proofs.Common.{◌∙◌, subst, length-take-le, arith}
 use mathlib.Core.List.{List, [], ◌∷◌, map}
 use Rattle.std.proofs.Math.ListN.{length}
 use Rattle.std.proofs.lemmas.List.{length-map}
-use Rattle.bisimulation.specs.argument.ChoiceLaws.{is_true, is_false}
+use Rattle.bisimulation.proofs.argument.ChoiceLaws.{is_true, is_false}
 use Rattle.rules.specs.definitions.Bytes.{two_at}
 use Rattle.rules.specs.definitions.Model.{Model}
 use Rattle.rules.specs.definitions.SoundModel.{Each}
@@ -14,8 +14,8 @@ use Rattle.rules.specs.definitions.Certificate.{after_flow}
 use Rattle.rules.specs.definitions.Encoding.{KEntry, FlowRecord, list_bytes, flow_bytes}
 use Rattle.rules.specs.definitions.CertificateAt.{flow_record_at, flows_from}
 use Rattle.rules.specs.definitions.Answers.{Outcome, refusal_in, unwritten}
-use Rattle.rules.specs.argument.FlowRecords.{length-flow, flow-after}
-use Rattle.rules.specs.argument.CertificateStands.{fill_begins}
+use Rattle.rules.proofs.argument.FlowRecords.{length-flow, flow-after}
+use Rattle.rules.proofs.argument.CertificateStands.{fill_begins}
 use Rattle.rewriting.specs.definitions.Rewritten.{divisor_at, rewritten_k, rewritten_flow}
 use Rattle.rewriting.specs.definitions.RewriteAnswer.{passes_k, refuse_large}
 use Rattle.field.specs.declared.Field.{Field}

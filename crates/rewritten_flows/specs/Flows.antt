@@ -8,8 +8,8 @@ use Rattle.rules.specs.definitions.Certificate.{k_count_at}
 use Rattle.rules.specs.definitions.Encoding.{KEntry, FlowRecord, list_bytes, k_bytes, flow_bytes}
 use Rattle.rules.specs.definitions.CertificateAt.{entries_from, k_at, flow_record_at, flows_from}
 use Rattle.rules.specs.definitions.Answers.{Outcome, refusal_in, unwritten}
-use Rattle.rules.specs.argument.Standing.{Stands}
-use Rattle.rules.specs.argument.CertificateStands.{FlowsFill}
+use Rattle.rules.proofs.argument.Standing.{Stands}
+use Rattle.rules.proofs.argument.CertificateStands.{FlowsFill}
 use Rattle.rewriting.specs.definitions.Rewritten.{divisor_at}
 use Rattle.rewriting.specs.definitions.RewriteAnswer.{passes_k, refuse_large}
 

@@ -18,11 +18,11 @@ use Rattle.rules.specs.definitions.Encoding.{KEntry, FlowRecord, Certificate, li
 use Rattle.rules.specs.definitions.CertificateAt.{flows_place, flows_from, certificate_at}
 use Rattle.rules.specs.definitions.Answers.{Outcome, refusal_in, unwritten}
 use Rattle.rules.specs.definitions.Accepted.{RuleSays, GoodK, GoodFlows}
-use Rattle.rules.specs.argument.AnyRule.{Decides, Narrow}
-use Rattle.rules.specs.argument.SoundModelLaws.{each_map}
-use Rattle.rules.specs.argument.Standing.{Stands, stands-all, stands-second, stands_at}
-use Rattle.rules.specs.argument.CertificateStands.{FlowsFill}
-use Rattle.rules.specs.argument.CertificateKept.{CertificateStands}
+use Rattle.rules.proofs.argument.AnyRule.{Decides, Narrow}
+use Rattle.rules.proofs.argument.SoundModelLaws.{each_map}
+use Rattle.rules.proofs.argument.Standing.{Stands, stands-all, stands-second, stands_at}
+use Rattle.rules.proofs.argument.CertificateStands.{FlowsFill}
+use Rattle.rules.proofs.argument.CertificateKept.{CertificateStands}
 use Rattle.rewriting.specs.definitions.Rewritten.{rewritten_flow, rewritten_certificate}
 use Rattle.rewriting.specs.definitions.RewriteAnswer.{refuse_large}
 use Rattle.divisors.specs.Table.{HoldsDivisors}

@@ -5,13 +5,13 @@ use Rattle.std.proofs.Math.Path.{refl, sym, ap₂, subst}
 use Rattle.std.proofs.Common.{◌∙◌, length-drop, length-take-le, get_or-take, get_or-drop, ext_get_or, mul-le-mul, arith}
 use Rattle.std.proofs.Math.Bool.{true}
 use Rattle.std.proofs.Math.ListN.{length, get_or}
-use Rattle.bisimulation.specs.argument.ChoiceLaws.{less, not_less, past_less, false-not}
+use Rattle.bisimulation.proofs.argument.ChoiceLaws.{less, not_less, past_less, false-not}
 use Rattle.rules.specs.definitions.Limits.{limits}
 use Rattle.rules.specs.definitions.Bytes.{byte_at, two_at, four_at, two_bytes}
 use Rattle.rules.specs.definitions.SoundModel.{Each}
 use Rattle.rules.specs.definitions.Encoding.{four_bytes, list_bytes, k_bytes}
 use Rattle.rules.specs.definitions.CertificateAt.{entries_from, k_at}
-use Rattle.rules.specs.argument.Standing.{Stands, stands-first, stands-second, stands_at, length-four}
+use Rattle.rules.proofs.argument.Standing.{Stands, stands-first, stands-second, stands_at, length-four}
 use Rattle.rewriting.specs.definitions.RewriteAnswer.{highest_k, passes_k}
 use Rattle.field.specs.declared.Field.{Field}
 use Rattle.field.specs.Taken.{Taken, taken_at}

@@ -7,13 +7,13 @@ use Rattle.rules.specs.definitions.Model.{Model, transitions_bytes, model_bytes}
 use Rattle.rules.specs.definitions.SoundModel.{FitsWidths}
 use Rattle.rules.specs.definitions.LowestTerms.{in_lowest}
 use Rattle.rules.specs.definitions.Reading.{states_of, count_of, model_at, place_of}
-use Rattle.rules.specs.argument.TermsLaws.{lowest-count}
+use Rattle.rules.proofs.argument.TermsLaws.{lowest-count}
 use Rattle.cost_files.specs.definitions.CostModel.{costs_bytes, cost_model_bytes, CostFileOf, costs_in}
-use Rattle.cost_files.specs.argument.CostReadingLaws.{costs-in}
+use Rattle.cost_files.proofs.argument.CostReadingLaws.{costs-in}
 use Rattle.transition.specs.Known.{Known}
 use Rattle.writer.specs.ChangedRecords.{front_bytes, front-then, front-size, front-changed, changed-end}
 use Rattle.rewriting.specs.definitions.Rewritten.{rewritten_model}
-use Rattle.rewriting.specs.argument.RewrittenFiles.{rewritten-length}
+use Rattle.rewriting.proofs.argument.RewrittenFiles.{rewritten-length}
 use Rattle.rewritten_model.specs.Lowest.{lowest_records, lowest_file}
 
 -- what stands before the records stays

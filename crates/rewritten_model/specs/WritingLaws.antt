@@ -9,11 +9,11 @@ use Rattle.rules.specs.definitions.Bytes.{two_bytes}
 use Rattle.rules.specs.definitions.Model.{Entry, entries_bytes, transition_bytes}
 use Rattle.rules.specs.definitions.LowestTerms.{divisor_in, divided_entry, in_lowest}
 use Rattle.rules.specs.definitions.Reading.{states_of, count_of, entry_count_at, after_transition, entries_at, transition_at, place_of}
-use Rattle.rules.specs.argument.SoundModelLaws.{each_map}
-use Rattle.rules.specs.argument.MappedLists.{each_both, each-most}
-use Rattle.rules.specs.argument.FetchedRun.{length-entries_at}
-use Rattle.rules.specs.argument.ModelAutomaton.{transition-is, automaton-source, automaton-action, automaton-denominator}
-use Rattle.rules.specs.argument.TermsLaws.{lowest-count}
+use Rattle.rules.proofs.argument.SoundModelLaws.{each_map}
+use Rattle.rules.proofs.argument.MappedLists.{each_both, each-most}
+use Rattle.rules.proofs.argument.FetchedRun.{length-entries_at}
+use Rattle.rules.proofs.argument.ModelAutomaton.{transition-is, automaton-source, automaton-action, automaton-denominator}
+use Rattle.rules.proofs.argument.TermsLaws.{lowest-count}
 use Rattle.transition_record.specs.declared.Fields.{Fields}
 use Rattle.transition.specs.Known.{Known, FieldsOf}
 use Rattle.transition.specs.KnownLaws.{few-states, known-own, known-transition, entries-known}

@@ -5,7 +5,7 @@ use Rattle.std.proofs.Math.Path.{ap}
 use Rattle.rules.specs.definitions.Bytes.{byte_at}
 use Rattle.rules.specs.definitions.Reading.{count_of}
 use Rattle.cost_files.specs.definitions.CostModel.{transitions_end}
-use Rattle.cost_files.specs.argument.CostReadingLaws.{cost-at}
+use Rattle.cost_files.proofs.argument.CostReadingLaws.{cost-at}
 use Rattle.transition.specs.KnownLaws.{few-transitions}
 use Rattle.rule_kind.specs.declared.Kind.{Kind}
 use Rattle.rule_kind.specs.declared.Kind.TheVariants.{Plain, Costs, Strong}

@@ -7,13 +7,13 @@ use Rattle.std.specs.Int.Signed.{mag}
 use Rattle.std.specs.Int.{w64}
 use Rattle.std.proofs.lemmas.Bool.{not-true, not-false, eqb-false}
 use Rattle.bisimulation.specs.definitions.Choice.{if_same, if_true, both}
-use Rattle.bisimulation.specs.argument.ChoiceLaws.{same, not_same, is_true, is_false, either_same, either_true, kept_same, both_true, false-not}
+use Rattle.bisimulation.proofs.argument.ChoiceLaws.{same, not_same, is_true, is_false, either_same, either_true, kept_same, both_true, false-not}
 use Rattle.bisimulation.specs.definitions.Automaton.{Automaton}
 use Rattle.rules.specs.definitions.Limits.{limits}
 use Rattle.rules.specs.definitions.Bytes.{signed_at}
 use Rattle.rules.specs.definitions.PlainRule.{by_kind, plain_price_count, plain_in_question}
 use Rattle.rules.specs.definitions.PlainSays.{InPlainQuestion}
-use Rattle.rules.specs.argument.PlainDecides.{six-cases}
+use Rattle.rules.proofs.argument.PlainDecides.{six-cases}
 use Rattle.cost_files.specs.definitions.CostFile.{cost_price_count}
 use Rattle.strong_files.specs.definitions.StrongFile.{own_with_action, strong_in_question, strong_price_count}
 use Rattle.field.specs.declared.Price.{Price}

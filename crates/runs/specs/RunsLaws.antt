@@ -7,7 +7,7 @@ use mathlib.Core.List.{List, [], ◌∷◌, ◌++◌, append-nil}
 use native.Mathlib.Omega.{arith}
 use Rattle.std.proofs.Math.Decide.{ℕ_discrete, dec_lt}
 use Rattle.bisimulation.specs.definitions.Choice.{if_same, if_true}
-use Rattle.bisimulation.specs.argument.ChoiceLaws.{same, not_same, is_true, is_false, either_same, either_true}
+use Rattle.bisimulation.proofs.argument.ChoiceLaws.{same, not_same, is_true, is_false, either_same, either_true}
 use Rattle.bisimulation.specs.definitions.Automaton.{Automaton}
 use Rattle.rules.specs.definitions.Certificate.{same_block}
 use Rattle.rules.specs.definitions.Judging.{Question, questions_of_pair, questions_of_state, questions_from}

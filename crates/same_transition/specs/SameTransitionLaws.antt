@@ -9,16 +9,16 @@ use borrow.Author.Tests.{eqb-true, eq-eqb, ne_eqb}
 use Rattle.std.proofs.Math.Decide.{ℕ_discrete}
 use native.Mathlib.Omega.{arith}
 use Rattle.bisimulation.specs.definitions.Choice.{if_true}
-use Rattle.bisimulation.specs.argument.ChoiceLaws.{is_true, is_false, one-test, all-below, below_all, not-all}
+use Rattle.bisimulation.proofs.argument.ChoiceLaws.{is_true, is_false, one-test, all-below, below_all, not-all}
 use Rattle.rules.specs.definitions.Bytes.{byte_at, two_at, two_bytes}
-use Rattle.rules.specs.argument.BytesLaws.{past, past_all, first_byte, first_two}
+use Rattle.rules.proofs.argument.BytesLaws.{past, past_all, first_byte, first_two}
 use Rattle.rules.specs.definitions.Model.{Entry, Transition, entries_bytes, transition_bytes, transitions_bytes}
 use Rattle.rules.specs.definitions.Reading.{source_at, action_at, denominator_at, entry_count_at, after_transition, entries_at, transition_at}
 use Rattle.rules.specs.definitions.SoundModel.{Each, sum_over, TransitionRules, LowestTerms}
-use Rattle.rules.specs.argument.SoundModelLaws.{each_map}
+use Rattle.rules.proofs.argument.SoundModelLaws.{each_map}
 use Rattle.quotient.specs.definitions.Quotient.{same_transition, is_among}
-use Rattle.quotient.specs.argument.MergedTerms.{SameFields, same-fields}
-use Rattle.rules.specs.argument.ReadBack.{transition_bytes-length}
+use Rattle.quotient.proofs.argument.MergedTerms.{SameFields, same-fields}
+use Rattle.rules.proofs.argument.ReadBack.{transition_bytes-length}
 use Rattle.same_transition.specs.SameTransition.{StandAs, Stand, IsRepeated, CanPass, Passed, same_bytes, same_record}
 
 -- what holds from a number on, and at the number before it, holds from there on

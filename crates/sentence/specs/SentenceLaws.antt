@@ -3,7 +3,7 @@ use Rattle.std.specs.Prelude.{ℕ, ◌≡◌, List, take}
 use Rattle.std.proofs.Common.{◌∙◌, ap, subst}
 use Rattle.rules.specs.definitions.Answers as rules
 use Rattle.sentences.specs.definitions.Sentence.{Told, sentence}
-use Rattle.sentences.specs.argument.SentenceAnswerLaws.{sentence-demands}
+use Rattle.sentences.proofs.argument.SentenceAnswerLaws.{sentence-demands}
 use Rattle.writer.specs.Appends.{Appends}
 use Rattle.writer.specs.AppendsLaws.{appended-front}
 use Rattle.answer.specs.declared.Answer.{Answer}

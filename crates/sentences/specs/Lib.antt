@@ -1,4 +1,2 @@
 -- Sentences for the help desk: request K12 of document 02.
 pub mod definitions
-pub mod argument
-pub mod cases

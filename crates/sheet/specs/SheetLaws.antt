@@ -9,12 +9,12 @@ use Rattle.rules.specs.definitions.SoundModel.{Bytes}
 use Rattle.rules.specs.definitions.Answers as rules
 use Rattle.rules.specs.definitions.Answers.{files_outcome}
 use Rattle.rules.specs.definitions.Demands.{outcome_by}
-use Rattle.rules.specs.argument.AnswerLaws.{files-without}
-use Rattle.rules.specs.argument.DemandsHold.{demands-hold}
-use Rattle.rules.specs.argument.JudgedFirst.{Found}
-use Rattle.rules.specs.argument.PlainRules.{plain_rules}
+use Rattle.rules.proofs.argument.AnswerLaws.{files-without}
+use Rattle.rules.proofs.argument.DemandsHold.{demands-hold}
+use Rattle.rules.proofs.argument.JudgedFirst.{Found}
+use Rattle.rules.proofs.argument.PlainRules.{plain_rules}
 use Rattle.block_sheet.specs.definitions.SheetAnswer.{writes_sheet, SheetNumber}
-use Rattle.block_sheet.specs.argument.SheetJudgedLaws.{sheet-follow, sheet-numbered, found-whole, found-sheeted}
+use Rattle.block_sheet.proofs.argument.SheetJudgedLaws.{sheet-follow, sheet-numbered, found-whole, found-sheeted}
 use Rattle.limits.specs.TermsBy.{current_terms}
 use Rattle.rule_kind.specs.declared.Kind.TheVariants.{Plain}
 use Rattle.answer.specs.declared.Answer.{Answer}

@@ -4,12 +4,12 @@ use Rattle.bisimulation.specs.definitions.Sum.{sum}
 use Rattle.rules.specs.definitions.Limits.{limits}
 use Rattle.rules.specs.definitions.Certificate.{same_block}
 use Rattle.rules.specs.definitions.BlockCount.{block_count}
-use Rattle.rules.specs.argument.LargestBlocks.{Numbered}
+use Rattle.rules.proofs.argument.LargestBlocks.{Numbered}
 use Rattle.pairs.specs.Rows.{HoldsPairs}
 use Rattle.classes.specs.Classes.{same_labels}
 use Rattle.block_sheet.specs.definitions.Sheet.{sheet_from}
 use Rattle.block_sheet.specs.definitions.Sheet as paper
-use Rattle.block_sheet.specs.argument.SheetLaws.{lines_of}
+use Rattle.block_sheet.proofs.argument.SheetLaws.{lines_of}
 use Rattle.writer.specs.Appends.{Appends}
 use Rattle.sheet_blocks.specs.declared.Counted.{Counted}
 use Rattle.sheet_blocks.specs.declared.Put.{Put}

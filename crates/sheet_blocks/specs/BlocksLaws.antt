@@ -9,19 +9,19 @@ use Rattle.std.proofs.Math.ListN.{length}
 use native.Mathlib.Omega.{arith}
 use Rattle.std.proofs.Math.Decide.{ℕ_discrete, dec_lt}
 use Rattle.bisimulation.specs.definitions.Choice.{count_below}
-use Rattle.bisimulation.specs.argument.ChoiceLaws.{count_below_cong}
+use Rattle.bisimulation.proofs.argument.ChoiceLaws.{count_below_cong}
 use Rattle.bisimulation.specs.definitions.Sum.{sum}
 use Rattle.rules.specs.definitions.Limits.{limits}
 use Rattle.rules.specs.definitions.Certificate.{same_block}
 use Rattle.rules.specs.definitions.BlockCount.{block_count}
-use Rattle.rules.specs.argument.LargestBlocks.{Numbered}
-use Rattle.rules.specs.argument.NumberedBlocks.{block-below, each-block, count_most}
+use Rattle.rules.proofs.argument.LargestBlocks.{Numbered}
+use Rattle.rules.proofs.argument.NumberedBlocks.{block-below, each-block, count_most}
 use Rattle.pairs.specs.Rows.{row_bits, row_bit}
 use Rattle.pairs.specs.RowsLaws.{count_held}
 use Rattle.classes.specs.Classes.{same_labels, SmallBytes}
 use Rattle.block_sheet.specs.definitions.Sheet.{cell, lines, line_count, ascending, members, block_lines, sheet_from}
 use Rattle.block_sheet.specs.definitions.Sheet as paper
-use Rattle.block_sheet.specs.argument.SheetLaws.{lines_of, block-length, sheet-length, ascending-ends, ascending-cong, members-few, shared-member, shared-count, size-members, some-member}
+use Rattle.block_sheet.proofs.argument.SheetLaws.{lines_of, block-length, sheet-length, ascending-ends, ascending-cong, members-few, shared-member, shared-count, size-members, some-member}
 use Rattle.sheet_lines.specs.Lines.{members_from}
 use Rattle.writer.specs.Appends.{Appends}
 use Rattle.writer.specs.AppendsLaws.{append-none, Ahead, ahead-start, ahead-turn, ahead-end}

@@ -7,7 +7,7 @@ use native.Mathlib.Omega.{arith}
 use Rattle.rules.specs.definitions.Limits.{limits}
 use Rattle.pairs.specs.Rows.{IsNext}
 use Rattle.block_sheet.specs.definitions.Sheet.{column, cell, blank, first_cell, cells, line, lines, line_count, ascending}
-use Rattle.block_sheet.specs.argument.SheetLaws.{cell-length, blank-length, first-length, cells-length, ascending-here, skipped}
+use Rattle.block_sheet.proofs.argument.SheetLaws.{cell-length, blank-length, first-length, cells-length, ascending-here, skipped}
 use Rattle.writer.specs.Appends.{Appends}
 use Rattle.writer.specs.AppendsLaws.{append-more, Ahead, ahead-start, ahead-turn, ahead-end}
 use Rattle.sheet_lines.specs.declared.Written.{Written}

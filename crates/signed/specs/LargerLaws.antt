@@ -2,7 +2,7 @@
 use Rattle.std.specs.Prelude.{◌≡◌, refl, Bool, true, false, not, T, ℤ, pos, negsuc, ◌≤ℤ◌}
 use Rattle.std.proofs.Common.{ap, inl, inr, le→leb, ltb→lt, arith}
 use Rattle.std.specs.Int.Signed.{le_z, lt_z, le_z_yes, lt_z_yes, lt_z_no, ≤ℤ_refl, <ℤ-≤ℤ_trans, clash_ℤ}
-use Rattle.rules.specs.argument.PlainDecides.{holds-T}
+use Rattle.rules.proofs.argument.PlainDecides.{holds-T}
 use Rattle.signed.specs.Larger.{IsLarger}
 
 pub ≤ℤ-trans : {a b c : ℤ} → a ≤ℤ b → b ≤ℤ c → a ≤ℤ c

@@ -1,4 +1,2 @@
 -- Strong certificates: request K14 of document 02.
 pub mod definitions
-pub mod argument
-pub mod cases

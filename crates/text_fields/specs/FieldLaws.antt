@@ -11,13 +11,13 @@ use native.Mathlib.Omega.{arith}
 use Rattle.std.proofs.Math.Nat.{one-le-pow}
 use Rattle.std.proofs.Math.Decide.{ℕ_discrete, dec_lt}
 use Rattle.bisimulation.specs.definitions.Choice.{if_less, if_same, if_true, both}
-use Rattle.bisimulation.specs.argument.ChoiceLaws.{less, not_less, same, not_same, is_true, is_false, not_true, via, either_same, either_true, kept_less, kept_true, both_true, true-both}
+use Rattle.bisimulation.proofs.argument.ChoiceLaws.{less, not_less, same, not_same, is_true, is_false, not_true, via, either_same, either_true, kept_less, kept_true, both_true, true-both}
 use Rattle.rules.specs.definitions.Bytes.{byte_at}
 use Rattle.numbers.specs.definitions.Decimal.{is_digit, all_digits, value_from, value_of, is_number}
-use Rattle.numbers.specs.argument.DecimalLaws.{digit-bounds, bounds-digit}
+use Rattle.numbers.proofs.argument.DecimalLaws.{digit-bounds, bounds-digit}
 use Rattle.prism.specs.definitions.Lines.{pieces, fraction, ten_thousandths, all_shown, is_name}
 use Rattle.prism.specs.definitions.Reading.{same_bytes}
-use Rattle.prism.specs.argument.PieceLaws.{pieces-at, pieces_end}
+use Rattle.prism.proofs.argument.PieceLaws.{pieces-at, pieces_end}
 use Rattle.text_fields.specs.Fields.{PieceEnds, number_below, digits_from}
 
 -- the byte at a place, and those behind it

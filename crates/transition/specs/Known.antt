@@ -6,7 +6,7 @@ use Rattle.limits.specs.Sizes as sizes
 use Rattle.rules.specs.definitions.Model.{Entry, automaton_of}
 use Rattle.rules.specs.definitions.Reading.{states_of, count_of, entry_count_at, after_transition, entries_at, model_at, place_of}
 use Rattle.rules.specs.definitions.SoundModel.{Each, sum_over, SoundModel}
-use Rattle.rules.specs.argument.SoundModelLaws.{StatesFrom}
+use Rattle.rules.proofs.argument.SoundModelLaws.{StatesFrom}
 use Rattle.model.specs.Scanned.{PlacesHeld}
 use Rattle.transition_record.specs.declared.Fields.{Fields}
 

@@ -4,7 +4,7 @@ use Rattle.std.specs.Prelude.{◌≡◌, List, length, get_or, ℤ, ◌*ℤ◌}
 use Rattle.std.proofs.Math.Path.{sym, ap, subst}
 use Rattle.std.proofs.Common.{◌∙◌, arith}
 use Rattle.bisimulation.specs.definitions.Prices.{price_of_targets}
-use Rattle.bisimulation.specs.argument.SumLaws.{sumℤCong}
+use Rattle.bisimulation.proofs.argument.SumLaws.{sumℤCong}
 use Rattle.std.proofs.Math.IntN.{pos}
 use Rattle.rules.specs.definitions.Limits.{Limits, limits}
 use Rattle.limits.specs.Sizes as sizes
@@ -12,14 +12,14 @@ use Rattle.limits.specs.TermsBy.{limits_by}
 use Rattle.limits.specs.declared.Terms.{Terms}
 use Rattle.rules.specs.definitions.Model.{Entry, no_transition, automaton_of}
 use Rattle.rules.specs.definitions.Reading.{sound, scan_whole, read_whole, states_of, count_of, entry_count_at, after_transition, transition_at, model_at, place_of, reading_of}
-use Rattle.rules.specs.argument.ReadingLaws.{Sound, Tells, whole_tells}
+use Rattle.rules.proofs.argument.ReadingLaws.{Sound, Tells, whole_tells}
 use Rattle.rules.specs.definitions.SoundModel.{Bytes, SoundModel, TransitionRules}
-use Rattle.rules.specs.argument.SoundModelLaws.{each_at, from-along, sound-any}
-use Rattle.rules.specs.argument.ReadSound.{read-whole-sound}
-use Rattle.rules.specs.argument.AnswerLaws.{labels_length}
-use Rattle.rules.specs.argument.ModelAutomaton.{length-transitions_at, automaton-states, automaton-transitions, automaton-source, automaton-action, automaton-denominator, automaton-weight, transition-is}
-use Rattle.rules.specs.argument.FetchedRun.{length-entries_at}
-use Rattle.rules.specs.argument.EntryPrices.{price_of_entries, price-of-entries}
+use Rattle.rules.proofs.argument.SoundModelLaws.{each_at, from-along, sound-any}
+use Rattle.rules.proofs.argument.ReadSound.{read-whole-sound}
+use Rattle.rules.proofs.argument.AnswerLaws.{labels_length}
+use Rattle.rules.proofs.argument.ModelAutomaton.{length-transitions_at, automaton-states, automaton-transitions, automaton-source, automaton-action, automaton-denominator, automaton-weight, transition-is}
+use Rattle.rules.proofs.argument.FetchedRun.{length-entries_at}
+use Rattle.rules.proofs.argument.EntryPrices.{price_of_entries, price-of-entries}
 use Rattle.transition_record.specs.Fields.{FieldsAt}
 use Rattle.model.specs.Scanned.{PlacesHeld}
 use Rattle.transition_record.specs.declared.Fields.{Fields}

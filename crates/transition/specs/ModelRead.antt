@@ -4,7 +4,7 @@ use Rattle.std.proofs.Common.{sym}
 use Rattle.std.proofs.Math.Path.{ap, subst}
 use Rattle.rules.specs.definitions.Limits.{limits}
 use Rattle.rules.specs.definitions.Reading.{model_at, head_fault, refused, scan_whole, reading_of, read_whole, model, no_model}
-use Rattle.rules.specs.argument.ReadingLaws.{Sound as Told, Tells, whole_tells}
+use Rattle.rules.proofs.argument.ReadingLaws.{Sound as Told, Tells, whole_tells}
 use Rattle.rules.specs.definitions.SoundModel.{Bytes}
 use Rattle.limits.specs.TermsBy.{limits_by}
 use Rattle.limits.specs.declared.Terms.{Terms}

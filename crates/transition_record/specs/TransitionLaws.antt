@@ -3,12 +3,12 @@ use Rattle.std.specs.Prelude.{ℕ, ◌+◌, ◌*◌, ◌≤◌, ◌<◌, ◌≡�
 use Rattle.std.proofs.Common.{sym, ◌∙◌, arith}
 use Rattle.std.proofs.Math.Path.{ap, ap₂}
 use Rattle.bisimulation.specs.definitions.Choice.{if_less}
-use Rattle.bisimulation.specs.argument.ChoiceLaws.{less, not_less}
+use Rattle.bisimulation.proofs.argument.ChoiceLaws.{less, not_less}
 use Rattle.rules.specs.definitions.Limits.{limits}
 use Rattle.rules.specs.definitions.Faults as rules
 use Rattle.rules.specs.definitions.Faults.{fault, first_of, model_record, open_fault}
 use Rattle.rules.specs.definitions.Reading.{denominator_at, entry_count_at, after_transition, fixed_fault, fixed_fault_at, entries_fault, transition_at, terms_fault, transition_fault}
-use Rattle.rules.specs.argument.FaultLaws.{none_first, pass_on, first_stops, first_passes, model-refuses, opened}
+use Rattle.rules.proofs.argument.FaultLaws.{none_first, pass_on, first_stops, first_passes, model-refuses, opened}
 use Rattle.fault.specs.Faults.{fault_of, Placed}
 use Rattle.fault.specs.FaultsLaws.{none_is, placed-some, placed-as}
 use Rattle.fault.specs.declared.Fault.{Fault}

@@ -3,9 +3,9 @@ use Rattle.std.specs.Prelude.{ℕ, zero, suc, ◌+◌, ◌-◌, ◌<◌, ◌≤�
 use Rattle.std.proofs.Common.{sym, ◌∙◌, arith}
 use Rattle.std.proofs.Math.Path.{ap, subst}
 use mathlib.Core.List.{List, map}
-use Rattle.bisimulation.specs.argument.ChoiceLaws.{same, not_same}
+use Rattle.bisimulation.proofs.argument.ChoiceLaws.{same, not_same}
 use Rattle.numbers.specs.definitions.Divisor.{divisor, divisor_of}
-use Rattle.numbers.specs.argument.DivisorLaws.{divisor_of-one}
+use Rattle.numbers.proofs.argument.DivisorLaws.{divisor_of-one}
 use Rattle.rules.specs.definitions.Limits.{lowest_terms}
 use Rattle.rules.specs.definitions.Bytes.{two_at}
 use Rattle.rules.specs.definitions.Faults.{fault, no_fault}

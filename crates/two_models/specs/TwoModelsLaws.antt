@@ -7,8 +7,8 @@ use Rattle.rules.specs.definitions.Reading.{scan_whole, model_at, read_whole, no
 use Rattle.rules.specs.definitions.SoundModel.{Bytes}
 use Rattle.rules.specs.definitions.Answers.{refusal_in, file_of}
 use Rattle.rules.specs.definitions.Made.{two_files}
-use Rattle.rules.specs.argument.ReadSound.{read-whole-sound}
-use Rattle.rules.specs.argument.MadeLaws.{first-refused, second-refused}
+use Rattle.rules.proofs.argument.ReadSound.{read-whole-sound}
+use Rattle.rules.proofs.argument.MadeLaws.{first-refused, second-refused}
 use Rattle.limits.specs.TermsBy.{current_terms}
 use Rattle.fault.specs.declared.Fault.{Fault}
 use Rattle.fault.specs.Faults.{fault_of}

@@ -1,4 +1,2 @@
 -- The limits grow: request K7 of document 02.
 pub mod definitions
-pub mod argument
-pub mod cases

@@ -7,7 +7,7 @@ use Rattle.std.proofs.Math.Pow.{pow-lt}
 use Rattle.std.specs.Int.Count.{ones, ones_step, count_trailing_zeros, under}
 use Rattle.std.proofs.lemmas.Bool.{eqb-false}
 use Rattle.bisimulation.specs.definitions.Choice.{if_true, count_below}
-use Rattle.bisimulation.specs.argument.ChoiceLaws.{count-first}
+use Rattle.bisimulation.proofs.argument.ChoiceLaws.{count-first}
 use Rattle.word.specs.Bits.{word_bits, bit_of, put_bit, set_bit, clear_bit, AreSame, IsNextBelow}
 
 -- no bit of 0 is 1

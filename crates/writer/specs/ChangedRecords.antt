@@ -10,10 +10,10 @@ use Rattle.rules.specs.definitions.Bytes.{byte_at, two_at, two_bytes}
 use Rattle.rules.specs.definitions.Model.{Entry, Transition, Model, entries_bytes, transition_bytes, transitions_bytes, head_bytes, labels_bytes, model_bytes}
 use Rattle.rules.specs.definitions.Reading.{states_of, count_of, entry_count_at, after_transition, entries_at, transition_at, transitions_at, model_at, place_of}
 use Rattle.rules.specs.definitions.SoundModel.{Each}
-use Rattle.rules.specs.argument.AnswerLaws.{labels_length}
-use Rattle.rules.specs.argument.ReadBack.{transition_bytes-length}
-use Rattle.rules.specs.argument.ReadingLaws.{place_of-next}
-use Rattle.rules.specs.argument.FetchedRun.{length-entries_at}
+use Rattle.rules.proofs.argument.AnswerLaws.{labels_length}
+use Rattle.rules.proofs.argument.ReadBack.{transition_bytes-length}
+use Rattle.rules.proofs.argument.ReadingLaws.{place_of-next}
+use Rattle.rules.proofs.argument.FetchedRun.{length-entries_at}
 use Rattle.writer.specs.Appends.{Appends}
 use Rattle.writer.specs.AppendsLaws.{Ahead, ahead-start, ahead-turn, ahead-end}
 

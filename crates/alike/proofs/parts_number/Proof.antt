@@ -1,7 +1,7 @@
 -- `parts_number` meets its contract.
 use native.Mathlib.Omega.{arith}
 use mathlib.Core.Path.{refl}
-use Rattle.bisimulation.specs.argument.ChoiceLaws.{less, not_less}
+use Rattle.bisimulation.proofs.argument.ChoiceLaws.{less, not_less}
 use Rattle.joined.specs.definitions.AlikeAnswer.{parts_number}
 use Rattle.alike.proofs.parts_number.Statement.{statement}
 use Rattle.alike.proofs.parts_number.Tie as tie

@@ -1,6 +1,6 @@
 -- `same_block` meets its contract.
 use mathlib.Core.Path.{refl}
-use Rattle.bisimulation.specs.argument.ChoiceLaws.{same, not_same}
+use Rattle.bisimulation.proofs.argument.ChoiceLaws.{same, not_same}
 use borrow.Author.Rules.{rules}
 use Rattle.alike.proofs.same_block.Statement.{statement}
 use Rattle.alike.proofs.same_block.Tie as tie

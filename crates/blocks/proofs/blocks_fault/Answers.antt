@@ -4,7 +4,7 @@ use Prim.Native.Nat.{◌+◌, ◌-◌}
 use mathlib.Core.Path.{◌≡◌, ◌∙◌}
 use lib.ListN.{drop, length-drop}
 use lib.Seq.{length-take-le}
-use Rattle.bisimulation.specs.argument.ChoiceLaws.{is_true, is_false}
+use Rattle.bisimulation.proofs.argument.ChoiceLaws.{is_true, is_false}
 use Rattle.fault.specs.FaultsLaws.{none_is}
 use Rattle.blocks.specs.BlocksLaws.{small-part, not_opened, whole, not-numbered, compared}
 use borrow.Author.Rules.{rules}

@@ -5,7 +5,7 @@ use mathlib.Core.Path.{◌≡◌, refl, ◌∙◌, ap, ap₂}
 use Rattle.rules.specs.definitions.Bytes.{byte_at}
 use Rattle.rules.specs.definitions.Certificate.{numbered_fault}
 use Rattle.bisimulation.specs.definitions.Choice.{if_same}
-use Rattle.bisimulation.specs.argument.ChoiceLaws.{via, less, not_less, either_same}
+use Rattle.bisimulation.proofs.argument.ChoiceLaws.{via, less, not_less, either_same}
 use Rattle.blocks.specs.BlocksLaws.{numbered-turn, numbered-end}
 use borrow.Author.Rules.{rules}
 use Rattle.blocks.proofs.numbered_fault.Given as goal

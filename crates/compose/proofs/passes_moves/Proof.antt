@@ -1,7 +1,7 @@
 -- `passes_moves` meets its contract.
 use mathlib.Core.Path.{refl}
 use native.Mathlib.Omega.{arith}
-use Rattle.bisimulation.specs.argument.ChoiceLaws.{less, not_less}
+use Rattle.bisimulation.proofs.argument.ChoiceLaws.{less, not_less}
 use Rattle.compose.specs.Compose.{passes_moves}
 use Rattle.compose.proofs.passes_moves.Statement.{statement}
 use Rattle.compose.proofs.passes_moves.Tie as tie

@@ -1,7 +1,7 @@
 -- `passes_states` meets its contract.
 use mathlib.Core.Path.{refl}
 use native.Mathlib.Omega.{arith}
-use Rattle.bisimulation.specs.argument.ChoiceLaws.{less, not_less}
+use Rattle.bisimulation.proofs.argument.ChoiceLaws.{less, not_less}
 use Rattle.compose.specs.Compose.{passes_states}
 use Rattle.compose.proofs.passes_states.Statement.{statement}
 use Rattle.compose.proofs.passes_states.Tie as tie

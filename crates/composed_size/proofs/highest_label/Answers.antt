@@ -4,7 +4,7 @@ use mathlib.Core.Path.{◌≡◌, refl, ◌∙◌, ap}
 use native.Mathlib.Omega.{arith}
 use Rattle.bisimulation.specs.definitions.Composed.{highest}
 use Rattle.rules.specs.definitions.Bytes.{byte_at}
-use Rattle.rules.specs.argument.ModelAutomaton.{automaton-states}
+use Rattle.rules.proofs.argument.ModelAutomaton.{automaton-states}
 use Rattle.transition.specs.Known.{automaton_in}
 use Rattle.composed_size.specs.CountedLaws.{highest-more}
 use borrow.Author.Rules.{rules}

@@ -1,7 +1,7 @@
 -- `is_long` meets its contract.
 use mathlib.Core.Path.{refl}
 use native.Mathlib.Omega.{arith}
-use Rattle.bisimulation.specs.argument.ChoiceLaws.{less, not_less}
+use Rattle.bisimulation.proofs.argument.ChoiceLaws.{less, not_less}
 use Rattle.composed_size.proofs.is_long.Goals as goal
 
 pub returns-then-denominator-gt-DENOMINATOR : goal.returns-then-denominator-gt-DENOMINATOR

@@ -1,7 +1,7 @@
 -- `is_shared` meets its contract.
 use mathlib.Core.Path.{refl}
 use native.Mathlib.Omega.{arith}
-use Rattle.bisimulation.specs.argument.ChoiceLaws.{less, not_less}
+use Rattle.bisimulation.proofs.argument.ChoiceLaws.{less, not_less}
 use Rattle.composition.specs.definitions.Composition.{shared_below}
 use borrow.Author.Rules.{rules}
 use Rattle.composed_size.proofs.is_shared.Goals as goal

@@ -8,7 +8,7 @@ use borrow.Author.Tests.{not-true, not-false}
 use mir.Syntax.{w64}
 use mir.Val.{to_z}
 use mir.Facts.{to_z-of_z}
-use Rattle.bisimulation.specs.argument.ChoiceLaws.{below_all, not-all}
+use Rattle.bisimulation.proofs.argument.ChoiceLaws.{below_all, not-all}
 use Rattle.transition.specs.Known.{automaton_in}
 use Rattle.rule_kind.specs.Kinds.{cost_in}
 use Rattle.prices.specs.Prices.{price_in}

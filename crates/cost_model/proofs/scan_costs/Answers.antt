@@ -5,9 +5,9 @@ use lib.ListN.{length}
 use native.Mathlib.Omega.{arith}
 use mathlib.Core.Path.{◌≡◌, refl, sym, ◌∙◌, ap, ap₂}
 use Rattle.rules.specs.definitions.Faults.{model_record, open_fault}
-use Rattle.rules.specs.argument.FaultLaws.{model-refuses, opened}
+use Rattle.rules.proofs.argument.FaultLaws.{model-refuses, opened}
 use Rattle.rules.specs.definitions.Reading.{Scan, sound, refused, refuse_bytes_left}
-use Rattle.rules.specs.argument.ReadingLaws.{refuse-stops, refuse-passes}
+use Rattle.rules.proofs.argument.ReadingLaws.{refuse-stops, refuse-passes}
 use Rattle.fault.specs.Faults.{fault_of}
 use Rattle.fault.specs.FaultsLaws.{none_is}
 use Rattle.fault.specs.declared.Fault.{Fault}

@@ -2,7 +2,7 @@
 use native.Mathlib.Omega.{arith}
 use Prim.Native.Nat.{ℕ, ◌+◌, ◌-◌, ◌≤◌}
 use mathlib.Core.Path.{◌≡◌, refl, sym, ◌∙◌, ap}
-use Rattle.bisimulation.specs.argument.ChoiceLaws.{via, same, not_same}
+use Rattle.bisimulation.proofs.argument.ChoiceLaws.{via, same, not_same}
 use Rattle.rules.specs.definitions.Faults.{fault_by}
 use Rattle.remainders.specs.Remainders.{remainder_at}
 use Rattle.remainders.specs.NonzeroLaws.{zero_bits, not-zero-bits}

@@ -1,6 +1,6 @@
 -- `or_number` meets its contract.
 use mathlib.Core.Path.{refl}
-use Rattle.rules.specs.argument.FaultLaws.{first_stops, first_passes}
+use Rattle.rules.proofs.argument.FaultLaws.{first_stops, first_passes}
 use borrow.Author.Rules.{rules}
 use Rattle.equations.proofs.or_number.Statement.{statement}
 use Rattle.equations.proofs.or_number.Tie as tie

@@ -1,9 +1,9 @@
 -- `verdict` meets its contract: the table that has a remainder is searched.
 use native.Mathlib.Omega.{arith}
 use mathlib.Core.Path.{◌∙◌, ap}
-use Rattle.bisimulation.specs.argument.ChoiceLaws.{same, not_same}
+use Rattle.bisimulation.proofs.argument.ChoiceLaws.{same, not_same}
 use Rattle.rules.specs.definitions.Faults.{Fault, fault, first_of}
-use Rattle.rules.specs.argument.FaultLaws.{first_stops, first_passes}
+use Rattle.rules.proofs.argument.FaultLaws.{first_stops, first_passes}
 use Rattle.equations.specs.Differences.{cost_break, verdict_of}
 use borrow.Author.Rules.{rules}
 use Rattle.equations.proofs.verdict.Statement.{statement}

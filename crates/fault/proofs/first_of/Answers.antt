@@ -1,7 +1,7 @@
 -- `first_of` meets its contract.
 use mathlib.Core.Path.{refl}
 use native.Mathlib.Omega.{arith}
-use Rattle.rules.specs.argument.FaultLaws.{first_stops, first_passes}
+use Rattle.rules.proofs.argument.FaultLaws.{first_stops, first_passes}
 use Rattle.fault.proofs.first_of.Goals as goal
 
 pub returns-then-first-ne0 : goal.returns-then-first-ne0

@@ -10,7 +10,7 @@ use Rattle.rules.specs.definitions.Bytes.{byte_at}
 use Rattle.rules.specs.definitions.SoundModel.{Bytes}
 use Rattle.rules.specs.definitions.Answers.{Answer, refusal_in, fetch_answer}
 use Rattle.rules.specs.definitions.Faults.{Fault}
-use Rattle.rules.specs.argument.AnswerLaws.{fetch-inside}
+use Rattle.rules.proofs.argument.AnswerLaws.{fetch-inside}
 use Rattle.fetch.specs.Fetched.{answer_of, FetchAnswered, fetch-answered}
 use Rattle.answer.specs.declared.Answer as declared
 use Rattle.answer.specs.Answered.{Says}

@@ -5,7 +5,7 @@ use Rattle.transition.specs.KnownLaws.{known, known-own, few-states}
 use Rattle.limits.specs.TermsBy.{current_terms}
 use Rattle.model.specs.Scanned.{scan_of, PlacesOf, head-refused}
 use Rattle.model.specs.declared.Scanned.{Scanned}
-use Rattle.rules.specs.argument.AnswerLaws.{fetch-refused, fetch-no-state, fetch-runs}
+use Rattle.rules.proofs.argument.AnswerLaws.{fetch-refused, fetch-no-state, fetch-runs}
 use Rattle.rules.specs.definitions.Answers.{run_answer}
 use Rattle.rules.specs.definitions.Limits.{current}
 use Rattle.rules.specs.definitions.Faults.{Fault}

@@ -1,9 +1,9 @@
 -- `first_not_below` meets its contract. The invariant: the search from here on finds what the whole search finds.
-use Rattle.rules.specs.argument.ModelAutomaton.{automaton-source}
+use Rattle.rules.proofs.argument.ModelAutomaton.{automaton-source}
 use Rattle.transition.specs.KnownLaws.{known-transition}
-use Rattle.rules.specs.argument.ReadingLaws.{first_not_below-turn, first_not_below-end}
+use Rattle.rules.proofs.argument.ReadingLaws.{first_not_below-turn, first_not_below-end}
 use Rattle.rules.specs.definitions.Reading.{first_not_below}
-use Rattle.bisimulation.specs.argument.ChoiceLaws.{via, less, not_less}
+use Rattle.bisimulation.proofs.argument.ChoiceLaws.{via, less, not_less}
 use Prim.Native.Nat.{◌+◌, ◌-◌}
 use mathlib.Core.Path.{◌≡◌, refl, ◌∙◌}
 use borrow.Author.Rules.{rules}

@@ -2,7 +2,7 @@
 -- the two searches find the run's ends, which are transitions of the model or its end
 use Rattle.transition.specs.Known.{Known}
 use Rattle.transition.specs.KnownLaws.{few-transitions}
-use Rattle.rules.specs.argument.AnswerLaws.{run-most}
+use Rattle.rules.proofs.argument.AnswerLaws.{run-most}
 use Rattle.rules.specs.definitions.Reading.{count_of, place_of, first_not_below, run_first, run_past, run_start, run_end}
 use Prim.Native.Nat.{ℕ, ◌+◌, ◌-◌, ◌≤◌}
 use mathlib.Core.List.{List}

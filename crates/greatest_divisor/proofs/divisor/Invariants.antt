@@ -3,7 +3,7 @@ use native.Mathlib.Omega.{arith}
 use native.Mathlib.Nat.{mod-lt}
 use mathlib.Core.Path.{◌≡◌, refl, sym, ◌∙◌, ap}
 use Rattle.numbers.specs.definitions.Divisor as numbers
-use Rattle.numbers.specs.argument.DivisorLaws.{divisor-step, divisor-last}
+use Rattle.numbers.proofs.argument.DivisorLaws.{divisor-step, divisor-last}
 use Rattle.greatest_divisor.proofs.divisor.Given as goal
 
 abbrev pub invariant-loop-low : goal.invariant-loop-low

@@ -1,6 +1,6 @@
 -- `hidden_action` meets its contract.
 use mathlib.Core.Path.{refl}
-use Rattle.bisimulation.specs.argument.ChoiceLaws.{is_true, is_false}
+use Rattle.bisimulation.proofs.argument.ChoiceLaws.{is_true, is_false}
 use Rattle.bisimulation.specs.definitions.Hidden.{hidden_action}
 use borrow.Author.Rules.{rules}
 use Rattle.hide.proofs.hidden_action.Goals as goal

@@ -1,7 +1,7 @@
 -- `passes_limit` meets its contract.
 use mathlib.Core.Path.{refl}
 use native.Mathlib.Omega.{arith}
-use Rattle.bisimulation.specs.argument.ChoiceLaws.{less, not_less}
+use Rattle.bisimulation.proofs.argument.ChoiceLaws.{less, not_less}
 use Rattle.join.specs.Join.{passes_sizes}
 use borrow.Author.Rules.{rules}
 use Rattle.join.proofs.passes_limit.Goals as goal

@@ -1,7 +1,7 @@
 -- `largest_answer` meets its contract: 40, or what there is room for.
 use mathlib.Core.Path.{sym, ◌∙◌}
-use Rattle.bisimulation.specs.argument.ChoiceLaws.{false-not}
-use Rattle.largest_pair.specs.argument.LargestAnswerLaws.{inside-within}
+use Rattle.bisimulation.proofs.argument.ChoiceLaws.{false-not}
+use Rattle.largest_pair.proofs.argument.LargestAnswerLaws.{inside-within}
 use Rattle.largest.specs.LargestLaws.{outside-refused}
 use borrow.Author.Rules.{rules}
 use Rattle.largest.proofs.largest_answer.Goals as goal

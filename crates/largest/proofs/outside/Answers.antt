@@ -1,7 +1,7 @@
 -- `outside` meets its contract, test by test.
 use mathlib.Core.Path.{refl}
 use native.Mathlib.Omega.{arith}
-use Rattle.bisimulation.specs.argument.ChoiceLaws.{less, not_less}
+use Rattle.bisimulation.proofs.argument.ChoiceLaws.{less, not_less}
 use Rattle.largest_pair.specs.definitions.LargestAnswer.{outside_limits}
 use Rattle.largest.proofs.outside.Goals as goal
 

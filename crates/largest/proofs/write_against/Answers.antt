@@ -3,7 +3,7 @@ use native.Mathlib.Omega.{arith}
 use Rattle.writer.specs.AppendsLaws.{appended-as}
 use Rattle.largest_pair.specs.definitions.LargestPair.{stays}
 use Rattle.rules.specs.definitions.Encoding.{flow_bytes}
-use Rattle.largest_pair.specs.argument.LargestLaws.{flow-length}
+use Rattle.largest_pair.proofs.argument.LargestLaws.{flow-length}
 use Rattle.largest.specs.Repeated.{Repeating, list-repeated, repeating-start, repeating-room, repeating-turn, repeating-end}
 use borrow.Author.Rules.{rules}
 use Rattle.largest.proofs.write_against.Goals as goal

@@ -1,6 +1,6 @@
 -- `write_certificate` meets its contract: the head, the blocks and the flows, each behind the one before it.
 use native.Mathlib.Omega.{arith}
-use Rattle.largest_pair.specs.argument.LargestLaws.{length-zeros}
+use Rattle.largest_pair.proofs.argument.LargestLaws.{length-zeros}
 use Rattle.largest.specs.LargestLaws.{certificate-written}
 use borrow.Author.Rules.{rules}
 use Rattle.largest.proofs.write_certificate.Goals as goal

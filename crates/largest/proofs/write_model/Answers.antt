@@ -1,7 +1,7 @@
 -- `write_model` meets its contract: the head, the labels and the transitions, each behind the one before it.
 use native.Mathlib.Omega.{arith}
 use Rattle.rules.specs.definitions.Bytes.{two_bytes}
-use Rattle.largest_pair.specs.argument.LargestLaws.{length-zeros}
+use Rattle.largest_pair.proofs.argument.LargestLaws.{length-zeros}
 use Rattle.largest.specs.LargestLaws.{model-written}
 use borrow.Author.Rules.{rules}
 use Rattle.largest.proofs.write_model.Goals as goal

@@ -1,7 +1,7 @@
 -- `count_with` meets its contract.
 use native.Mathlib.Omega.{arith}
 use mathlib.Core.Path.{refl}
-use Rattle.bisimulation.specs.argument.ChoiceLaws.{less, not_less}
+use Rattle.bisimulation.proofs.argument.ChoiceLaws.{less, not_less}
 use borrow.Author.Rules.{rules}
 use Rattle.merged_model.proofs.count_with.Statement.{statement}
 use Rattle.merged_model.proofs.count_with.Tie as tie

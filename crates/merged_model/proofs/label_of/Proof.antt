@@ -3,7 +3,7 @@ use native.Mathlib.Omega.{arith}
 use Prim.Native.Nat.{ℕ, ◌+◌, ◌-◌, ◌≤◌}
 use mathlib.Core.Path.{◌≡◌, refl, sym, ◌∙◌, ap}
 use lib.ListN.{length, drop}
-use Rattle.bisimulation.specs.argument.ChoiceLaws.{via, same, not_same}
+use Rattle.bisimulation.proofs.argument.ChoiceLaws.{via, same, not_same}
 use Rattle.quotient.specs.definitions.Quotient.{label_of_block}
 use Rattle.merged_model.specs.LabelsLaws.{label-turn, label-end}
 use borrow.Author.Rules.{rules}

@@ -1,5 +1,5 @@
 -- `scan_model` meets its contract: the labels and the transitions in the order of `scan_model`.
-use Rattle.rules.specs.argument.ReadingLaws.{refuse-stops, refuse-passes, head-terms, labels-terms, head_passed, labels-passed}
+use Rattle.rules.proofs.argument.ReadingLaws.{refuse-stops, refuse-passes, head-terms, labels-terms, head_passed, labels-passed}
 use Rattle.rules.specs.definitions.Reading.{Scan, refused, scan_transitions, scan_model, labels_fault}
 use Rattle.rules.specs.definitions.Limits.{limits}
 use Prim.Native.Nat.{ℕ, ◌+◌}

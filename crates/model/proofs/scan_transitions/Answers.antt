@@ -10,14 +10,14 @@ use Rattle.fault.specs.Faults.{fault_of, Placed}
 use Rattle.fault.specs.FaultsLaws.{none_is}
 use Rattle.fault.specs.declared.Fault.{Fault}
 use Rattle.model.specs.Scanned.{PlacesHeld, scans}
-use Rattle.rules.specs.argument.ReadingLaws.{scan_transitions-turn, scan_transitions-end, refuse-stops, refuse-passes, transition-passed, place_of-next}
+use Rattle.rules.proofs.argument.ReadingLaws.{scan_transitions-turn, scan_transitions-end, refuse-stops, refuse-passes, transition-passed, place_of-next}
 use Rattle.rules.specs.definitions.Reading.{Scan, refused, scan_transitions, place_of, after_transition}
 use Rattle.rules.specs.definitions.Limits.{limits}
 use lib.ListN.{length, set, length-set}
 use Prim.Native.Nat.{ℕ, ◌+◌, ◌*◌, ◌-◌, ◌≤◌, ◌<◌}
 use mathlib.Core.List.{List}
 use mathlib.Core.Path.{◌≡◌, refl, sym, ◌∙◌, ap, subst}
-use Rattle.bisimulation.specs.argument.ChoiceLaws.{via}
+use Rattle.bisimulation.proofs.argument.ChoiceLaws.{via}
 use native.Mathlib.Omega.{arith}
 use Rattle.model.proofs.scan_transitions.Goals as goal
 

@@ -1,6 +1,6 @@
 -- `scan_whole` meets its contract: bytes left after the records of a sound model.
 use mathlib.Core.Path.{refl, sym, ◌∙◌, ap, subst}
-use Rattle.bisimulation.specs.argument.ChoiceLaws.{via}
+use Rattle.bisimulation.proofs.argument.ChoiceLaws.{via}
 use Rattle.rules.specs.definitions.Reading.{scan_whole, refuse_bytes_left}
 use Rattle.model.specs.Scanned.{scan_of, PlacesOf, scans, left-held}
 use Rattle.model.specs.declared.Scanned.{Scanned}

@@ -1,7 +1,7 @@
 -- `whole` meets its contract: bytes left are refused where the records end.
 use native.Mathlib.Omega.{arith}
 use mathlib.Core.Path.{refl, ◌∙◌, ap₂}
-use Rattle.bisimulation.specs.argument.ChoiceLaws.{less, not_less}
+use Rattle.bisimulation.proofs.argument.ChoiceLaws.{less, not_less}
 use Rattle.rules.specs.definitions.Reading.{refused, refuse_bytes_left}
 use borrow.Author.Rules.{rules}
 use Rattle.model.proofs.whole.Goals as goal

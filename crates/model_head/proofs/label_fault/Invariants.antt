@@ -1,9 +1,9 @@
 -- `label_fault` meets its contract. The invariant: the labels left have the fault of all.
 use native.Mathlib.Omega.{arith}
-use Rattle.bisimulation.specs.argument.ChoiceLaws.{via, less, not_less}
+use Rattle.bisimulation.proofs.argument.ChoiceLaws.{via, less, not_less}
 use Rattle.rules.specs.definitions.Limits.{limits}
 use Rattle.rules.specs.definitions.Reading.{label_fault}
-use Rattle.rules.specs.argument.ReadingLaws.{label_fault-end, label_fault-turn}
+use Rattle.rules.proofs.argument.ReadingLaws.{label_fault-end, label_fault-turn}
 use Prim.Native.Nat.{ℕ, ◌+◌, ◌-◌}
 use mathlib.Core.Path.{◌≡◌, refl, ◌∙◌, ap}
 use borrow.Author.Rules.{rules}

@@ -2,7 +2,7 @@
 use native.Mathlib.Omega.{arith}
 use mathlib.Core.Path.{◌∙◌}
 use Rattle.rules.specs.definitions.Faults.{model_record}
-use Rattle.rules.specs.argument.FaultLaws.{first_stops, first_passes, model-refuses, opened}
+use Rattle.rules.proofs.argument.FaultLaws.{first_stops, first_passes, model-refuses, opened}
 use Rattle.fault.specs.FaultsLaws.{none_is, placed-as}
 use Rattle.rules.specs.definitions.Reading.{labels_fault}
 use borrow.Author.Rules.{rules}

@@ -1,6 +1,6 @@
 -- `range_fault` meets its contract: each return follows the tests before it through `range_fault`.
 use native.Mathlib.Omega.{arith}
-use Rattle.bisimulation.specs.argument.ChoiceLaws.{less, not_less}
+use Rattle.bisimulation.proofs.argument.ChoiceLaws.{less, not_less}
 use Rattle.rules.specs.definitions.Reading.{range_fault}
 use borrow.Author.Rules.{rules}
 use Rattle.model_head.proofs.range_fault.Goals as goal

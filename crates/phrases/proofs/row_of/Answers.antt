@@ -1,7 +1,7 @@
 -- `row_of` meets its contract.
 use mathlib.Core.Path.{refl}
 use native.Mathlib.Omega.{arith}
-use Rattle.bisimulation.specs.argument.ChoiceLaws.{less, not_less}
+use Rattle.bisimulation.proofs.argument.ChoiceLaws.{less, not_less}
 use Rattle.sentences.specs.definitions.Phrases.{phrases}
 use Rattle.phrases.specs.Table.{row_of}
 use Rattle.phrases.proofs.row_of.Goals as goal

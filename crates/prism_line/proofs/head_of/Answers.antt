@@ -1,7 +1,7 @@
 -- `head_of` meets its contract.
 use mathlib.Core.Path.{refl}
 use native.Mathlib.Omega.{arith}
-use Rattle.bisimulation.specs.argument.ChoiceLaws.{less, not_less}
+use Rattle.bisimulation.proofs.argument.ChoiceLaws.{less, not_less}
 use Rattle.prism_line.specs.LineParts.{head_within}
 use borrow.Author.Rules.{rules}
 use Rattle.prism_line.proofs.head_of.Goals as goal

@@ -1,7 +1,7 @@
 -- `choices_of` meets its contract.
 use native.Mathlib.Omega.{arith}
 use mathlib.Core.Path.{refl}
-use Rattle.bisimulation.specs.argument.ChoiceLaws.{same, not_same}
+use Rattle.bisimulation.proofs.argument.ChoiceLaws.{same, not_same}
 use Rattle.prism_step.specs.Progressing.{count_by}
 use borrow.Author.Rules.{rules}
 use Rattle.prism_step.proofs.choices_of.Goals as goal

@@ -1,7 +1,7 @@
 -- `extend` meets its contract.
 use native.Mathlib.Omega.{arith}
 use mathlib.Core.Path.{refl}
-use Rattle.bisimulation.specs.argument.ChoiceLaws.{less, not_less, same, not_same}
+use Rattle.bisimulation.proofs.argument.ChoiceLaws.{less, not_less, same, not_same}
 use Rattle.prism_step.specs.Progressing.{extends_by}
 use Rattle.prism_step.specs.PartLaws.{not_extended}
 use borrow.Author.Rules.{rules}

@@ -1,7 +1,7 @@
 -- `goes_on` meets its contract.
 use native.Mathlib.Omega.{arith}
 use mathlib.Core.Path.{refl}
-use Rattle.bisimulation.specs.argument.ChoiceLaws.{via, same, not_same}
+use Rattle.bisimulation.proofs.argument.ChoiceLaws.{via, same, not_same}
 use Rattle.prism_step.specs.PartLaws.{goes-on-tests}
 use Rattle.prism_step.proofs.goes_on.Goals as goal
 

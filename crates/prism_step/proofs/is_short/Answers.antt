@@ -1,7 +1,7 @@
 -- `is_short` meets its contract.
 use native.Mathlib.Omega.{arith}
 use mathlib.Core.Path.{refl}
-use Rattle.bisimulation.specs.argument.ChoiceLaws.{same, not_same, is_true, is_false}
+use Rattle.bisimulation.proofs.argument.ChoiceLaws.{same, not_same, is_true, is_false}
 use Rattle.prism_step.specs.Progressing.{short_by}
 use Rattle.prism_step.specs.PartLaws.{other-is}
 use borrow.Author.Rules.{rules}

@@ -1,7 +1,7 @@
 -- `at_end` meets its contract.
 use native.Mathlib.Omega.{arith}
 use mathlib.Core.Path.{refl}
-use Rattle.bisimulation.specs.argument.ChoiceLaws.{same, not_same}
+use Rattle.bisimulation.proofs.argument.ChoiceLaws.{same, not_same}
 use borrow.Author.Rules.{rules}
 use Rattle.prism_text.proofs.at_end.Goals as goal
 

@@ -1,6 +1,6 @@
 -- `open` meets its contract: each return is one way out of `open_fault`.
 use native.Mathlib.Omega.{arith}
-use Rattle.rules.specs.argument.FaultLaws.{open-ends, open-mark, open-cut, open-whole}
+use Rattle.rules.proofs.argument.FaultLaws.{open-ends, open-mark, open-cut, open-whole}
 use Rattle.field.specs.Taken.{taken_at}
 use borrow.Author.Rules.{rules}
 use Rattle.record.proofs.open.Goals as goal

@@ -3,7 +3,7 @@ use native.Mathlib.Omega.{arith}
 use mathlib.Core.Path.{sym, ◌∙◌, ap}
 use mir.Facts.{to_z-of_z}
 use borrow.Author.Tests.{not-true, not-false}
-use Rattle.bisimulation.specs.argument.ChoiceLaws.{is_true, is_false}
+use Rattle.bisimulation.proofs.argument.ChoiceLaws.{is_true, is_false}
 use Rattle.rules.specs.definitions.Faults.{fault_by}
 use Rattle.rules.specs.definitions.PlainRule.{below, last_fault}
 use Rattle.transition.specs.KnownLaws.{known-states, few-states}

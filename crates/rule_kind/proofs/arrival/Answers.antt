@@ -1,6 +1,6 @@
 -- `arrival` meets its contract, test by test.
 use mathlib.Core.Path.{refl}
-use Rattle.bisimulation.specs.argument.ChoiceLaws.{same, not_same}
+use Rattle.bisimulation.proofs.argument.ChoiceLaws.{same, not_same}
 use native.Mathlib.Omega.{arith}
 use Rattle.rule_kind.specs.Steps.{arrival_of}
 use Rattle.rule_kind.proofs.arrival.Goals as goal

@@ -1,7 +1,7 @@
 -- `in_strong_question` meets its contract: by the layer.
 use mathlib.Core.Path.{refl}
 use native.Mathlib.Omega.{arith}
-use Rattle.bisimulation.specs.argument.ChoiceLaws.{same, not_same}
+use Rattle.bisimulation.proofs.argument.ChoiceLaws.{same, not_same}
 use Rattle.rule_kind.specs.Steps.{strong_question}
 use borrow.Author.Rules.{rules}
 use Rattle.rule_kind.proofs.in_strong_question.Goals as goal

@@ -1,6 +1,6 @@
 -- `in_weak_question` meets its contract, case by case.
 use mathlib.Core.Path.{refl}
-use Rattle.bisimulation.specs.argument.ChoiceLaws.{same, not_same}
+use Rattle.bisimulation.proofs.argument.ChoiceLaws.{same, not_same}
 use native.Mathlib.Omega.{arith}
 use Rattle.rules.specs.definitions.PlainRule.{internal_in_question, external_in_question, plain_in_question}
 use Rattle.rule_kind.specs.StepsLaws.{tells-layer}

@@ -1,6 +1,6 @@
 -- `strong_condition` meets its contract.
 use mathlib.Core.Path.{refl, sym, ◌∙◌}
-use Rattle.bisimulation.specs.argument.ChoiceLaws.{is_true, is_false}
+use Rattle.bisimulation.proofs.argument.ChoiceLaws.{is_true, is_false}
 use Rattle.rule_kind.specs.Steps.{strong_condition}
 use borrow.Author.Rules.{rules}
 use Rattle.rule_kind.proofs.strong_condition.Goals as goal

@@ -1,7 +1,7 @@
 -- `weak_condition` meets its contract, test by test.
 use mathlib.Core.Path.{refl}
 use native.Mathlib.Omega.{arith}
-use Rattle.bisimulation.specs.argument.ChoiceLaws.{same, not_same}
+use Rattle.bisimulation.proofs.argument.ChoiceLaws.{same, not_same}
 use Rattle.rule_kind.specs.Steps.{weak_condition}
 use Rattle.rule_kind.proofs.weak_condition.Goals as goal
 

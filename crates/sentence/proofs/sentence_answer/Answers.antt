@@ -3,7 +3,7 @@ use mathlib.Core.Path.{sym, ap}
 use lib.Seq.{length-take-le}
 use mir.Facts.{to_z-of_z}
 use native.Mathlib.Omega.{arith}
-use Rattle.sentences.specs.argument.LongestSentence.{longest-sentence}
+use Rattle.sentences.proofs.argument.LongestSentence.{longest-sentence}
 use Rattle.sentence.specs.Sentence.{told}
 use Rattle.sentence.specs.SentenceLaws.{sentence-handed}
 use borrow.Author.Rules.{rules}

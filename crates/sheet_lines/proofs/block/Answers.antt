@@ -1,7 +1,7 @@
 -- `block` meets its contract: its first line, and the further ones behind it.
 use native.Mathlib.Omega.{arith}
 use Rattle.block_sheet.specs.definitions.Sheet.{line_count}
-use Rattle.block_sheet.specs.argument.SheetLaws.{cell-length}
+use Rattle.block_sheet.proofs.argument.SheetLaws.{cell-length}
 use Rattle.sheet_lines.specs.LinesLaws.{further-room, block_written}
 use borrow.Author.Rules.{rules}
 use Rattle.sheet_lines.proofs.block.Goals as goal

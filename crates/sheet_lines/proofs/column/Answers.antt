@@ -1,7 +1,7 @@
 -- `column` meets its contract: a space, or the digit.
 use native.Mathlib.Omega.{arith}
 use mathlib.Core.Path.{refl}
-use Rattle.bisimulation.specs.argument.ChoiceLaws.{less, not_less}
+use Rattle.bisimulation.proofs.argument.ChoiceLaws.{less, not_less}
 use Rattle.block_sheet.specs.definitions.Sheet.{column}
 use borrow.Author.Rules.{rules}
 use Rattle.sheet_lines.proofs.column.Goals as goal

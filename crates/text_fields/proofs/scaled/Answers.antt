@@ -1,6 +1,6 @@
 -- `scaled` meets its contract.
 use native.Mathlib.Omega.{arith}
-use Rattle.bisimulation.specs.argument.ChoiceLaws.{same}
+use Rattle.bisimulation.proofs.argument.ChoiceLaws.{same}
 use mathlib.Core.Path.{refl, ◌∙◌}
 use Rattle.text_fields.specs.FieldLaws.{scaled-as}
 use Rattle.text_fields.proofs.scaled.Goals as goal

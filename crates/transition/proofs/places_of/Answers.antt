@@ -7,7 +7,7 @@ use lib.ListN.{length, length-set}
 use native.Mathlib.Omega.{arith}
 use Rattle.limits.specs.Sizes as sizes
 use Rattle.rules.specs.definitions.Reading.{place_of, after_transition}
-use Rattle.rules.specs.argument.ReadingLaws.{place_of-next}
+use Rattle.rules.proofs.argument.ReadingLaws.{place_of-next}
 use Rattle.model.specs.Scanned.{PlacesHeld}
 use Rattle.model.specs.Places.{none-held, one-more-held}
 use Rattle.transition.specs.KnownLaws.{few-transitions, few-states, with-table}

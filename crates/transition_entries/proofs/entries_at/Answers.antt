@@ -1,9 +1,9 @@
 -- `entries_at` meets its contract. The invariant: the entries left have the fault of all, where the states so far are in range.
 use native.Mathlib.Omega.{arith}
-use Rattle.rules.specs.argument.ReadingLaws.{EntriesSoFar, entry-descends, entry-empty, entry_follows, entries-start, entries-end}
+use Rattle.rules.proofs.argument.ReadingLaws.{EntriesSoFar, entry-descends, entry-empty, entry_follows, entries-start, entries-end}
 use Rattle.rules.specs.definitions.Faults.{Fault}
 use Rattle.rules.specs.definitions.Reading.{entries_fault}
-use Rattle.bisimulation.specs.argument.ChoiceLaws.{same, not_same}
+use Rattle.bisimulation.proofs.argument.ChoiceLaws.{same, not_same}
 use borrow.Author.Rules.{rules}
 use Rattle.fault.specs.Faults.{fault_of}
 use Rattle.transition_entries.specs.declared.Entries.{Entries}

@@ -5,7 +5,7 @@ use native.Mathlib.Omega.{arith}
 use Prim.Native.Nat.{ℕ}
 use mathlib.Core.Path.{◌≡◌, refl, sym, ◌∙◌, ap}
 use Rattle.numbers.specs.definitions.Divisor.{divisor}
-use Rattle.numbers.specs.argument.DivisorLaws.{divisor-first, divisor-one-last}
+use Rattle.numbers.proofs.argument.DivisorLaws.{divisor-first, divisor-one-last}
 use Rattle.transition_terms.proofs.with_weight.Goals as goal
 
 with-one : (shared weight : ℕ) → weight ≡ 1 → 1 ≡ divisor shared weight

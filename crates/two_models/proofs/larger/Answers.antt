@@ -1,7 +1,7 @@
 -- `larger` meets its contract.
 use mathlib.Core.Path.{refl}
 use native.Mathlib.Omega.{arith}
-use Rattle.bisimulation.specs.argument.ChoiceLaws.{less, not_less}
+use Rattle.bisimulation.proofs.argument.ChoiceLaws.{less, not_less}
 use Rattle.bisimulation.specs.definitions.Joined as joined
 use Rattle.two_models.proofs.larger.Goals as goal
 

@@ -21,7 +21,7 @@ use Rattle.transition.specs.Known.{automaton_in, KnownTransition, FieldsOf}
 use Rattle.transition.specs.KnownLaws.{known-states, known-transitions, few-transitions, fields-small}
 use Rattle.composition.specs.definitions.Composition.{shared_below, is_shared, transition_of}
 use Rattle.composition.proofs.argument.SharedLaws.{test-shared, test-alone}
-use Rattle.composition.proofs.argument.PairCounts.{left_count, right_count, pair_count, left-shared, left_alone, pairs-same}
+use Rattle.composition.proofs.argument.PairCounts.{left_count, right_count, pair_count, left-shared, left_alone_lem, pairs-same}
 use Rattle.composition.proofs.argument.ComposedCounts.{longer, composed-transitions, composed-entries, composed-long}
 use Rattle.composed_size.specs.declared.Sizes.{Sizes}
 use Rattle.composed_size.specs.Sides.{Side, Sides}
@@ -141,9 +141,9 @@ module _ {left left_table right right_table : List ℕ} {m k : Found} (s : Sides
       record {
         are =
             record {
-              transitions = c.are.transitions ∙ sym states ∙ sym (left_alone A B _ _ q alone);
-              entries = c.are.entries ∙ ap₂ (λ (x y : ℕ). x * y) (sym states) f.count ∙ sym (left_alone A B _ _ q alone);
-              long = c.are.long ∙ sym (left_alone A B _ _ q alone);
+              transitions = c.are.transitions ∙ sym states ∙ sym (left_alone_lem A B _ _ q alone);
+              entries = c.are.entries ∙ ap₂ (λ (x y : ℕ). x * y) (sym states) f.count ∙ sym (left_alone_lem A B _ _ q alone);
+              long = c.are.long ∙ sym (left_alone_lem A B _ _ q alone);
             };
         few = wider c.few (omega arith);
       }

@@ -63,14 +63,14 @@ four-fit n = record { sfits = omega (arith, four_bytes n (ltb n (2 ^ 31)) (ltb�
 
 -- a price that the machine reads back from its bits
 pub price-back : (z : ℤ) → mag z < 2 ^ 31 → to_z w64 (of_z w64 z) ≡ z
-price-back z h = to_z-of_z (record { sfits = omega arith })
+price-back z h = to_z-of_z {w = w64} (record { sfits = omega arith })
 
 pub price-read : {table : List ℤ} {v : ℕ} {r : ℤ} → IsPrice table v r → mag (price_in table v) < 2 ^ 31 → to_z w64 (of_z w64 r) ≡ price_in table v
 price-read p h = ap (λ (z : ℤ). to_z w64 (of_z w64 z)) (p.is h) ∙ price-back _ h
 
 -- and so is a sum
 pub sum_back : {es : List Entry} {table : List ℤ} {z : ℤ} → IsSum es table z → to_z w64 (of_z w64 z) ≡ z
-sum_back {z = z} h = to_z-of_z (record { sfits = omega (arith, h.small, mag-abs z) })
+sum_back {z = z} h = to_z-of_z {w = w64} (record { sfits = omega (arith, h.small, mag-abs z) })
 
 -- a price that was read from a file, as it goes into a table
 module _ {s : List ℕ} {at : ℕ} {p : Price} (read : Priced s at p) where

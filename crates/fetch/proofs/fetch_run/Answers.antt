@@ -36,7 +36,7 @@ run_of-run-requires c =
     let told = c.scan_whole-scanned.ensures in
     let s = c.args.s.now in
     let q = sym (ap scan_of same) ∙ told.answer in
-    let held = subst (λ (r : Scanned). PlacesOf s c.scan_whole-scanned.new.1.1.0 (scan_of r)) same told.places in
+    let held = subst (λ (r : Scanned). PlacesOf s c.scan_whole-scanned.new.places (scan_of r)) same told.places in
     let k = known current_terms s _ _ _ _ _ (λ i h. omega (arith, c.shared_slice_known-1.given i)) q held told.size in
     (omega (arith, few-states k), known-own k)
 

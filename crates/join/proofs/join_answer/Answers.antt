@@ -14,7 +14,7 @@ pub returns-in-Sound : goal.returns-in-Sound
 unfolding Bytes byte_at
 returns-in-Sound c =
     two-sound (λ i h. omega (arith, c.shared_slice_known-1.given i)) (λ i h. omega (arith, c.shared_slice_known-2-1.given i)) _
-    (join_sound-requires c c.join_sound.lifetimes) c.join_sound.ensures
+    (found-both c.read_two-read.ensures c.in-Sound.is) c.join_sound.ensures
 
 pub returns-in-Refused : goal.returns-in-Refused
 unfolding Bytes byte_at

@@ -20,15 +20,15 @@ bounds-weights-b c =
     walking-block _ c.loop-left.invariant.walking (omega arith) c.entry_at-entry.ensures c.block_of-b.ensures.0
 
 pub offset_bounds-weights-b : goal.offset_bounds-weights-b
-offset_bounds-weights-b c = record { fits = omega (arith, bounds-weights-b c) }
+offset_bounds-weights-b c = record { fits = omega (arith, (walking-block _ c.loop-left.invariant.walking (omega arith) c.entry_at-entry.ensures c.block_of-b.ensures.0)) }
 
 pub overflow_cast-weight : goal.overflow_cast-weight
-overflow_cast-weight c = record { fits = omega (arith, adding-fits c.loop-left.invariant (bounds-weights-b c)) }
+overflow_cast-weight c = record { fits = omega (arith, adding-fits c.loop-left.invariant (walking-block _ c.loop-left.invariant.walking (omega arith) c.entry_at-entry.ensures c.block_of-b.ensures.0)) }
 
 pub overflow_add-sum : goal.overflow_add-sum
 overflow_add-sum c =
     record {
-      fits = omega (arith, adding-fits c.loop-left.invariant (bounds-weights-b c), c.entry_at-entry.ensures.small);
+      fits = omega (arith, adding-fits c.loop-left.invariant (walking-block _ c.loop-left.invariant.walking (omega arith) c.entry_at-entry.ensures c.block_of-b.ensures.0), c.entry_at-entry.ensures.small);
     }
 
 pub counted-count-requires : goal.counted-count-requires
@@ -37,14 +37,14 @@ counted-count-requires c = (adding-few c.loop-left.invariant, omega arith)
 pub overflow_cast-weights : goal.overflow_cast-weights
 overflow_cast-weights c =
     record {
-      fits = omega (arith, adding-fits c.loop-left.invariant (bounds-weights-b c), c.entry_at-entry.ensures.small);
+      fits = omega (arith, adding-fits c.loop-left.invariant (walking-block _ c.loop-left.invariant.walking (omega arith) c.entry_at-entry.ensures c.block_of-b.ensures.0), c.entry_at-entry.ensures.small);
     }
 
 pub offset_bounds-weights-b-in-loop-left : goal.offset_bounds-weights-b-in-loop-left
-offset_bounds-weights-b-in-loop-left c = record { fits = omega (arith, bounds-weights-b c) }
+offset_bounds-weights-b-in-loop-left c = record { fits = omega (arith, (walking-block _ c.loop-left.invariant.walking (omega arith) c.entry_at-entry.ensures c.block_of-b.ensures.0)) }
 
 pub bounds-weights-b-in-loop-left : goal.bounds-weights-b-in-loop-left
-bounds-weights-b-in-loop-left c = bounds-weights-b c
+bounds-weights-b-in-loop-left c = (walking-block _ c.loop-left.invariant.walking (omega arith) c.entry_at-entry.ensures c.block_of-b.ensures.0)
 
 pub overflow_sub-left : goal.overflow_sub-left
 overflow_sub-left c = omega arith

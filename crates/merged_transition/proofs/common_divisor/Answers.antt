@@ -19,10 +19,10 @@ bounds-weights-b c =
     walking-block _ c.loop-left.invariant.walking (omega arith) c.entry_at-entry.ensures c.block_of-b.ensures.0
 
 pub offset_bounds-weights-b : goal.offset_bounds-weights-b
-offset_bounds-weights-b c = record { fits = omega (arith, bounds-weights-b c) }
+offset_bounds-weights-b c = record { fits = omega (arith, (walking-block _ c.loop-left.invariant.walking (omega arith) c.entry_at-entry.ensures c.block_of-b.ensures.0)) }
 
 pub overflow_cast-weight : goal.overflow_cast-weight
-overflow_cast-weight c = record { fits = omega (arith, c.requires.light _ (bounds-weights-b c)) }
+overflow_cast-weight c = record { fits = omega (arith, c.requires.light _ (walking-block _ c.loop-left.invariant.walking (omega arith) c.entry_at-entry.ensures c.block_of-b.ensures.0)) }
 
 pub with_weight-g-requires : goal.with_weight-g-requires
 with_weight-g-requires c = tt

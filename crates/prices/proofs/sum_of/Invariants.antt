@@ -10,7 +10,7 @@ use Rattle.prices.proofs.sum_of.Given as goal
 
 abbrev pub invariant-loop-unread : goal.invariant-loop-unread
 invariant-loop-unread l =
-    Summing l.s l.prices (entries_at l.s l.count l.at) l.unread l.place.at (to_z w64 l.sum)
+    Summing l.s l.prices (entries_at l.s l.count l.at) l.unread l.place.at l.sum
 
 abbrev pub decreases-loop-unread : goal.decreases-loop-unread
 decreases-loop-unread l = l.unread

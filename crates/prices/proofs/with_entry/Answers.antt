@@ -13,7 +13,9 @@ price_of-price-requires c =
     (summing-price _ ready.summing.one ready.enough c.entry_at-entry.ensures).state
 
 pub price_of-other_price-requires : goal.price_of-other_price-requires
-price_of-other_price-requires c = price_of-price-requires c κs
+price_of-other_price-requires c =
+    let ready = c.requires in
+    (summing-price _ ready.summing.one ready.enough c.entry_at-entry.ensures).state
 
 pub with_term-one-requires : goal.with_term-one-requires
 with_term-one-requires c =

@@ -50,7 +50,7 @@ shape_of-records-then-not-stepped c = omega (arith, c.requires.room)
 
 pub returns-then-not-stepped : goal.returns-then-not-stepped
 returns-then-not-stepped c =
-    lines-fault c.loop-head.invariant c.piece_end-end.ensures c.read_line-line.ensures (sym c.is_short.ensures ∙ c.if-is_short.false) c.if-end-text.false c.step-stepped.ensures c.if-not-stepped.true
+    lines-fault c.loop-head.invariant c.piece_end-end.ensures c.read_line-line.ensures (sym c.is_short.ensures ∙ c.if-is_short.false) c.if-end-text.false c.step-stepped.ensures (not-true _ c.if-not-stepped.true)
 
 pub overflow_add-at : goal.overflow_add-at
 overflow_add-at c = omega (arith, c.well_formed.0.0)
@@ -60,4 +60,4 @@ loop-head-smaller c = omega arith
 
 pub loop-head-preserved : goal.loop-head-preserved
 loop-head-preserved c =
-    lines-turn c.loop-head.invariant c.piece_end-end.ensures c.read_line-line.ensures (sym c.is_short.ensures ∙ c.if-is_short.false) c.if-end-text.false c.step-stepped.ensures c.if-not-stepped.false
+    lines-turn c.loop-head.invariant c.piece_end-end.ensures c.read_line-line.ensures (sym c.is_short.ensures ∙ c.if-is_short.false) c.if-end-text.false c.step-stepped.ensures (not-false _ c.if-not-stepped.false)

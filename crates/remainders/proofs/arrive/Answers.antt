@@ -10,8 +10,7 @@ use Rattle.remainders.specs.MovingLaws.{Arriving, arriving-start, arriving-asks,
 use Rattle.remainders.proofs.arrive.Goals as goal
 
 pub loop-left-init : goal.loop-left-init
-loop-left-init c =
-    rw (to_z-of_z c.ranges.factor) (arriving-start c.requires c.fields_of-t.ensures)
+loop-left-init c = rw (to_z-of_z c.ranges.factor) (arriving-start c.requires c.fields_of-t.ensures)
 
 pub entry_at-entry-requires : goal.entry_at-entry-requires
 entry_at-entry-requires c = omega arith

@@ -11,7 +11,7 @@ use Rattle.remainders.proofs.arrive.Given as goal
 
 abbrev pub invariant-loop-left : goal.invariant-loop-left
 invariant-loop-left l =
-    Arriving l.s (entries_of l.s l.r) (to_z w64 l.factor) l.first l.initial.remainders l.remainders l.left l.next.at l.now_nonzero
+    Arriving l.s (entries_of l.s l.r) l.factor l.first l.initial.remainders l.remainders l.left l.next.at l.now_nonzero
 
 abbrev pub decreases-loop-left : goal.decreases-loop-left
 decreases-loop-left l =

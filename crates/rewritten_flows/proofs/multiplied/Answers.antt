@@ -19,6 +19,10 @@ quad-k-requires c = omega arith
 pub offset_bounds-divisors-transition : goal.offset_bounds-divisors-transition
 offset_bounds-divisors-transition c = omega arith
 
+pub bounds-divisors-transition : goal.bounds-divisors-transition
+bounds-divisors-transition c =
+    omega (arith, entry_listed c.requires c.pair-r.ensures c.new.ensures)
+
 pub overflow_mul-result : goal.overflow_mul-result
 overflow_mul-result c =
     omega (arith, product_small c.requires.divisors c.pair-r.result.value c.quad-k.ensures)

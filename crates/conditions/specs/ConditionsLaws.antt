@@ -62,7 +62,7 @@ module _ {kind : Kind} {s places : List ℕ} {count r cost d : ℕ} {l sum : ℤ
   weight-small = mul-le-mul {n₂ = highest_cost} {m₂ = 65535} i.low (omega (arith, a.light))
 
   sum-again : to_z w64 (of_z w64 sum) ≡ sum
-  sum-again = to_z-of_z (record { sfits = omega (arith, mag-abs sum, a.small) })
+  sum-again = to_z-of_z {w = w64} (record { sfits = omega (arith, mag-abs sum, a.small) })
 
   pub term-addable : Addable (to_z w64 (of_z w64 sum)) (cost * d) (to_z w64 (of_z w64 l))
   term-addable = rw (sum-again, price-back l a.price) (record { room = omega (arith, weight-small, a.small); small = omega (arith, a.price) })
@@ -77,7 +77,7 @@ module _ {kind : Kind} {s places : List ℕ} {count r cost d : ℕ} {l sum : ℤ
   pub with-its-term : {z : ℤ} → WithTerm (to_z w64 (of_z w64 sum)) (cost * d) (to_z w64 (of_z w64 l)) z → to_z w64 (of_z w64 z) ≡ sum +ℤ pos (cost_in kind s r * d) *ℤ l
   with-its-term {z} t =
       ap (λ (y : ℤ). to_z w64 (of_z w64 y)) (t.value ∙ ap₂ (λ (y k : ℤ). y +ℤ pos (cost * d) *ℤ k) sum-again (price-back l a.price))
-      ∙ to_z-of_z (record { sfits = omega (arith, mag-abs whole, with-cost-small cost d l sum a.light a.price a.small, i.low) })
+      ∙ to_z-of_z {w = w64} (record { sfits = omega (arith, mag-abs whole, with-cost-small cost d l sum a.light a.price a.small, i.low) })
       ∙ ap (λ (c : ℕ). sum +ℤ pos (c * d) *ℤ l) i.is
     where
       whole : ℤ
@@ -115,7 +115,7 @@ module _ {kind : Kind} {s places : List ℕ} {count r : ℕ} {l : ℤ} (a : Cost
     unfolding price_with_cost
     side-is {z} value small =
         record {
-          back = ap (λ (x : ℤ). to_z w64 (of_z w64 x)) is ∙ to_z-of_z (record { sfits = omega (arith, mag-abs side, side-small small, cost-low a.cost) });
+          back = ap (λ (x : ℤ). to_z w64 (of_z w64 x)) is ∙ to_z-of_z {w = w64} (record { sfits = omega (arith, mag-abs side, side-small small, cost-low a.cost) });
         }
       where
         side : ℤ
@@ -188,7 +188,7 @@ module _ {kind : Kind} {s places : List ℕ} {count q t : ℕ} {l : ℤ} {x g : 
 
   -- so the machine reads it back from its bits
   pub off-back : {r : ℤ} → r ≡ last_off (cost_in kind s) (automaton_in s) l (price_in x) (price_in g) q t → to_z w64 (of_z w64 r) ≡ last_off (cost_in kind s) (automaton_in s) l (price_in x) (price_in g) q t
-  off-back e = ap (λ (z : ℤ). to_z w64 (of_z w64 z)) e ∙ to_z-of_z (record { sfits = omega (arith, off-fits, cost-low a.challenger.cost) })
+  off-back e = ap (λ (z : ℤ). to_z w64 (of_z w64 z)) e ∙ to_z-of_z {w = w64} (record { sfits = omega (arith, off-fits, cost-low a.challenger.cost) })
 
   -- it is off by 0 or more where the last condition breaks
   pub off-tells : {r : ℤ} → r ≡ last_off (cost_in kind s) (automaton_in s) l (price_in x) (price_in g) q t → le_z (pos 0) (to_z w64 (of_z w64 r)) ≡ not (last_holds (cost_in kind s) (automaton_in s) l (price_in x) (price_in g) q t)

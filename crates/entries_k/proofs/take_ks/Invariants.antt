@@ -1,0 +1,19 @@
+-- `take_ks` meets its contract. The invariant is `TakingKs`.
+use mathlib.Core.Path.{refl}
+use native.Mathlib.Omega.{arith}
+use borrow.Author.Tests.{not-true, not-false}
+use Rattle.transition.specs.KnownLaws.{known-transitions}
+use borrow.Author.Rules.{rules}
+use Rattle.rule_kind.specs.Kinds.{rule_of, cost_in}
+use Rattle.rule_kind.specs.Steps.{in_question_by}
+use Rattle.rule_kind.specs.StepsLaws.{tests-of}
+use Rattle.entries_k.specs.KEntriesLaws.{TakingKs, ks-start, ks-refused, ks-asks, ks-pays, ks-turn, ks-end, KRead, k-read, StandingK}
+use Rattle.entries_k.proofs.take_ks.Given as goal
+
+abbrev pub invariant-loop-left : goal.invariant-loop-left
+invariant-loop-left l =
+    TakingKs (rule_of l.kind l.s) (cost_in l.kind l.s) l.s l.cert l.action l.t l.initial.place.at l.entries l.initial.remainders l.remainders l.left l.place.at l.lowest l.nonzero l.paid
+
+abbrev pub decreases-loop-left : goal.decreases-loop-left
+decreases-loop-left l =
+    l.left

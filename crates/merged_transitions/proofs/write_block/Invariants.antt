@@ -1,0 +1,18 @@
+-- `write_block` meets its contract. The invariant: those of the block among the first r transitions stand behind the blocks before, and r is of the block.
+use native.Mathlib.Omega.{arith}
+use Prim.Native.Nat.{◌+◌, ◌-◌, ◌≤◌, ◌<◌}
+use mathlib.Core.Path.{◌≡◌, refl}
+use lib.ListN.{length, get_or}
+use Rattle.transition.specs.KnownLaws.{few-transitions}
+use Rattle.merged_transition.specs.MergedTransition.{NoWeights}
+use Rattle.merged_transitions.specs.MergedTransitions.{block_of_source, IsFirst, InBlock}
+use Rattle.merged_transitions.specs.ChainsLaws.{behind}
+use Rattle.merged_transitions.specs.MergedTransitionsLaws.{count-is, skip-others, block-begins, block-ends}
+use Rattle.merged_transitions.proofs.write_block.Given as goal
+
+abbrev pub invariant-loop-r : goal.invariant-loop-r
+invariant-loop-r l =
+    (length l.out ≡ length l.initial.out) × NoWeights l.weights × InBlock l.s l.blocks l.b l.r l.start l.out l.kept × (l.r ≤ l.count) × (l.r < l.count → block_of_source l.s l.blocks l.r ≡ l.b)
+
+abbrev pub decreases-loop-r : goal.decreases-loop-r
+decreases-loop-r l = l.count - l.r

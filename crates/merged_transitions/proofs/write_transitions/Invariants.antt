@@ -1,0 +1,18 @@
+-- `write_transitions` meets its contract. The invariant: the transitions of the blocks before the next one stand in the buffer.
+use native.Mathlib.Omega.{arith}
+use Prim.Native.Nat.{ℕ, ◌-◌, ◌≤◌}
+use mathlib.Core.Path.{◌≡◌, refl, subst}
+use lib.ListN.{length}
+use Rattle.transition.specs.KnownLaws.{few-transitions}
+use Rattle.merged_transition.specs.MergedTransition.{NoWeights}
+use Rattle.merged_transitions.specs.MergedTransitions.{transitions_in, before, Holds}
+use Rattle.merged_transitions.specs.ChainsLaws.{none-chained}
+use Rattle.merged_transitions.specs.MergedTransitionsLaws.{none-held}
+use Rattle.merged_transitions.proofs.write_transitions.Given as goal
+
+abbrev pub invariant-loop-block : goal.invariant-loop-block
+invariant-loop-block l =
+    (l.block ≤ l.k) × (length l.out ≡ length l.initial.out) × NoWeights l.weights × Holds (before l.blocks (transitions_in l.s) l.block) l.out l.kept
+
+abbrev pub decreases-loop-block : goal.decreases-loop-block
+decreases-loop-block l = l.k - l.block

@@ -10,20 +10,6 @@ use Rattle.merged_transitions.specs.ChainsLaws.{behind}
 use Rattle.merged_transitions.specs.MergedTransitionsLaws.{count-is, skip-others, block-begins, block-ends}
 use Rattle.merged_transitions.proofs.write_block.Goals as goal
 
--- the first transition of the block
-first_of : (c : tie.After-r invariant-loop decreases-loop) → let a = c.before.before.before.before.args in IsFirst a.s.now a.blocks.now a.count a.b 0 (get_or a.heads.now a.b 0)
-first_of c = let p = c.before.before.before.before.requires in p.chained.first _ (omega (arith, p.block, p.merging.few))
-
--- what is known before the first turn
-abbrev start_of : tie.After-slice-known2 invariant-loop decreases-loop → tie.Start invariant-loop decreases-loop
-start_of c = c.before.before.before.before.before.before.before.before.before.before.before
-
--- the next transition of the block
-next_of : (c : tie.After-slice-known2 invariant-loop decreases-loop) → let a = (start_of c).args in let r = c.before.before.before.before.before.before.loop.r in IsFirst a.s.now a.blocks.now a.count a.b (r + 1) (get_or a.chain.now r 0)
-next_of c =
-    let turn = c.before.before.before.before.before in
-    behind (start_of c).requires.chained turn.loop-test.true (turn.before.loop.invariant.4 turn.loop-test.true)
-
 pub offset_bounds-heads-b : goal.offset_bounds-heads-b
 offset_bounds-heads-b c = omega (arith, c.requires.block, c.requires.merging.few)
 
@@ -31,12 +17,15 @@ pub bounds-heads-b : goal.bounds-heads-b
 bounds-heads-b c = omega (arith, c.requires.block, c.requires.merging.few)
 
 pub overflow_cast-r : goal.overflow_cast-r
-overflow_cast-r c = omega (arith, (first_of c).to, few-transitions c.requires.known)
+overflow_cast-r c =
+    let first_of : (let a = c.args in IsFirst a.s.now a.blocks.now a.count a.b 0 (get_or a.heads.now a.b 0)) = let p = c.requires in p.chained.first _ (omega (arith, p.block, p.merging.few)) in
+    omega (arith, first_of.to, few-transitions c.requires.known)
 
 pub loop-r-init : goal.loop-r-init
 loop-r-init c =
+    let first_of : (let a = c.args in IsFirst a.s.now a.blocks.now a.count a.b 0 (get_or a.heads.now a.b 0)) = let p = c.requires in p.chained.first _ (omega (arith, p.block, p.merging.few)) in
     let p = c.requires in
-    (refl, p.none, skip-others p.known (first_of c) (block-begins _ _ _ p.held), (first_of c).to, (first_of c).of)
+    (refl, p.none, skip-others p.known first_of (block-begins _ _ _ p.held), first_of.to, first_of.of)
 
 pub keep_of_block-kept-requires : goal.keep_of_block-kept-requires
 keep_of_block-kept-requires c =
@@ -46,22 +35,27 @@ keep_of_block-kept-requires c =
     record { known = p.known; merging = p.merging; block = p.block; less = less; of = inv.4 less; none = inv.1; large = omega (arith, p.large, inv.0); held = inv.2 }
 
 pub offset_bounds-chain-r : goal.offset_bounds-chain-r
-offset_bounds-chain-r c = omega (arith, c.loop-r-test.true, few-transitions (start_of c).requires.known)
+offset_bounds-chain-r c = omega (arith, c.loop-r-test.true, few-transitions c.requires.known)
 
 pub bounds-chain-r : goal.bounds-chain-r
-bounds-chain-r c = omega (arith, c.loop-r-test.true, few-transitions (start_of c).requires.known)
+bounds-chain-r c = omega (arith, c.loop-r-test.true, few-transitions c.requires.known)
 
 pub overflow_cast-r-in-loop-r : goal.overflow_cast-r-in-loop-r
-overflow_cast-r-in-loop-r c = omega (arith, (next_of c).to, few-transitions (start_of c).pre.known)
+overflow_cast-r-in-loop-r c =
+    let next_of : (let a = c.args in let r = c.loop-r.r in IsFirst a.s.now a.blocks.now a.count a.b (r + 1) (get_or a.chain.now r 0)) = behind c.requires.chained c.loop-r-test.true (c.loop-r.invariant.4 c.loop-r-test.true) in
+    omega (arith, next_of.to, few-transitions c.requires.known)
 
 pub loop-r-smaller : goal.loop-r-smaller
-loop-r-smaller c = omega (arith, c.loop-r-test.true, (next_of c).from, (next_of c).to)
+loop-r-smaller c =
+    let next_of : (let a = c.args in let r = c.loop-r.r in IsFirst a.s.now a.blocks.now a.count a.b (r + 1) (get_or a.chain.now r 0)) = behind c.requires.chained c.loop-r-test.true (c.loop-r.invariant.4 c.loop-r-test.true) in
+    omega (arith, c.loop-r-test.true, next_of.from, next_of.to)
 
 pub loop-r-preserved : goal.loop-r-preserved
 loop-r-preserved c =
+    let next_of : (let a = c.args in let r = c.loop-r.r in IsFirst a.s.now a.blocks.now a.count a.b (r + 1) (get_or a.chain.now r 0)) = behind c.requires.chained c.loop-r-test.true (c.loop-r.invariant.4 c.loop-r-test.true) in
     let k = c.keep_of_block-kept.ensures in
-    let next = next_of c in
-    (omega (arith, k.size, c.loop-r.invariant.0), k.none, skip-others (start_of c).pre.known next k.held, next.to, next.of)
+    let next = next_of in
+    (omega (arith, k.size, c.loop-r.invariant.0), k.none, skip-others c.requires.known next k.held, next.to, next.of)
 
 pub shape_of-out : goal.shape_of-out
 shape_of-out c = c.loop-r.invariant.0

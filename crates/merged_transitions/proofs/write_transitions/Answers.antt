@@ -57,6 +57,6 @@ returns c =
     let a = c.args in
     let e : l.block ≡ a.k = omega (arith, c.loop-block-test.false, l.invariant.0) in
     record {
-      held = subst (λ (x : ℕ). Holds (before a.blocks.now (transitions_in a.s.now) x) l.out l.auto) e l.invariant.3;
+      held = subst (λ (x : ℕ). Holds (before a.blocks.now (transitions_in a.s.now) x) l.out l.kept) e l.invariant.3;
       size = l.invariant.1;
     }

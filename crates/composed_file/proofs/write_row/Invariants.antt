@@ -1,0 +1,17 @@
+-- `write_row` meets its contract. The invariant is `StateLoop`.
+use Prim.Native.Nat.{◌-◌}
+use native.Mathlib.Omega.{arith}
+use Rattle.transition.specs.Known.{automaton_in}
+use Rattle.transition.specs.KnownLaws.{few-states}
+use Rattle.composed_states.specs.ModelsLaws.{right-known}
+use Rattle.composed_states.specs.Records.{state_records}
+use Rattle.composed_file.specs.StateLoops.{StateLoop, states-start, states-ask, states-room, states-run, states-turn, states-end}
+use Rattle.composed_file.specs.RowsLaws.{row-parts}
+use Rattle.composed_file.proofs.write_row.Given as goal
+
+abbrev pub invariant-loop-e : goal.invariant-loop-e
+invariant-loop-e l =
+    StateLoop (automaton_in l.right) l.k.transitions (state_records l.left l.right l.from.state) l.at l.initial.out l.first l.e l.out l.next
+
+abbrev pub decreases-loop-e : goal.decreases-loop-e
+decreases-loop-e l = l.n - l.e

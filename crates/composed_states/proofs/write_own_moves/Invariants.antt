@@ -1,0 +1,15 @@
+-- `write_own_moves` meets its contract. The invariant is `RunLoop`.
+use Prim.Native.Nat.{◌-◌}
+use native.Mathlib.Omega.{arith}
+use Rattle.transition.specs.Known.{automaton_in}
+use Rattle.composed_states.specs.Own.{own_record_from}
+use Rattle.composed_states.specs.RunLoops.{RunLoop, run-start, run-turn, run_end}
+use Rattle.composed_states.specs.OwnLaws.{own-of-run, owns-ask}
+use Rattle.composed_states.proofs.write_own_moves.Given as goal
+
+abbrev pub invariant-loop-r : goal.invariant-loop-r
+invariant-loop-r l =
+    RunLoop (automaton_in l.right) l.run (own_record_from l.actions l.right l.s l.run.state) l.at l.initial.out l.r l.out l.next
+
+abbrev pub decreases-loop-r : goal.decreases-loop-r
+decreases-loop-r l = l.run.past - l.r

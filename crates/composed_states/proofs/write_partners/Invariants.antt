@@ -1,0 +1,16 @@
+-- `write_partners` meets its contract. The invariant is `RunLoop`.
+use Prim.Native.Nat.{◌-◌}
+use native.Mathlib.Omega.{arith}
+use Rattle.transition.specs.Known.{automaton_in}
+use Rattle.composed_states.specs.Records.{partner_record}
+use Rattle.composed_states.specs.RunLoops.{RunLoop, run-start, run-turn, run_end}
+use Rattle.composed_states.specs.RecordsLaws.{partners-of-run}
+use Rattle.composed_states.specs.MovesLaws.{partners-ask}
+use Rattle.composed_states.proofs.write_partners.Given as goal
+
+abbrev pub invariant-loop-partner : goal.invariant-loop-partner
+invariant-loop-partner l =
+    RunLoop (automaton_in l.right) l.run (partner_record l.left l.right l.q l.run.state) l.at l.initial.out l.partner l.out l.next
+
+abbrev pub decreases-loop-partner : goal.decreases-loop-partner
+decreases-loop-partner l = l.run.past - l.partner

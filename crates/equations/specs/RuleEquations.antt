@@ -198,15 +198,15 @@ module _ {rule : FileRule} {moves : ℕ → Bool} (layered : Layered rule moves)
   all-layers : (cost : ℕ → ℕ) → cost_of_layer cost A (k 0) + cost_of_layer cost A (k 1) + cost_of_layer cost A (k 2) ≡ over_k (cost_of_k cost A)
   unfolding k_entries
   all-layers cost =
-      let first = added ks _ _ (λ l r x. if_same l 0 (cost_of_k cost A 0 r x) 0 + if_same l 1 (cost_of_k cost A 1 r x) 0) (λ at g. refl) (k_count_at C at) (at + 8) 0 no_k in
-      let all = added ks _ _ (cost_of_k cost A) (λ at g. one-layer (byte_at C at) (cost_of_k cost A 0 (two_at C (at + 1)) (four_at C (at + 3))) g.layer) (k_count_at C at) (at + 8) 0 no_k in
+      let first = added ks (λ l r x. if_same l 0 (cost_of_k cost A 0 r x) 0) (λ l r x. if_same l 1 (cost_of_k cost A 1 r x) 0) (λ l r x. if_same l 0 (cost_of_k cost A 0 r x) 0 + if_same l 1 (cost_of_k cost A 1 r x) 0) (λ at g. refl) (k_count_at C at) (at + 8) 0 no_k in
+      let all = added ks (λ l r x. if_same l 0 (cost_of_k cost A 0 r x) 0 + if_same l 1 (cost_of_k cost A 1 r x) 0) (λ l r x. if_same l 2 (cost_of_k cost A 2 r x) 0) (cost_of_k cost A) (λ at g. one-layer (byte_at C at) (cost_of_k cost A 0 (two_at C (at + 1)) (four_at C (at + 3))) g.layer) (k_count_at C at) (at + 8) 0 no_k in
       ap₂ ◌+◌ (ap₂ ◌+◌ (cost-k cost 0) (cost-k cost 1) ∙ first) (cost-k cost 2) ∙ all
 
   leaving-first : (v : ℕ) → leaving A (k 0) v + leaving A (k 1) v ≡ over_k (before_right A v)
   unfolding before_right k_entries
   leaving-first v =
       ap₂ ◌+◌ (leaving-k 0 v) (leaving-k 1 v)
-      ∙ added ks _ _ (before_right A v)
+      ∙ added ks (λ l r x. if_same l 0 (takes v r x) 0) (λ l r x. if_same l 1 (takes v r x) 0) (before_right A v)
       (λ at g.
       let x = takes v (two_at C (at + 1)) (four_at C (at + 3)) in
       omega (arith, one-layer (byte_at C at) x g.layer, or-another (byte_at C at) 2 x))
@@ -216,7 +216,7 @@ module _ {rule : FileRule} {moves : ℕ → Bool} (layered : Layered rule moves)
   unfolding after_left k_entries
   arriving-last v =
       ap₂ ◌+◌ (arriving-k 1 v) (arriving-k 2 v)
-      ∙ added ks _ _ (after_left A v)
+      ∙ added ks (λ l r x. if_same l 1 (brings v r x) 0) (λ l r x. if_same l 2 (brings v r x) 0) (after_left A v)
       (λ at g.
       let x = brings v (two_at C (at + 1)) (four_at C (at + 3)) in
       omega (arith, one-layer (byte_at C at) x g.layer, or-another (byte_at C at) 0 x))
@@ -248,7 +248,7 @@ module _ {rule : FileRule} {moves : ℕ → Bool} (layered : Layered rule moves)
     other-layer : (layer : ℕ) → (0 ≡ layer → ⊥) → (g : ℕ → ℕ → ℕ) → over_k (λ l r x. if_same l layer (g r x) 0) ≡ 0
     unfolding k_entries
     other-layer layer n g =
-        nothing ks _ (λ at e. sym (not_same _ (λ o. n (sym (e.still m) ∙ o)) refl)) (k_count_at C at) (at + 8) 0 no_k
+        nothing ks (λ l r x. if_same {X = ℕ} l layer (g r x) 0) (λ at e. sym (not_same (g (two_at C (at + 1)) (four_at C (at + 3))) (λ o. n (sym (e.still m) ∙ o)) refl)) (k_count_at C at) (at + 8) 0 no_k
 
     move : AreSides (first_left A C q t at) (first_right A C q t at false) (internal_move A (flow_at C at) t)
     unfolding first_right internal_move flow_at if_true

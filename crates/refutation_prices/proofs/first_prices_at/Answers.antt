@@ -16,11 +16,10 @@ use Rattle.refutation_prices.specs.RulePrices.{weak-held, strong-held}
 use Rattle.refutation_prices.proofs.first_prices_at.Goals as goal
 
 -- a rule that is not the strong one
-weak : (kind : Kind) → OneOf (0 ∷ 1 ∷ []) (tag_of the_type kind) → is_strong kind ≡ false
-weak Plain one = refl
-weak Costs one = refl
-weak Strong (inl e) = absurd (omega (arith, e))
-weak Strong (inr e) = absurd (omega (arith, e))
+weak : (kind : Kind) → (kind ≡ Strong → ⊥) → is_strong kind ≡ false
+weak Plain other = refl
+weak Costs other = refl
+weak Strong other = absurd (other refl)
 
 pub same_price-requires : goal.same_price-requires
 same_price-requires c =
@@ -33,9 +32,9 @@ returns-in-Strong c =
 pub prices_at-requires : goal.prices_at-requires
 prices_at-requires c =
     let kind = c.args.kind in
-    (c.requires.0, omega (arith, c.requires.1, weak-first kind (weak kind c.in-Strong.keys2) c.args.n), c.requires.2)
+    (c.requires.0, omega (arith, c.requires.1, weak-first kind (weak kind c.in_default.not-Strong) c.args.n), c.requires.2)
 
 pub returns : goal.returns
 returns c =
     let kind = c.args.kind in
-    weak-held kind (weak kind c.in-Strong.keys2) _ _ c.prices_at.ensures
+    weak-held kind (weak kind c.in_default.not-Strong) _ _ c.prices_at.ensures

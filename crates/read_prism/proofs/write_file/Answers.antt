@@ -1,0 +1,19 @@
+-- `write_file` meets its contract: the length is known before the first byte is written.
+use mathlib.Core.Path.{refl, sym}
+use lib.Seq.{length-take-le}
+use native.Mathlib.Omega.{arith}
+use Rattle.read_prism.specs.PrismLaws.{zeros-taken, can_write, file-written, file-short}
+use borrow.Author.Rules.{rules}
+use Rattle.read_prism.proofs.write_file.Goals as goal
+
+pub slice_bounds-write_model-end : goal.slice_bounds-write_model-end
+slice_bounds-write_model-end c = sym (length-take-le _ _ (omega (arith, c.requires.states)))
+
+pub write_model-requires : goal.write_model-requires
+write_model-requires c = can_write c.requires (zeros-taken _ _ c.requires.states) (omega arith)
+
+pub returns-then-size-out : goal.returns-then-size-out
+returns-then-size-out c = file-written c.requires (zeros-taken _ _ c.requires.states) refl (omega arith) c.write_model.ensures
+
+pub returns-else-size-out : goal.returns-else-size-out
+returns-else-size-out c = file-short c.requires refl (omega arith)

@@ -29,12 +29,12 @@ refused_with-requires c = tt
 
 pub returns-then-not-k : goal.returns-then-not-k
 returns-then-not-k c =
-    let ks : ((let a = c.args in KsTaken a.kind a.s.now a.cert.now a.n a.q a.t a.place.at a.head a.target.now c.fields_of-challenger.result (c.take_ks-k.new.1.1.1.1.1.1.1.1.1.0) c.take_ks-k.result)) = record { count = c.args.count; places = c.args.places.now; remainders = c.args.remainders.now; can = c.requires; fields = c.fields_of-challenger.ensures; given = c.give-given.new.0; made = c.give-given.result; gave = c.give-given.ensures; took = c.take_ks-k.ensures } in
+    let ks : ((let a = c.args in KsTaken a.kind a.s.now a.cert.now a.n a.q a.t a.place.at a.head a.target.now c.fields_of-challenger.result (c.take_ks-k.new.remainders) c.take_ks-k.result)) = record { count = c.args.count; places = c.args.places.now; remainders = c.args.remainders.now; can = c.requires; fields = c.fields_of-challenger.ensures; given = c.give-given.new.remainders; made = c.give-given.result; gave = c.give-given.ensures; took = c.take_ks-k.ensures } in
     ks-stop ks c.refused_with.ensures (not-true _ c.if-not-k.true)
 
 pub overflow_sub-cert : goal.overflow_sub-cert
 overflow_sub-cert c =
-    let ks : ((let a = c.args in KsTaken a.kind a.s.now a.cert.now a.n a.q a.t a.place.at a.head a.target.now c.fields_of-challenger.result (c.take_ks-k.new.1.1.1.1.1.1.1.1.1.0) c.take_ks-k.result)) = record { count = c.args.count; places = c.args.places.now; remainders = c.args.remainders.now; can = c.requires; fields = c.fields_of-challenger.ensures; given = c.give-given.new.0; made = c.give-given.result; gave = c.give-given.ensures; took = c.take_ks-k.ensures } in
+    let ks : ((let a = c.args in KsTaken a.kind a.s.now a.cert.now a.n a.q a.t a.place.at a.head a.target.now c.fields_of-challenger.result (c.take_ks-k.new.remainders) c.take_ks-k.result)) = record { count = c.args.count; places = c.args.places.now; remainders = c.args.remainders.now; can = c.requires; fields = c.fields_of-challenger.ensures; given = c.give-given.new.remainders; made = c.give-given.result; gave = c.give-given.ensures; took = c.take_ks-k.ensures } in
     let good : (c.take_ks-k.result.good ≡ true) = not-false _ c.if-not-k.false in
     middle-inside ks good
 
@@ -43,20 +43,20 @@ refused_with-requires-then-cert-k-lt2 c = tt
 
 pub returns-then-cert-k-lt2 : goal.returns-then-cert-k-lt2
 returns-then-cert-k-lt2 c =
-    let ks : ((let a = c.args in KsTaken a.kind a.s.now a.cert.now a.n a.q a.t a.place.at a.head a.target.now c.fields_of-challenger.result (c.take_ks-k.new.1.1.1.1.1.1.1.1.1.0) c.take_ks-k.result)) = record { count = c.args.count; places = c.args.places.now; remainders = c.args.remainders.now; can = c.requires; fields = c.fields_of-challenger.ensures; given = c.give-given.new.0; made = c.give-given.result; gave = c.give-given.ensures; took = c.take_ks-k.ensures } in
+    let ks : ((let a = c.args in KsTaken a.kind a.s.now a.cert.now a.n a.q a.t a.place.at a.head a.target.now c.fields_of-challenger.result (c.take_ks-k.new.remainders) c.take_ks-k.result)) = record { count = c.args.count; places = c.args.places.now; remainders = c.args.remainders.now; can = c.requires; fields = c.fields_of-challenger.ensures; given = c.give-given.new.remainders; made = c.give-given.result; gave = c.give-given.ensures; took = c.take_ks-k.ensures } in
     let good : (c.take_ks-k.result.good ≡ true) = not-false _ c.if-not-k.false in
     count_cut ks good c.refused_with-then-cert-k-lt2.ensures (omega (arith, c.if-cert-k-lt2.true))
 
 pub pair-entries-requires : goal.pair-entries-requires
 pair-entries-requires c =
-    let ks : ((let a = c.args in KsTaken a.kind a.s.now a.cert.now a.n a.q a.t a.place.at a.head a.target.now c.fields_of-challenger.result (c.take_ks-k.new.1.1.1.1.1.1.1.1.1.0) c.take_ks-k.result)) = record { count = c.args.count; places = c.args.places.now; remainders = c.args.remainders.now; can = c.requires; fields = c.fields_of-challenger.ensures; given = c.give-given.new.0; made = c.give-given.result; gave = c.give-given.ensures; took = c.take_ks-k.ensures } in
+    let ks : ((let a = c.args in KsTaken a.kind a.s.now a.cert.now a.n a.q a.t a.place.at a.head a.target.now c.fields_of-challenger.result (c.take_ks-k.new.remainders) c.take_ks-k.result)) = record { count = c.args.count; places = c.args.places.now; remainders = c.args.remainders.now; can = c.requires; fields = c.fields_of-challenger.ensures; given = c.give-given.new.remainders; made = c.give-given.result; gave = c.give-given.ensures; took = c.take_ks-k.ensures } in
     let good : (c.take_ks-k.result.good ≡ true) = not-false _ c.if-not-k.false in
     let there : (c.take_ks-k.result.next.at + 2 ≤ length c.args.cert.now) = omega (arith, c.if-cert-k-lt2.false, middle-inside ks good) in
     omega (arith, there)
 
 pub overflow_sub-cert-2 : goal.overflow_sub-cert-2
 overflow_sub-cert-2 c =
-    let ks : ((let a = c.args in KsTaken a.kind a.s.now a.cert.now a.n a.q a.t a.place.at a.head a.target.now c.fields_of-challenger.result (c.take_ks-k.new.1.1.1.1.1.1.1.1.1.0) c.take_ks-k.result)) = record { count = c.args.count; places = c.args.places.now; remainders = c.args.remainders.now; can = c.requires; fields = c.fields_of-challenger.ensures; given = c.give-given.new.0; made = c.give-given.result; gave = c.give-given.ensures; took = c.take_ks-k.ensures } in
+    let ks : ((let a = c.args in KsTaken a.kind a.s.now a.cert.now a.n a.q a.t a.place.at a.head a.target.now c.fields_of-challenger.result (c.take_ks-k.new.remainders) c.take_ks-k.result)) = record { count = c.args.count; places = c.args.places.now; remainders = c.args.remainders.now; can = c.requires; fields = c.fields_of-challenger.ensures; given = c.give-given.new.remainders; made = c.give-given.result; gave = c.give-given.ensures; took = c.take_ks-k.ensures } in
     let good : (c.take_ks-k.result.good ≡ true) = not-false _ c.if-not-k.false in
     let there : (c.take_ks-k.result.next.at + 2 ≤ length c.args.cert.now) = omega (arith, c.if-cert-k-lt2.false, middle-inside ks good) in
     omega (arith, c.pair-entries.ensures.next, there)
@@ -69,10 +69,10 @@ refused_with-requires-then-cert-entries c = tt
 
 pub returns-then-cert-entries : goal.returns-then-cert-entries
 returns-then-cert-entries c =
-    let ks : ((let a = c.args in KsTaken a.kind a.s.now a.cert.now a.n a.q a.t a.place.at a.head a.target.now c.fields_of-challenger.result (c.take_ks-k.new.1.1.1.1.1.1.1.1.1.0) c.take_ks-k.result)) = record { count = c.args.count; places = c.args.places.now; remainders = c.args.remainders.now; can = c.requires; fields = c.fields_of-challenger.ensures; given = c.give-given.new.0; made = c.give-given.result; gave = c.give-given.ensures; took = c.take_ks-k.ensures } in
+    let ks : ((let a = c.args in KsTaken a.kind a.s.now a.cert.now a.n a.q a.t a.place.at a.head a.target.now c.fields_of-challenger.result (c.take_ks-k.new.remainders) c.take_ks-k.result)) = record { count = c.args.count; places = c.args.places.now; remainders = c.args.remainders.now; can = c.requires; fields = c.fields_of-challenger.ensures; given = c.give-given.new.remainders; made = c.give-given.result; gave = c.give-given.ensures; took = c.take_ks-k.ensures } in
     let good : (c.take_ks-k.result.good ≡ true) = not-false _ c.if-not-k.false in
     let there : (c.take_ks-k.result.next.at + 2 ≤ length c.args.cert.now) = omega (arith, c.if-cert-k-lt2.false, middle-inside ks good) in
-    let count : ((let a = c.args in CountRead a.kind a.s.now a.cert.now a.n a.q a.t a.place.at a.head a.target.now c.fields_of-challenger.result (c.take_ks-k.new.1.1.1.1.1.1.1.1.1.0) c.take_ks-k.result c.pair-entries.result)) = record { ks = ks; good = good; read = c.pair-entries.ensures; there = there } in
+    let count : ((let a = c.args in CountRead a.kind a.s.now a.cert.now a.n a.q a.t a.place.at a.head a.target.now c.fields_of-challenger.result (c.take_ks-k.new.remainders) c.take_ks-k.result c.pair-entries.result)) = record { ks = ks; good = good; read = c.pair-entries.ensures; there = there } in
     ws-cut count c.refused_with-then-cert-entries.ensures (omega (arith, c.if-cert-entries.true))
 
 pub minus-requires : goal.minus-requires
@@ -87,11 +87,11 @@ w_departure-requires c = tt
 
 pub take_ws-w-requires : goal.take_ws-w-requires
 take_ws-w-requires c =
-    let ks : ((let a = c.args in KsTaken a.kind a.s.now a.cert.now a.n a.q a.t a.place.at a.head a.target.now c.fields_of-challenger.result (c.take_ks-k.new.1.1.1.1.1.1.1.1.1.0) c.take_ks-k.result)) = record { count = c.args.count; places = c.args.places.now; remainders = c.args.remainders.now; can = c.requires; fields = c.fields_of-challenger.ensures; given = c.give-given.new.0; made = c.give-given.result; gave = c.give-given.ensures; took = c.take_ks-k.ensures } in
+    let ks : ((let a = c.args in KsTaken a.kind a.s.now a.cert.now a.n a.q a.t a.place.at a.head a.target.now c.fields_of-challenger.result (c.take_ks-k.new.remainders) c.take_ks-k.result)) = record { count = c.args.count; places = c.args.places.now; remainders = c.args.remainders.now; can = c.requires; fields = c.fields_of-challenger.ensures; given = c.give-given.new.remainders; made = c.give-given.result; gave = c.give-given.ensures; took = c.take_ks-k.ensures } in
     let good : (c.take_ks-k.result.good ≡ true) = not-false _ c.if-not-k.false in
     let there : (c.take_ks-k.result.next.at + 2 ≤ length c.args.cert.now) = omega (arith, c.if-cert-k-lt2.false, middle-inside ks good) in
-    let count : ((let a = c.args in CountRead a.kind a.s.now a.cert.now a.n a.q a.t a.place.at a.head a.target.now c.fields_of-challenger.result (c.take_ks-k.new.1.1.1.1.1.1.1.1.1.0) c.take_ks-k.result c.pair-entries.result)) = record { ks = ks; good = good; read = c.pair-entries.ensures; there = there } in
-    let asks : ((let a = c.args in TargetsAsk a.kind a.s.now a.cert.now a.n a.q a.t a.place.at a.head a.target.now c.fields_of-challenger.result (c.take_ks-k.new.1.1.1.1.1.1.1.1.1.0) c.take_ks-k.result c.pair-entries.result c.w_departure.result c.arrive-asked.new.1.1.1.1.1.0 c.arrive-asked.result)) = record { count = count; whole = omega (arith, c.if-cert-entries.false, c.pair-entries.ensures.next, there); first-is = c.w_departure.ensures; ask = rw (minus-back c.minus.ensures c.requires.read.small) at c.arrive-asked.ensures } in
+    let count : ((let a = c.args in CountRead a.kind a.s.now a.cert.now a.n a.q a.t a.place.at a.head a.target.now c.fields_of-challenger.result (c.take_ks-k.new.remainders) c.take_ks-k.result c.pair-entries.result)) = record { ks = ks; good = good; read = c.pair-entries.ensures; there = there } in
+    let asks : ((let a = c.args in TargetsAsk a.kind a.s.now a.cert.now a.n a.q a.t a.place.at a.head a.target.now c.fields_of-challenger.result (c.take_ks-k.new.remainders) c.take_ks-k.result c.pair-entries.result c.w_departure.result c.arrive-asked.new.remainders c.arrive-asked.result)) = record { count = count; whole = omega (arith, c.if-cert-entries.false, c.pair-entries.ensures.next, there); first-is = c.w_departure.ensures; ask = rw (minus-back c.minus.ensures c.requires.read.small) at c.arrive-asked.ensures } in
     can-take-ws asks
 
 pub refused_with-requires-then-not-w : goal.refused_with-requires-then-not-w
@@ -99,11 +99,11 @@ refused_with-requires-then-not-w c = tt
 
 pub returns-then-not-w : goal.returns-then-not-w
 returns-then-not-w c =
-    let ks : ((let a = c.args in KsTaken a.kind a.s.now a.cert.now a.n a.q a.t a.place.at a.head a.target.now c.fields_of-challenger.result (c.take_ks-k.new.1.1.1.1.1.1.1.1.1.0) c.take_ks-k.result)) = record { count = c.args.count; places = c.args.places.now; remainders = c.args.remainders.now; can = c.requires; fields = c.fields_of-challenger.ensures; given = c.give-given.new.0; made = c.give-given.result; gave = c.give-given.ensures; took = c.take_ks-k.ensures } in
+    let ks : ((let a = c.args in KsTaken a.kind a.s.now a.cert.now a.n a.q a.t a.place.at a.head a.target.now c.fields_of-challenger.result (c.take_ks-k.new.remainders) c.take_ks-k.result)) = record { count = c.args.count; places = c.args.places.now; remainders = c.args.remainders.now; can = c.requires; fields = c.fields_of-challenger.ensures; given = c.give-given.new.remainders; made = c.give-given.result; gave = c.give-given.ensures; took = c.take_ks-k.ensures } in
     let good : (c.take_ks-k.result.good ≡ true) = not-false _ c.if-not-k.false in
     let there : (c.take_ks-k.result.next.at + 2 ≤ length c.args.cert.now) = omega (arith, c.if-cert-k-lt2.false, middle-inside ks good) in
-    let count : ((let a = c.args in CountRead a.kind a.s.now a.cert.now a.n a.q a.t a.place.at a.head a.target.now c.fields_of-challenger.result (c.take_ks-k.new.1.1.1.1.1.1.1.1.1.0) c.take_ks-k.result c.pair-entries.result)) = record { ks = ks; good = good; read = c.pair-entries.ensures; there = there } in
-    let asks : ((let a = c.args in TargetsAsk a.kind a.s.now a.cert.now a.n a.q a.t a.place.at a.head a.target.now c.fields_of-challenger.result (c.take_ks-k.new.1.1.1.1.1.1.1.1.1.0) c.take_ks-k.result c.pair-entries.result c.w_departure.result c.arrive-asked.new.1.1.1.1.1.0 c.arrive-asked.result)) = record { count = count; whole = omega (arith, c.if-cert-entries.false, c.pair-entries.ensures.next, there); first-is = c.w_departure.ensures; ask = rw (minus-back c.minus.ensures c.requires.read.small) at c.arrive-asked.ensures } in
+    let count : ((let a = c.args in CountRead a.kind a.s.now a.cert.now a.n a.q a.t a.place.at a.head a.target.now c.fields_of-challenger.result (c.take_ks-k.new.remainders) c.take_ks-k.result c.pair-entries.result)) = record { ks = ks; good = good; read = c.pair-entries.ensures; there = there } in
+    let asks : ((let a = c.args in TargetsAsk a.kind a.s.now a.cert.now a.n a.q a.t a.place.at a.head a.target.now c.fields_of-challenger.result (c.take_ks-k.new.remainders) c.take_ks-k.result c.pair-entries.result c.w_departure.result c.arrive-asked.new.remainders c.arrive-asked.result)) = record { count = count; whole = omega (arith, c.if-cert-entries.false, c.pair-entries.ensures.next, there); first-is = c.w_departure.ensures; ask = rw (minus-back c.minus.ensures c.requires.read.small) at c.arrive-asked.ensures } in
     ws-stop asks c.take_ws-w.ensures c.refused_with-then-not-w.ensures (not-true _ c.if-not-w.true)
 
 pub cost_of-requires : goal.cost_of-requires
@@ -120,9 +120,9 @@ at-requires c = tt
 
 pub returns : goal.returns
 returns c =
-    let ks : ((let a = c.args in KsTaken a.kind a.s.now a.cert.now a.n a.q a.t a.place.at a.head a.target.now c.fields_of-challenger.result (c.take_ks-k.new.1.1.1.1.1.1.1.1.1.0) c.take_ks-k.result)) = record { count = c.args.count; places = c.args.places.now; remainders = c.args.remainders.now; can = c.requires; fields = c.fields_of-challenger.ensures; given = c.give-given.new.0; made = c.give-given.result; gave = c.give-given.ensures; took = c.take_ks-k.ensures } in
+    let ks : ((let a = c.args in KsTaken a.kind a.s.now a.cert.now a.n a.q a.t a.place.at a.head a.target.now c.fields_of-challenger.result (c.take_ks-k.new.remainders) c.take_ks-k.result)) = record { count = c.args.count; places = c.args.places.now; remainders = c.args.remainders.now; can = c.requires; fields = c.fields_of-challenger.ensures; given = c.give-given.new.remainders; made = c.give-given.result; gave = c.give-given.ensures; took = c.take_ks-k.ensures } in
     let good : (c.take_ks-k.result.good ≡ true) = not-false _ c.if-not-k.false in
     let there : (c.take_ks-k.result.next.at + 2 ≤ length c.args.cert.now) = omega (arith, c.if-cert-k-lt2.false, middle-inside ks good) in
-    let count : ((let a = c.args in CountRead a.kind a.s.now a.cert.now a.n a.q a.t a.place.at a.head a.target.now c.fields_of-challenger.result (c.take_ks-k.new.1.1.1.1.1.1.1.1.1.0) c.take_ks-k.result c.pair-entries.result)) = record { ks = ks; good = good; read = c.pair-entries.ensures; there = there } in
-    let asks : ((let a = c.args in TargetsAsk a.kind a.s.now a.cert.now a.n a.q a.t a.place.at a.head a.target.now c.fields_of-challenger.result (c.take_ks-k.new.1.1.1.1.1.1.1.1.1.0) c.take_ks-k.result c.pair-entries.result c.w_departure.result c.arrive-asked.new.1.1.1.1.1.0 c.arrive-asked.result)) = record { count = count; whole = omega (arith, c.if-cert-entries.false, c.pair-entries.ensures.next, there); first-is = c.w_departure.ensures; ask = rw (minus-back c.minus.ensures c.requires.read.small) at c.arrive-asked.ensures } in
+    let count : ((let a = c.args in CountRead a.kind a.s.now a.cert.now a.n a.q a.t a.place.at a.head a.target.now c.fields_of-challenger.result (c.take_ks-k.new.remainders) c.take_ks-k.result c.pair-entries.result)) = record { ks = ks; good = good; read = c.pair-entries.ensures; there = there } in
+    let asks : ((let a = c.args in TargetsAsk a.kind a.s.now a.cert.now a.n a.q a.t a.place.at a.head a.target.now c.fields_of-challenger.result (c.take_ks-k.new.remainders) c.take_ks-k.result c.pair-entries.result c.w_departure.result c.arrive-asked.new.remainders c.arrive-asked.result)) = record { count = count; whole = omega (arith, c.if-cert-entries.false, c.pair-entries.ensures.next, there); first-is = c.w_departure.ensures; ask = rw (minus-back c.minus.ensures c.requires.read.small) at c.arrive-asked.ensures } in
     judged asks c.take_ws-w.ensures (not-false _ c.if-not-w.false) c.cost_of.ensures c.verdict-judged.result c.verdict-judged.ensures c.at.ensures refl

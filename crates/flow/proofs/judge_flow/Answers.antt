@@ -10,9 +10,6 @@ use Rattle.flow.specs.FlowJudged.{flow_opens}
 use Rattle.flow.specs.FlowLaws.{head-whole, head-ends, d-missing, ks-missing, not_opened, refused-with}
 use Rattle.flow.proofs.judge_flow.Goals as goal
 
-some : (c : tie.Else2) → four_at (start_of (head_of c).before).args.cert.now ((start_of (head_of c).before).args.place.at + 2) ≡ 0 → ⊥
-some c z = omega (arith, z, (head_of c).head_at.ensures.d, c.if2.false)
-
 pub open_certificate-opened-requires : goal.open_certificate-opened-requires
 open_certificate-opened-requires c =
     c.requires.3
@@ -52,20 +49,22 @@ refused_with-requires-then-cert-head c = tt
 pub returns-then-cert-head : goal.returns-then-cert-head
 returns-then-cert-head c =
     let opens : (Passes (flow_opens c.args.cert.now c.args.place.at)) = let opened = c.open_certificate-opened in none_is opened.result opened.ensures c.if-opened-ne0.false in
+    let some : (four_at c.args.cert.now (c.args.place.at + 2) ≡ 0 → ⊥) = λ z. omega (arith, z, c.head_at-head.ensures.d, c.if-head-eq0.false) in
     refused-with 11 c.refused_with-then-cert-head.ensures (omega arith)
-    (λ R h. ks-missing _ _ _ R _ _ _ opens (some c) (omega (arith, c.if-cert-head.true, head-ends c.head_at-head.ensures)))
+    (λ R h. ks-missing _ _ _ R _ _ _ opens some (omega (arith, c.if-cert-head.true, head-ends c.head_at-head.ensures)))
 
 pub judge_entries-requires : goal.judge_entries-requires
 judge_entries-requires c =
     let opens : (Passes (flow_opens c.args.cert.now c.args.place.at)) = let opened = c.open_certificate-opened in none_is opened.result opened.ensures c.if-opened-ne0.false in
     let whole : (c.args.place.at + 8 ≤ length c.args.cert.now) = let opened = c.open_certificate-opened in head-whole _ _ opened.result opened.ensures c.if-opened-ne0.false in
+    let some : (four_at c.args.cert.now (c.args.place.at + 2) ≡ 0 → ⊥) = λ z. omega (arith, z, c.head_at-head.ensures.d, c.if-head-eq0.false) in
     let head = c.head_at-head.ensures in
     record {
       known = c.requires.0;
       rule = c.requires.6;
       challenger = c.requires.1;
       defender = c.requires.2;
-      stands = record { opens = opens; some = some c; whole = omega (arith, c.if-cert-head.false, head-ends head, head.first, whole) };
+      stands = record { opens = opens; some = some; whole = omega (arith, c.if-cert-head.false, head-ends head, head.first, whole) };
       read = head;
       zeros = c.requires.4;
       target_zeros = c.requires.5;

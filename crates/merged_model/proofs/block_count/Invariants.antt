@@ -1,0 +1,15 @@
+-- `block_count` meets its contract. The invariant: the count of the blocks passed.
+use native.Mathlib.Omega.{arith}
+use Prim.Native.Nat.{ℕ, ◌≤◌}
+use mathlib.Core.Path.{◌≡◌, sym, ◌∙◌, ap}
+use lib.ListN.{length, drop}
+use Rattle.rules.specs.definitions.BlockCount.{block_count}
+use Rattle.merged_model.specs.LabelsLaws.{count-end, count-with-turn}
+use borrow.Author.Rules.{rules}
+use Rattle.merged_model.proofs.block_count.Given as goal
+
+abbrev pub invariant-loop-left : goal.invariant-loop-left
+invariant-loop-left l = (l.left ≤ length l.blocks) × (l.count ≡ block_count (drop l.left l.blocks))
+
+abbrev pub decreases-loop-left : goal.decreases-loop-left
+decreases-loop-left l = l.left

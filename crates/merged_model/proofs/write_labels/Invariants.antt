@@ -1,0 +1,17 @@
+-- `write_labels` meets its contract. The invariant: the labels of the blocks before b are appended.
+use native.Mathlib.Omega.{arith}
+use Prim.Native.Nat.{ℕ, ◌+◌, ◌-◌, ◌≤◌}
+use mathlib.Core.Path.{◌≡◌, sym, ◌∙◌, ap, subst}
+use Rattle.quotient.specs.definitions.Quotient.{block_labels}
+use Rattle.writer.specs.Appends.{Appends}
+use Rattle.writer.specs.AppendsLaws.{append-none}
+use Rattle.merged_model.specs.LabelsLaws.{labels_append}
+use borrow.Author.Rules.{rules}
+use Rattle.merged_model.proofs.write_labels.Given as goal
+
+abbrev pub invariant-loop-b : goal.invariant-loop-b
+invariant-loop-b l =
+    (l.b ≤ l.k) × (l.next ≡ l.at + l.b) × Appends (block_labels l.blocks l.labels l.b 0) l.at l.initial.out l.out l.next
+
+abbrev pub decreases-loop-b : goal.decreases-loop-b
+decreases-loop-b l = l.k - l.b

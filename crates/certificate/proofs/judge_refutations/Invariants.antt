@@ -1,0 +1,15 @@
+-- `judge_refutations` meets its contract. Before each refutation the rows hold the pairs left (`Refuting`).
+use native.Mathlib.Omega.{arith}
+use mathlib.Core.Path.{refl}
+use Rattle.rule_kind.specs.Kinds.{rule_of}
+use Rattle.transition.specs.KnownLaws.{few-states}
+use Rattle.refutation_prices.specs.PricesJudged.{Tables}
+use Rattle.certificate.specs.Refuting.{Refuting, refuting-from, refuting-stops, refuting-passes, refutations-stop, refutations-pass}
+use Rattle.certificate.proofs.judge_refutations.Given as goal
+
+abbrev pub invariant-loop-left : goal.invariant-loop-left
+invariant-loop-left l =
+    Refuting (rule_of l.kind l.s) l.s l.cert l.n l.rows l.left l.place.at × Tables l.x l.y l.g
+
+abbrev pub decreases-loop-left : goal.decreases-loop-left
+decreases-loop-left l = l.left

@@ -19,7 +19,7 @@ installed = $(DESTDIR)$(PREFIX)
 all: $(library) $(tool)
 
 target/staticlib/libzolkirta.a:
-	rt check zolkirta && rt staticlib zolkirta
+	hosts/build-library
 
 $(tool): $(sources) $(library)
 	cargo build --release --offline --bin zolkirta --manifest-path $(crate)/Cargo.toml --target-dir $(crate)/target

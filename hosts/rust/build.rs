@@ -1,5 +1,5 @@
 //! Finds the static library, or builds it: ZOLKIRTA_LIB_DIR if it is set, else target/staticlib of the repository, written there by
-//! `rt staticlib zolkirta` where it is missing.
+//! `hosts/build-library` where it is missing.
 use std::path::{Path, PathBuf};
 use std::process::{exit, Command};
 use std::time::SystemTime;
@@ -28,31 +28,42 @@ fn repository_folder() -> PathBuf {
     let folder = root.join("target/staticlib");
     if !folder.join(LIBRARY).is_file() {
         // The library is proved before it is written: this takes minutes.
-        match Command::new("rt").args(["staticlib", "zolkirta"]).current_dir(&root).status() {
-            Ok(status) if status.success() => {}
-            Ok(status) => fail(&format!("`rt staticlib zolkirta` failed in {}: {status}", root.display())),
-            Err(error) => fail(&format!(
-                "there is no {LIBRARY} in {}, and `rt`, which builds it, cannot be run: {error}. Install the Rattle toolchain, or set \
-                 ZOLKIRTA_LIB_DIR to the folder of a {LIBRARY}",
+        if !has_rt() {
+            fail(&format!(
+                "there is no {LIBRARY} in {}, and `rt`, which builds it, is not here. Install the Rattle toolchain, or set ZOLKIRTA_LIB_DIR to \
+                 the folder of a {LIBRARY}",
                 folder.display()
-            )),
+            ));
+        }
+        match Command::new(root.join("hosts/build-library")).status() {
+            Ok(status) if status.success() => {}
+            Ok(status) => fail(&format!("hosts/build-library failed in {}: {status}", root.display())),
+            Err(error) => fail(&format!("hosts/build-library cannot be run in {}: {error}", root.display())),
         }
     } else if let Some((source, _)) = newest_source(&root).filter(|(_, time)| *time > modified(&folder.join(LIBRARY))) {
-        println!("cargo:warning={LIBRARY} is older than {}: run `rt staticlib zolkirta`", source.display());
+        println!("cargo:warning={LIBRARY} is older than {}: run hosts/build-library", source.display());
     }
     folder
 }
 
 /// The source of the library that was changed last, where `rt` is there to build it anew. Asks cargo to look again when one changes.
 fn newest_source(root: &Path) -> Option<(PathBuf, SystemTime)> {
-    let paths = std::env::var_os("PATH")?;
-    std::env::split_paths(&paths).find(|folder| folder.join("rt").is_file())?;
+    if !has_rt() {
+        return None;
+    }
     let sources = library_crates(root).into_iter().flat_map(|name| ["src", "specs"].map(|part| root.join("crates").join(&name).join(part)));
     let sources = sources.filter(|folder| folder.is_dir()).flat_map(|folder| {
         println!("cargo:rerun-if-changed={}", folder.display());
         files_below(&folder)
     });
     sources.map(|source| (modified(&source), source)).max().map(|(time, source)| (source, time))
+}
+
+/// Whether `rt` is among the commands.
+fn has_rt() -> bool {
+    let paths = std::env::var_os("PATH").unwrap_or_default();
+    let found = std::env::split_paths(&paths).any(|folder| folder.join("rt").is_file());
+    found
 }
 
 fn files_below(folder: &Path) -> Vec<PathBuf> {
@@ -65,8 +76,9 @@ fn library_crates(root: &Path) -> Vec<String> {
     println!("cargo:rerun-if-changed={}", root.join("crates.txt").display());
     let text = std::fs::read_to_string(root.join("crates.txt")).unwrap_or_default();
     let mut names = vec!["zolkirta".to_string()];
-    for (name, needs) in text.lines().rev().filter_map(|line| line.split_once(':')) {
-        if names.iter().any(|known| known == name) {
+    for (head, needs) in text.lines().rev().filter_map(|line| line.split_once(':')) {
+        // A static library has that word behind its name.
+        if names.iter().any(|known| head.split_whitespace().next() == Some(known)) {
             names.extend(needs.split_whitespace().map(String::from));
         }
     }

@@ -5,7 +5,6 @@ use Rattle.rules.specs.definitions.Bytes.{byte_at}
 use Rattle.rules.specs.definitions.SoundModel.{Bytes}
 use Rattle.judgement.specs.VerdictLaws.{found-accepted, found-refused}
 use Rattle.alike.specs.AlikeLaws.{pair-refused, pair-compared}
-use borrow.Author.Rules.{rules}
 use Rattle.alike.proofs.alike_answer.Goals as goal
 
 pub returns-then-head-ne0 : goal.returns-then-head-ne0

@@ -1,10 +1,8 @@
 -- `compare` meets its contract: 27, or yes or no by the blocks.
-use native.Mathlib.Omega.{arith}
 use mathlib.Core.Path.{refl, sym, ◌∙◌}
 use Rattle.answer.specs.AnsweredLaws.{without-as}
 use Rattle.alike.specs.Alike.{named}
 use Rattle.alike.specs.AlikeLaws.{states-inside}
-use borrow.Author.Rules.{rules}
 use Rattle.alike.proofs.compare.Goals as goal
 
 pub returns-then-parts-ne0 : goal.returns-then-parts-ne0

@@ -1,7 +1,6 @@
 -- `same_block` meets its contract.
 use mathlib.Core.Path.{refl}
 use Rattle.bisimulation.proofs.argument.ChoiceLaws.{same, not_same}
-use borrow.Author.Rules.{rules}
 use Rattle.alike.proofs.same_block.Goals as goal
 
 pub returns-then-blocks-v : goal.returns-then-blocks-v

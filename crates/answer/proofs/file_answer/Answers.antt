@@ -1,7 +1,6 @@
 -- `file_answer` meets its contract: one answer without room, one with it.
 use native.Mathlib.Omega.{arith}
 use Rattle.answer.specs.AnsweredLaws.{without-as}
-use borrow.Author.Rules.{rules}
 use Rattle.answer.proofs.file_answer.Goals as goal
 
 pub returns-then-room-size : goal.returns-then-room-size

@@ -1,6 +1,5 @@
 -- `refusal_in` meets its contract.
 use Rattle.rules.specs.definitions.Answers.{refusal_in}
-use native.Mathlib.Omega.{arith}
 use borrow.Author.Rules.{rules}
 use Rattle.answer.proofs.refusal_in.Goals as goal
 

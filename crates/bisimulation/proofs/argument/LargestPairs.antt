@@ -1,5 +1,5 @@
 -- The largest relation is the largest set of pairs too, where it is one, for any step rule.
-use Rattle.std.specs.Prelude.{ℕ, ◌<◌, ◌≡◌, ◌↔◌, true, ltb, eqb}
+use Rattle.std.specs.Prelude.{ℕ, ◌<◌, ◌≡◌, ◌↔◌, ltb, eqb}
 use Rattle.std.proofs.Common.{lt-ltb, ltb-true, eq-eqb, eqb-true}
 use Rattle.bisimulation.specs.definitions.Choice.{both}
 use Rattle.bisimulation.proofs.argument.ChoiceLaws.{both_true, true-both}

@@ -1,5 +1,5 @@
 -- Document 02, K11: the pieces of a composition and of hiding, computed on two small automata. No theorem about relations pins a label or an order.
-use Rattle.std.specs.Prelude.{ℕ, ◌<◌, ◌≡◌, refl, eqb}
+use Rattle.std.specs.Prelude.{ℕ, ◌≡◌, refl, eqb}
 use Rattle.std.proofs.Common.{arith}
 use Rattle.bisimulation.specs.definitions.Choice.{if_less, if_same, if_true}
 use Rattle.bisimulation.specs.definitions.Automaton.{Automaton}

@@ -1,14 +1,12 @@
 -- `blocks_fault` meets its contract: each return is one way out of `blocks_fault`.
 use native.Mathlib.Omega.{arith}
 use Prim.Native.Nat.{◌+◌, ◌-◌}
-use mathlib.Core.Path.{◌≡◌, ◌∙◌}
+use mathlib.Core.Path.{◌≡◌}
 use lib.ListN.{drop, length-drop}
 use lib.Seq.{length-take-le}
 use Rattle.bisimulation.proofs.argument.ChoiceLaws.{is_true, is_false}
 use Rattle.fault.specs.FaultsLaws.{none_is}
 use Rattle.blocks.specs.BlocksLaws.{small-part, not_opened, whole, not-numbered, compared}
-use borrow.Author.Rules.{rules}
-use borrow.Author.Tests.{not-true, not-false}
 use Rattle.blocks.proofs.blocks_fault.Goals as goal
 
 pub returns-then-opened-ne0 : goal.returns-then-opened-ne0

@@ -7,7 +7,6 @@ use Rattle.rules.specs.definitions.Certificate.{numbered_fault}
 use Rattle.bisimulation.specs.definitions.Choice.{if_same}
 use Rattle.bisimulation.proofs.argument.ChoiceLaws.{via, less, not_less, either_same}
 use Rattle.blocks.specs.BlocksLaws.{numbered-turn, numbered-end}
-use borrow.Author.Rules.{rules}
 use Rattle.blocks.proofs.numbered_fault.Goals as goal
 
 pub loop-left-init : goal.loop-left-init

@@ -2,7 +2,6 @@
 use native.Mathlib.Omega.{arith}
 use mathlib.Core.Path.{refl}
 use Rattle.bisimulation.proofs.argument.ChoiceLaws.{same, not_same}
-use borrow.Author.Rules.{rules}
 use Rattle.blocks.proofs.seen_after.Goals as goal
 
 pub returns-then-block-seen : goal.returns-then-block-seen

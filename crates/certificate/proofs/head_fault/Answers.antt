@@ -4,7 +4,6 @@ use mathlib.Core.List.{[]}
 use Rattle.rules.specs.definitions.Certificate.{refutation_count}
 use Rattle.field.specs.Taken.{taken_at}
 use Rattle.certificate.specs.HeadLaws.{not_opened, fixed-whole, too_many, stands}
-use borrow.Author.Rules.{rules}
 use Rattle.certificate.proofs.head_fault.Goals as goal
 
 pub returns-then-opened-ne0 : goal.returns-then-opened-ne0

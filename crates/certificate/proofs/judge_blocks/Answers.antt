@@ -5,7 +5,6 @@ use mathlib.Core.Path.{◌≡◌, subst}
 use mathlib.Core.List.{List}
 use Rattle.rule_kind.specs.declared.Kind.{Kind}
 use Rattle.rule_kind.specs.Kinds.{rule_of, KindStands}
-use borrow.Author.Rules.{rules}
 use Rattle.transition.specs.KnownLaws.{few-states}
 use Rattle.certificate.specs.Refuting.{blocks-stops, blocks-agree, blocks-passes}
 use Rattle.certificate.proofs.judge_blocks.Goals as goal

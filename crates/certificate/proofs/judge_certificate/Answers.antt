@@ -10,7 +10,6 @@ use Rattle.field.specs.Taken.{taken_at}
 use Rattle.transition.specs.KnownLaws.{few-states}
 use Rattle.certificate.specs.Labels.{labels-small, labels-hold}
 use Rattle.certificate.specs.Refuting.{head-stops, head-whole, refuting-start, refuting-ends}
-use borrow.Author.Rules.{rules}
 use Rattle.certificate.proofs.judge_certificate.Goals as goal
 
 pub head_fault-head-requires : goal.head_fault-head-requires

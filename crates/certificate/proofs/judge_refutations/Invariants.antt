@@ -1,10 +1,7 @@
 -- `judge_refutations` meets its contract. Before each refutation the rows hold the pairs left (`Refuting`).
-use native.Mathlib.Omega.{arith}
-use mathlib.Core.Path.{refl}
 use Rattle.rule_kind.specs.Kinds.{rule_of}
-use Rattle.transition.specs.KnownLaws.{few-states}
 use Rattle.refutation_prices.specs.PricesJudged.{Tables}
-use Rattle.certificate.specs.Refuting.{Refuting, refuting-from, refuting-stops, refuting-passes, refutations-stop, refutations-pass}
+use Rattle.certificate.specs.Refuting.{Refuting}
 use Rattle.certificate.proofs.judge_refutations.Given as goal
 
 abbrev pub invariant-loop-left : goal.invariant-loop-left

@@ -1,11 +1,9 @@
 -- `agrees` meets its contract. The invariant: each of the first v rows has the bits of that of its state's block.
-use Prim.Native.Nat.{ℕ, ◌≤◌, ◌<◌, ◌-◌}
+use Prim.Native.Nat.{◌-◌}
 use mathlib.Core.Path.{◌≡◌}
 use native.Mathlib.Omega.{arith}
 use borrow.Author.Count.{below_none}
-use borrow.Author.Tests.{not-true, not-false}
-use borrow.Author.Rules.{rules}
-use Rattle.classes.specs.ClassesLaws.{Alike, same_more, agrees-all, agrees-not}
+use Rattle.classes.specs.ClassesLaws.{same_more, agrees-all, agrees-not}
 use Rattle.classes.proofs.agrees.Goals as goal
 
 pub no_rows-members-requires : goal.no_rows-members-requires

@@ -1,11 +1,6 @@
 -- `agrees` meets its contract. The invariant: each of the first v rows has the bits of that of its state's block.
 use Prim.Native.Nat.{ℕ, ◌≤◌, ◌<◌, ◌-◌}
-use mathlib.Core.Path.{◌≡◌}
-use native.Mathlib.Omega.{arith}
-use borrow.Author.Count.{below_none}
-use borrow.Author.Tests.{not-true, not-false}
-use borrow.Author.Rules.{rules}
-use Rattle.classes.specs.ClassesLaws.{Alike, same_more, agrees-all, agrees-not}
+use Rattle.classes.specs.ClassesLaws.{Alike}
 use Rattle.classes.proofs.agrees.Given as goal
 
 abbrev pub invariant-loop-v : goal.invariant-loop-v

@@ -1,7 +1,6 @@
 -- `byte_of` meets its contract: the byte is the number of a row.
 use mathlib.Core.Path.{refl}
 use native.Mathlib.Omega.{arith}
-use borrow.Author.Rules.{rules}
 use Rattle.classes.proofs.byte_of.Goals as goal
 
 pub overflow_cast-result : goal.overflow_cast-result

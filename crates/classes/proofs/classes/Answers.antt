@@ -1,8 +1,7 @@
 -- `classes` meets its contract. The invariant: the classes of the first u states.
-use Prim.Native.Nat.{◌≤◌, ◌-◌}
+use Prim.Native.Nat.{◌-◌}
 use mathlib.Core.Path.{◌≡◌, sym}
 use native.Mathlib.Omega.{arith}
-use Rattle.classes.specs.Classes.{AreClasses}
 use Rattle.classes.specs.ClassesLaws.{classes-none, classes-more}
 use Rattle.classes.proofs.classes.Goals as goal
 

@@ -1,9 +1,6 @@
 -- `classes` meets its contract. The invariant: the classes of the first u states.
 use Prim.Native.Nat.{◌≤◌, ◌-◌}
-use mathlib.Core.Path.{◌≡◌, sym}
-use native.Mathlib.Omega.{arith}
 use Rattle.classes.specs.Classes.{AreClasses}
-use Rattle.classes.specs.ClassesLaws.{classes-none, classes-more}
 use Rattle.classes.proofs.classes.Given as goal
 
 abbrev pub invariant-loop-u : goal.invariant-loop-u

@@ -1,10 +1,7 @@
 -- `start` meets its contract. The invariant: the first v rows hold the pairs.
 use Prim.Native.Nat.{◌≤◌, ◌-◌}
-use mathlib.Core.Path.{◌≡◌}
-use native.Mathlib.Omega.{arith}
 use Rattle.pairs.specs.Rows.{HoldsRows}
 use Rattle.classes.specs.Classes.{same_labels}
-use Rattle.classes.specs.ClassesLaws.{rows_none, rows_more}
 use Rattle.classes.proofs.start.Given as goal
 
 abbrev pub invariant-loop-v : goal.invariant-loop-v

@@ -4,7 +4,6 @@ use Rattle.rules.specs.definitions.Bytes.{byte_at}
 use Rattle.rules.specs.definitions.SoundModel.{Bytes}
 use Rattle.two_models.specs.TwoModelsLaws.{found-both, found-refused}
 use Rattle.compose.specs.ComposeLaws.{two-sound, two-refused}
-use borrow.Author.Rules.{rules}
 use Rattle.compose.proofs.compose_answer.Goals as goal
 
 pub compose_sound-requires : goal.compose_sound-requires

@@ -3,7 +3,6 @@ use mathlib.Core.Path.{sym, ◌∙◌}
 use native.Mathlib.Omega.{arith}
 use Rattle.answer.specs.AnsweredLaws.{without-as}
 use Rattle.compose.specs.ComposeLaws.{sides, over-moves, moves-within, can_write, limit-passed, file-composed}
-use borrow.Author.Rules.{rules}
 use Rattle.compose.proofs.compose_moves.Goals as goal
 
 pub places_of-left_places-requires : goal.places_of-left_places-requires

@@ -3,7 +3,6 @@ use mathlib.Core.Path.{sym, ◌∙◌}
 use native.Mathlib.Omega.{arith}
 use Rattle.answer.specs.AnsweredLaws.{without-as}
 use Rattle.compose.specs.ComposeLaws.{few-pairs, small-highest, small-label, many-pairs, states-within, limit-passed}
-use borrow.Author.Rules.{rules}
 use Rattle.compose.proofs.compose_sound.Goals as goal
 
 pub highest_label-own-requires : goal.highest_label-own-requires

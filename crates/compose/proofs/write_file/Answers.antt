@@ -4,7 +4,6 @@ use native.Mathlib.Omega.{arith}
 use Rattle.answer.specs.AnsweredLaws.{written-short, written-whole}
 use Rattle.writer.specs.AppendsLaws.{file-filled}
 use Rattle.compose.specs.ComposeLaws.{few-sizes, composed-size, composed-room}
-use borrow.Author.Rules.{rules}
 use Rattle.compose.proofs.write_file.Goals as goal
 
 pub overflow_mul-size : goal.overflow_mul-size

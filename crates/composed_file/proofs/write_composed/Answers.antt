@@ -1,7 +1,6 @@
 -- `write_composed` meets its contract: head, labels and records stand one behind the other.
 use native.Mathlib.Omega.{arith}
 use Rattle.composed_file.specs.FileLaws.{states-fit, head-fits, labels-fit, records-fit, file-written}
-use borrow.Author.Rules.{rules}
 use Rattle.composed_file.proofs.write_composed.Goals as goal
 
 pub overflow_mul-m : goal.overflow_mul-m

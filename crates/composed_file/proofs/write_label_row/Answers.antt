@@ -2,8 +2,7 @@
 use Prim.Native.Nat.{◌+◌, ◌-◌}
 use native.Mathlib.Omega.{arith}
 use Rattle.rules.specs.definitions.Bytes.{byte_at}
-use Rattle.composed_states.specs.Gathering.{Gathering, gathering-start, gathering-turn, gathering-all}
-use Rattle.composed_file.specs.Labels.{label_byte}
+use Rattle.composed_states.specs.Gathering.{gathering-start, gathering-turn, gathering-all}
 use Rattle.composed_file.specs.LabelsLaws.{label-fits}
 use Rattle.composed_file.proofs.write_label_row.Goals as goal
 

@@ -1,10 +1,7 @@
 -- `write_label_row` meets its contract. The invariant is `Gathering`.
-use Prim.Native.Nat.{◌+◌, ◌-◌}
-use native.Mathlib.Omega.{arith}
-use Rattle.rules.specs.definitions.Bytes.{byte_at}
-use Rattle.composed_states.specs.Gathering.{Gathering, gathering-start, gathering-turn, gathering-all}
+use Prim.Native.Nat.{◌-◌}
+use Rattle.composed_states.specs.Gathering.{Gathering}
 use Rattle.composed_file.specs.Labels.{label_byte}
-use Rattle.composed_file.specs.LabelsLaws.{label-fits}
 use Rattle.composed_file.proofs.write_label_row.Given as goal
 
 abbrev pub invariant-loop-e : goal.invariant-loop-e

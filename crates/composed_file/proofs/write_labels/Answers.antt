@@ -2,8 +2,7 @@
 use Prim.Native.Nat.{◌+◌, ◌-◌}
 use native.Mathlib.Omega.{arith}
 use Rattle.rules.specs.definitions.Bytes.{byte_at}
-use Rattle.composed_states.specs.Gathering.{Gathering, gathering-turn}
-use Rattle.composed_file.specs.Labels.{label_row}
+use Rattle.composed_states.specs.Gathering.{gathering-turn}
 use Rattle.composed_file.specs.LabelsLaws.{labels-start, labels-ask, labels-end}
 use Rattle.composed_file.proofs.write_labels.Goals as goal
 

@@ -1,10 +1,8 @@
 -- `write_labels` meets its contract. The invariant is `Gathering`.
 use Prim.Native.Nat.{◌+◌, ◌-◌}
-use native.Mathlib.Omega.{arith}
 use Rattle.rules.specs.definitions.Bytes.{byte_at}
-use Rattle.composed_states.specs.Gathering.{Gathering, gathering-turn}
+use Rattle.composed_states.specs.Gathering.{Gathering}
 use Rattle.composed_file.specs.Labels.{label_row}
-use Rattle.composed_file.specs.LabelsLaws.{labels-start, labels-ask, labels-end}
 use Rattle.composed_file.proofs.write_labels.Given as goal
 
 abbrev pub invariant-loop-s : goal.invariant-loop-s

@@ -1,12 +1,8 @@
 -- `write_moves` meets its contract. The invariant is `StateLoop`.
 use Prim.Native.Nat.{◌-◌}
-use native.Mathlib.Omega.{arith}
 use Rattle.transition.specs.Known.{automaton_in}
-use Rattle.transition.specs.KnownLaws.{few-states}
-use Rattle.composed_states.specs.ModelsLaws.{left-known}
 use Rattle.composed_file.specs.ComposedFile.{row_records}
-use Rattle.composed_file.specs.StateLoops.{StateLoop, states-start, states-ask, states-room, states-run, states-turn, states-end}
-use Rattle.composed_file.specs.RowsLaws.{all-parts}
+use Rattle.composed_file.specs.StateLoops.{StateLoop}
 use Rattle.composed_file.proofs.write_moves.Given as goal
 
 abbrev pub invariant-loop-s : goal.invariant-loop-s

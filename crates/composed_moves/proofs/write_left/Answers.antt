@@ -5,7 +5,6 @@ use Rattle.rules.specs.definitions.Bytes.{two_bytes}
 use Rattle.transition.specs.KnownLaws.{fields-small}
 use Rattle.placed_entries.specs.PlacedLaws.{known-placed}
 use Rattle.composed_moves.specs.MoveRecordsLaws.{left-source, left-room, left-record}
-use borrow.Author.Rules.{rules}
 use Rattle.composed_moves.proofs.write_left.Goals as goal
 
 pub overflow_mul-t : goal.overflow_mul-t

@@ -1,7 +1,6 @@
 -- `write_pairs` meets its contract. The invariant is `Pairing`.
-use native.Mathlib.Omega.{arith}
 use Rattle.composed_moves.specs.MoveRecords.{pairs_at}
-use Rattle.composed_moves.specs.MoveRecordsLaws.{Pairing, pairing-start, row-state, row-asks, pairing-turn, pairing-end}
+use Rattle.composed_moves.specs.MoveRecordsLaws.{Pairing}
 use Rattle.composed_moves.proofs.write_pairs.Given as goal
 
 abbrev pub invariant-loop-ahead : goal.invariant-loop-ahead

@@ -5,7 +5,6 @@ use Rattle.rules.specs.definitions.Bytes.{two_bytes}
 use Rattle.transition.specs.KnownLaws.{fields-small}
 use Rattle.placed_entries.specs.PlacedLaws.{known-placed}
 use Rattle.composed_moves.specs.MoveRecordsLaws.{right-room, right-record}
-use borrow.Author.Rules.{rules}
 use Rattle.composed_moves.proofs.write_right.Goals as goal
 
 pub fixed-next-requires : goal.fixed-next-requires

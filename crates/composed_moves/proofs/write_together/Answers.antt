@@ -4,7 +4,6 @@ use native.Mathlib.Omega.{arith}
 use Rattle.rules.specs.definitions.Bytes.{two_bytes}
 use Rattle.transition.specs.KnownLaws.{fields-small}
 use Rattle.composed_moves.specs.MoveRecordsLaws.{together-fits, together-room, together-pairs, together-record}
-use borrow.Author.Rules.{rules}
 use Rattle.composed_moves.proofs.write_together.Goals as goal
 
 pub overflow_mul-t : goal.overflow_mul-t

@@ -1,9 +1,6 @@
 -- `count_alone` meets its contract.
-use Prim.Native.Nat.{◌*◌, ◌≤◌}
-use mathlib.Core.Path.{refl}
 use native.Mathlib.Nat.{mul-le-mul_right}
 use native.Mathlib.Omega.{arith}
-use Rattle.rules.specs.definitions.Limits.{limits}
 use Rattle.composed_size.proofs.count_alone.Goals as goal
 
 pub overflow_mul-result : goal.overflow_mul-result

@@ -1,11 +1,9 @@
 -- `count_left` meets its contract. The invariant: the first q transitions are counted.
-use Prim.Native.Nat.{◌-◌, ◌≤◌}
+use Prim.Native.Nat.{◌-◌}
 use mathlib.Core.Path.{◌≡◌}
 use native.Mathlib.Omega.{arith}
 use Rattle.transition.specs.KnownLaws.{few-transitions}
-use Rattle.composed_size.specs.Counted.{move_most, SumsCounted, LeftCounted}
 use Rattle.composed_size.specs.CountedLaws.{none-counted, may_add, one_more}
-use borrow.Author.Rules.{rules}
 use Rattle.composed_size.proofs.count_left.Goals as goal
 
 pub loop-q-init : goal.loop-q-init

@@ -1,8 +1,6 @@
 -- `count_left_move` meets its contract: with partners, or alone.
-use native.Mathlib.Omega.{arith}
 use Rattle.transition.specs.KnownLaws.{known-transition, few-states, fields-small}
 use Rattle.composed_size.specs.CountedLaws.{small-fields, left-together, left-own}
-use borrow.Author.Rules.{rules}
 use Rattle.composed_size.proofs.count_left_move.Goals as goal
 
 pub fields_of-t-requires : goal.fields_of-t-requires

@@ -2,7 +2,6 @@
 use native.Mathlib.Omega.{arith}
 use Rattle.transition.specs.KnownLaws.{few-states, few-transitions}
 use Rattle.composed_size.specs.CountedLaws.{wider, moves-counted}
-use borrow.Author.Rules.{rules}
 use Rattle.composed_size.proofs.count_moves.Goals as goal
 
 pub count_right-own-requires : goal.count_right-own-requires

@@ -1,7 +1,6 @@
 -- `count_pair` meets its contract: another action, or a partner.
 use native.Mathlib.Omega.{arith}
 use Rattle.composed_size.specs.CountedLaws.{small-products, no-pair, one-pair}
-use borrow.Author.Rules.{rules}
 use Rattle.composed_size.proofs.count_pair.Goals as goal
 
 pub returns-then-u-t : goal.returns-then-u-t

@@ -1,11 +1,9 @@
 -- `count_partners` meets its contract. The invariant: the pairs with the first r transitions are counted.
-use Prim.Native.Nat.{◌-◌, ◌≤◌}
+use Prim.Native.Nat.{◌-◌}
 use mathlib.Core.Path.{◌≡◌}
 use native.Mathlib.Omega.{arith}
 use Rattle.transition.specs.KnownLaws.{known-transition, few-transitions}
-use Rattle.composed_size.specs.Counted.{pair_most, SumsCounted, PartnersCounted}
 use Rattle.composed_size.specs.CountedLaws.{none-counted, may_add, one_more, small-fields, partner-counted}
-use borrow.Author.Rules.{rules}
 use Rattle.composed_size.proofs.count_partners.Goals as goal
 
 pub loop-r-init : goal.loop-r-init

@@ -1,11 +1,9 @@
 -- `count_right` meets its contract. The invariant: the first r transitions are counted.
-use Prim.Native.Nat.{◌-◌, ◌≤◌}
+use Prim.Native.Nat.{◌-◌}
 use mathlib.Core.Path.{◌≡◌}
 use native.Mathlib.Omega.{arith}
 use Rattle.transition.specs.KnownLaws.{few-transitions}
-use Rattle.composed_size.specs.Counted.{pair_most, SumsCounted, RightCounted}
 use Rattle.composed_size.specs.CountedLaws.{none-counted, may_add, one_more}
-use borrow.Author.Rules.{rules}
 use Rattle.composed_size.proofs.count_right.Goals as goal
 
 pub loop-r-init : goal.loop-r-init

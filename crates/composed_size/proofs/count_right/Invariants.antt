@@ -1,11 +1,6 @@
 -- `count_right` meets its contract. The invariant: the first r transitions are counted.
 use Prim.Native.Nat.{◌-◌, ◌≤◌}
-use mathlib.Core.Path.{◌≡◌}
-use native.Mathlib.Omega.{arith}
-use Rattle.transition.specs.KnownLaws.{few-transitions}
 use Rattle.composed_size.specs.Counted.{pair_most, SumsCounted, RightCounted}
-use Rattle.composed_size.specs.CountedLaws.{none-counted, may_add, one_more}
-use borrow.Author.Rules.{rules}
 use Rattle.composed_size.proofs.count_right.Given as goal
 
 abbrev pub invariant-loop-r : goal.invariant-loop-r

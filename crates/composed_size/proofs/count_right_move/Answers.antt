@@ -1,8 +1,6 @@
 -- `count_right_move` meets its contract: a shared action, or the right's own.
-use native.Mathlib.Omega.{arith}
 use Rattle.transition.specs.KnownLaws.{known-transition, fields-small}
 use Rattle.composed_size.specs.CountedLaws.{right-shared, right-own}
-use borrow.Author.Rules.{rules}
 use Rattle.composed_size.proofs.count_right_move.Goals as goal
 
 pub fields_of-u-requires : goal.fields_of-u-requires

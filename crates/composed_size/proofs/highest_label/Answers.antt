@@ -1,5 +1,5 @@
 -- `highest_label` meets its contract. The invariant: the highest of the first v labels.
-use Prim.Native.Nat.{ℕ, ◌+◌, ◌-◌, ◌≤◌}
+use Prim.Native.Nat.{ℕ, ◌+◌, ◌-◌}
 use mathlib.Core.Path.{◌≡◌, refl, ◌∙◌, ap}
 use native.Mathlib.Omega.{arith}
 use Rattle.bisimulation.specs.definitions.Composed.{highest}
@@ -7,7 +7,6 @@ use Rattle.rules.specs.definitions.Bytes.{byte_at}
 use Rattle.rules.proofs.argument.ModelAutomaton.{automaton-states}
 use Rattle.transition.specs.Known.{automaton_in}
 use Rattle.composed_size.specs.CountedLaws.{highest-more}
-use borrow.Author.Rules.{rules}
 use Rattle.composed_size.proofs.highest_label.Goals as goal
 
 pub loop-v-init : goal.loop-v-init

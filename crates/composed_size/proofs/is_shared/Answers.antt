@@ -3,7 +3,6 @@ use mathlib.Core.Path.{refl}
 use native.Mathlib.Omega.{arith}
 use Rattle.bisimulation.proofs.argument.ChoiceLaws.{less, not_less}
 use Rattle.composition.specs.definitions.Composition.{shared_below}
-use borrow.Author.Rules.{rules}
 use Rattle.composed_size.proofs.is_shared.Goals as goal
 
 pub returns-then-action-eq0 : goal.returns-then-action-eq0

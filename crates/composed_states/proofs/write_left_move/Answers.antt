@@ -2,7 +2,6 @@
 use Rattle.transition.specs.KnownLaws.{known-transition}
 use Rattle.composed_states.specs.ModelsLaws.{left-known}
 use Rattle.composed_states.specs.MovesLaws.{partners-called, partners-written, alone-called, alone-written}
-use borrow.Author.Rules.{rules}
 use Rattle.composed_states.proofs.write_left_move.Goals as goal
 
 pub fields_of-action-requires : goal.fields_of-action-requires

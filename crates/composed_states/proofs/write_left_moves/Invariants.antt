@@ -1,11 +1,8 @@
 -- `write_left_moves` meets its contract. The invariant is `RunLoop`.
 use Prim.Native.Nat.{◌-◌}
-use native.Mathlib.Omega.{arith}
 use Rattle.transition.specs.Known.{automaton_in}
 use Rattle.composed_states.specs.Records.{left_move_records}
-use Rattle.composed_states.specs.RunLoops.{RunLoop, run-start, run-turn, run_end}
-use Rattle.composed_states.specs.RecordsLaws.{left-of-run}
-use Rattle.composed_states.specs.MovesLaws.{left-ask}
+use Rattle.composed_states.specs.RunLoops.{RunLoop}
 use Rattle.composed_states.proofs.write_left_moves.Given as goal
 
 abbrev pub invariant-loop-q : goal.invariant-loop-q

@@ -1,6 +1,5 @@
 -- `write_own_move` meets its contract: nothing where the action is shared.
 use Rattle.composed_states.specs.OwnLaws.{own-known, own-skipped, own-called, own-written}
-use borrow.Author.Rules.{rules}
 use Rattle.composed_states.proofs.write_own_move.Goals as goal
 
 pub fields_of-action-requires : goal.fields_of-action-requires

@@ -1,9 +1,7 @@
 -- `write_own_moves` meets its contract. The invariant is `RunLoop`.
 use Prim.Native.Nat.{◌-◌}
 use native.Mathlib.Omega.{arith}
-use Rattle.transition.specs.Known.{automaton_in}
-use Rattle.composed_states.specs.Own.{own_record_from}
-use Rattle.composed_states.specs.RunLoops.{RunLoop, run-start, run-turn, run_end}
+use Rattle.composed_states.specs.RunLoops.{run-start, run-turn, run_end}
 use Rattle.composed_states.specs.OwnLaws.{own-of-run, owns-ask}
 use Rattle.composed_states.proofs.write_own_moves.Goals as goal
 

@@ -1,6 +1,5 @@
 -- `write_partner` meets its contract: nothing where the actions differ.
 use Rattle.composed_states.specs.MovesLaws.{partner-known, partner-other, together-asks, partner-written}
-use borrow.Author.Rules.{rules}
 use Rattle.composed_states.proofs.write_partner.Goals as goal
 
 pub fields_of-requires : goal.fields_of-requires

@@ -1,11 +1,8 @@
 -- `write_partners` meets its contract. The invariant is `RunLoop`.
 use Prim.Native.Nat.{◌-◌}
-use native.Mathlib.Omega.{arith}
 use Rattle.transition.specs.Known.{automaton_in}
 use Rattle.composed_states.specs.Records.{partner_record}
-use Rattle.composed_states.specs.RunLoops.{RunLoop, run-start, run-turn, run_end}
-use Rattle.composed_states.specs.RecordsLaws.{partners-of-run}
-use Rattle.composed_states.specs.MovesLaws.{partners-ask}
+use Rattle.composed_states.specs.RunLoops.{RunLoop}
 use Rattle.composed_states.proofs.write_partners.Given as goal
 
 abbrev pub invariant-loop-partner : goal.invariant-loop-partner

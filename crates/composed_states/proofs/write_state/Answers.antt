@@ -1,6 +1,5 @@
 -- `write_state` meets its contract: the right's own moves stand behind the left's.
 use Rattle.composed_states.specs.StateLaws.{left-called, owns-called, state-written}
-use borrow.Author.Rules.{rules}
 use Rattle.composed_states.proofs.write_state.Goals as goal
 
 pub write_left_moves-own-requires : goal.write_left_moves-own-requires

@@ -1,17 +1,11 @@
 -- `all_fair` meets its contract. The invariant: the transitions before r pass.
-use Prim.Native.Nat.{ℕ, ◌-◌, ◌≤◌, ◌<◌}
+use Prim.Native.Nat.{◌-◌}
 use mathlib.Core.Path.{◌≡◌, sym, ◌∙◌}
 use mathlib.Core.Bool.{true}
 use native.Mathlib.Omega.{arith}
 use borrow.Author.Count.{below_none, below_more}
-use borrow.Author.Tests.{not-true, not-false}
-use mir.Syntax.{w64}
-use mir.Val.{to_z}
 use mir.Facts.{to_z-of_z}
 use Rattle.bisimulation.proofs.argument.ChoiceLaws.{below_all, not-all}
-use Rattle.transition.specs.Known.{automaton_in}
-use Rattle.rule_kind.specs.Kinds.{cost_in}
-use Rattle.prices.specs.Prices.{price_in}
 use Rattle.conditions.specs.Conditions.{fair_to}
 use Rattle.conditions.specs.ConditionsLaws.{one-priced, all-of-count}
 use Rattle.conditions.proofs.all_fair.Goals as goal

@@ -2,7 +2,6 @@
 use mathlib.Core.Path.{refl}
 use mir.Facts.{to_z-of_z}
 use Rattle.prices.specs.PricesLaws.{product_is, product-fits}
-use borrow.Author.Rules.{rules}
 use Rattle.conditions.proofs.at_least.Goals as goal
 
 pub overflow_mul-result : goal.overflow_mul-result

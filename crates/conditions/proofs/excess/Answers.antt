@@ -6,7 +6,6 @@ use Rattle.cost_files.specs.definitions.CostModel.{highest_cost}
 use Rattle.prices.specs.Prices.{price_in}
 use Rattle.prices.specs.PricesLaws.{product_is, product-fits}
 use Rattle.conditions.specs.ConditionsLaws.{off_small}
-use borrow.Author.Rules.{rules}
 use Rattle.conditions.proofs.excess.Goals as goal
 
 pub overflow_mul-result : goal.overflow_mul-result

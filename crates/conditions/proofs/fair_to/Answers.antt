@@ -1,16 +1,9 @@
 -- `fair_to` meets its contract: each way by the condition.
 use mathlib.Core.Path.{◌≡◌, refl}
-use mathlib.Core.Logic.{inl, inr}
-use mathlib.Core.List.{[], ◌∷◌}
-use native.Mathlib.Omega.{arith}
-use types.Run.{OneOf}
-use denote.Enum.Declared.{tag_of}
 use mir.Facts.{to_z-of_z}
-use Rattle.rule_kind.specs.contracts.Condition.{the_type}
 use Rattle.rule_kind.specs.declared.Condition.{Condition}
 use Rattle.rule_kind.specs.declared.Condition.TheVariants.{Across, Within, Unasked}
 use Rattle.conditions.specs.ConditionsLaws.{fair-across, fair-within, fair-unasked}
-use borrow.Author.Rules.{rules}
 use Rattle.conditions.proofs.fair_to.Goals as goal
 
 -- a condition that is neither

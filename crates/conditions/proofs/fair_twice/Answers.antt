@@ -1,6 +1,5 @@
 -- `fair_twice` meets its contract: the condition of each table.
 use mathlib.Core.Path.{sym, ◌∙◌}
-use borrow.Author.Tests.{not-true, not-false}
 use Rattle.prices.specs.PricesLaws.{summable}
 use Rattle.conditions.specs.ConditionsLaws.{state-price, priced-transition, cost-addable, side-is, condition-is, twice-not, twice-then}
 use Rattle.conditions.proofs.fair_twice.Goals as goal

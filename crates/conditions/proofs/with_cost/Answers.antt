@@ -1,7 +1,6 @@
 -- `with_cost` meets its contract: the term of the cost is added, where there is one.
 use native.Mathlib.Omega.{arith}
 use Rattle.conditions.specs.ConditionsLaws.{weight-small, term-addable, no-term, with-its-term}
-use borrow.Author.Rules.{rules}
 use Rattle.conditions.proofs.with_cost.Goals as goal
 
 pub returns-then-cost-eq0 : goal.returns-then-cost-eq0

@@ -1,6 +1,5 @@
 -- `scan_cost_model` meets its contract: the cost record follows a sound model.
 use Rattle.cost_model.specs.CostsRead.{sound-fits, cost-scans, cost-refused}
-use borrow.Author.Rules.{rules}
 use Rattle.cost_model.proofs.scan_cost_model.Goals as goal
 
 pub scan_costs-requires : goal.scan_costs-requires

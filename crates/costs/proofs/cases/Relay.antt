@@ -1,6 +1,6 @@
 -- A state that goes three steps where another goes one, and what they cost: the cost equation's sides, and the side that the term of L stands
 -- on, by computation.
-use Rattle.std.specs.Prelude.{ℕ, ◌<◌, ◌≡◌, refl, true, false, List, [], ◌∷◌, get_or, ℤ, pos, neg_ℤ, ◌≤ℤ◌, ◌<ℤ◌}
+use Rattle.std.specs.Prelude.{ℕ, ◌≡◌, refl, true, false, List, [], ◌∷◌, get_or, ℤ, pos, neg_ℤ, ◌≤ℤ◌, ◌<ℤ◌}
 use Rattle.std.specs.Int.Signed.{lt_z_yes}
 use Rattle.std.proofs.Common.{arith}
 use Rattle.bisimulation.specs.definitions.Choice.{if_same}

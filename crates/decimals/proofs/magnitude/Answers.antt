@@ -2,7 +2,6 @@
 use mir.Facts.{to_z-of_z}
 use native.Mathlib.Omega.{arith}
 use Rattle.decimals.specs.SignLaws.{as-tested, below, above}
-use borrow.Author.Rules.{rules}
 use Rattle.decimals.proofs.magnitude.Goals as goal
 
 pub overflow_sub-result : goal.overflow_sub-result

@@ -4,9 +4,7 @@ use mathlib.Core.Path.{sym, ap}
 use lib.ListN.{length}
 use native.Mathlib.Omega.{arith}
 use Rattle.writer.specs.AppendsLaws.{appended-as}
-use Rattle.decimals.specs.Digits.{Filling}
 use Rattle.decimals.specs.DigitsLaws.{filling-start, filling-size, filling-room, filling-turn, filling-end}
-use borrow.Author.Rules.{rules}
 use Rattle.decimals.proofs.write_decimal.Goals as goal
 
 pub loop-left-init : goal.loop-left-init

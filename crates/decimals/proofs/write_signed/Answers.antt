@@ -5,7 +5,6 @@ use mir.Facts.{to_z-of_z}
 use native.Mathlib.Omega.{arith}
 use Rattle.writer.specs.AppendsLaws.{appended-as, append-more}
 use Rattle.decimals.specs.SignLaws.{signed_below, signed_above}
-use borrow.Author.Rules.{rules}
 use Rattle.decimals.proofs.write_signed.Goals as goal
 
 pub byte-next-requires : goal.byte-next-requires

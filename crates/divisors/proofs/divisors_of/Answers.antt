@@ -1,5 +1,5 @@
 -- `divisors_of` meets its contract: the table holds the divisors of the transitions that were passed.
-use Prim.Native.Nat.{ℕ, ◌-◌, ◌≤◌}
+use Prim.Native.Nat.{ℕ, ◌-◌}
 use mathlib.Core.Path.{subst}
 use native.Mathlib.Omega.{arith}
 use Rattle.transition.specs.KnownLaws.{few-transitions, known-transition, entries-known}

@@ -1,10 +1,6 @@
 -- `divisors_of` meets its contract: the table holds the divisors of the transitions that were passed.
-use Prim.Native.Nat.{ℕ, ◌-◌, ◌≤◌}
-use mathlib.Core.Path.{subst}
-use native.Mathlib.Omega.{arith}
-use Rattle.transition.specs.KnownLaws.{few-transitions, known-transition, entries-known}
+use Prim.Native.Nat.{◌-◌, ◌≤◌}
 use Rattle.divisors.specs.Table.{HoldsDivisors}
-use Rattle.divisors.specs.TableLaws.{none-held, one-more-held, divisor-found}
 use Rattle.divisors.proofs.divisors_of.Given as goal
 
 abbrev pub invariant-loop-r : goal.invariant-loop-r

@@ -1,6 +1,5 @@
 -- `pay` meets its contract: a cost of 0 is not multiplied.
 use native.Mathlib.Omega.{arith}
-use borrow.Author.Rules.{rules}
 use Rattle.entries_k.specs.KEntriesLaws.{pays-none, k-times-d, price-low, pays}
 use Rattle.entries_k.proofs.pay.Goals as goal
 

@@ -1,7 +1,5 @@
 -- `stands` meets its contract, test by test.
 use native.Mathlib.Omega.{arith}
-use borrow.Author.Rules.{rules}
-use borrow.Author.Tests.{not-true, not-false}
 use Rattle.transition.specs.KnownLaws.{known-transition}
 use Rattle.entries_k.specs.Taking.{unordered, absent, unasked, nothing}
 use Rattle.rule_kind.specs.Steps.{in_question_by}

@@ -1,7 +1,6 @@
 -- `take_k` meets its contract: the transition arrives, then leaves.
 use Rattle.signed.specs.TermsLaws.{plus-back, minus-back}
 use Rattle.entries_k.specs.KEntriesLaws.{can-arrive, can-leave, took-k}
-use borrow.Author.Rules.{rules}
 use Rattle.entries_k.proofs.take_k.Goals as goal
 
 pub arrive-arrived-requires : goal.arrive-arrived-requires

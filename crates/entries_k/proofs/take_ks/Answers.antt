@@ -1,13 +1,9 @@
 -- `take_ks` meets its contract. The invariant is `TakingKs`.
 use mathlib.Core.Path.{refl}
 use native.Mathlib.Omega.{arith}
-use borrow.Author.Tests.{not-true, not-false}
 use Rattle.transition.specs.KnownLaws.{known-transitions}
-use borrow.Author.Rules.{rules}
-use Rattle.rule_kind.specs.Kinds.{rule_of, cost_in}
-use Rattle.rule_kind.specs.Steps.{in_question_by}
 use Rattle.rule_kind.specs.StepsLaws.{tests-of}
-use Rattle.entries_k.specs.KEntriesLaws.{TakingKs, ks-start, ks-refused, ks-asks, ks-pays, ks-turn, ks-end, KRead, k-read, StandingK}
+use Rattle.entries_k.specs.KEntriesLaws.{ks-start, ks-refused, ks-asks, ks-pays, ks-turn, ks-end, k-read}
 use Rattle.entries_k.proofs.take_ks.Goals as goal
 
 pub loop-left-init : goal.loop-left-init

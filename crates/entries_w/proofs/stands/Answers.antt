@@ -1,6 +1,5 @@
 -- `stands` meets its contract, test by test.
 use native.Mathlib.Omega.{arith}
-use borrow.Author.Rules.{rules}
 use mathlib.Core.Path.{sym, ◌∙◌}
 use Rattle.entries_w.specs.Matching.{unordered, absent, other_absent, unrelated, nothing}
 use Rattle.entries_w.specs.WEntriesLaws.{tells-wrong}

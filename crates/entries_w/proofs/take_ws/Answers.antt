@@ -1,9 +1,7 @@
 -- `take_ws` meets its contract. The invariant is `TakingWs`.
 use mathlib.Core.Path.{refl}
 use native.Mathlib.Omega.{arith}
-use borrow.Author.Rules.{rules}
-use borrow.Author.Tests.{not-true, not-false}
-use Rattle.entries_w.specs.WEntriesLaws.{TakingWs, ws-start, ws-refused, v-asks, u-asks, ws-turn, ws-end, w-read}
+use Rattle.entries_w.specs.WEntriesLaws.{ws-start, ws-refused, v-asks, u-asks, ws-turn, ws-end, w-read}
 use Rattle.entries_w.proofs.take_ws.Goals as goal
 
 pub loop-left-init : goal.loop-left-init

@@ -1,9 +1,5 @@
 -- `take_ws` meets its contract. The invariant is `TakingWs`.
-use mathlib.Core.Path.{refl}
-use native.Mathlib.Omega.{arith}
-use borrow.Author.Rules.{rules}
-use borrow.Author.Tests.{not-true, not-false}
-use Rattle.entries_w.specs.WEntriesLaws.{TakingWs, ws-start, ws-refused, v-asks, u-asks, ws-turn, ws-end, w-read}
+use Rattle.entries_w.specs.WEntriesLaws.{TakingWs}
 use Rattle.entries_w.proofs.take_ws.Given as goal
 
 abbrev pub invariant-loop-left : goal.invariant-loop-left

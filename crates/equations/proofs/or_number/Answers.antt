@@ -1,7 +1,6 @@
 -- `or_number` meets its contract.
 use mathlib.Core.Path.{refl}
 use Rattle.rules.proofs.argument.FaultLaws.{first_stops, first_passes}
-use borrow.Author.Rules.{rules}
 use Rattle.equations.proofs.or_number.Goals as goal
 
 pub returns-then-found-ne0 : goal.returns-then-found-ne0

@@ -5,7 +5,6 @@ use Rattle.bisimulation.proofs.argument.ChoiceLaws.{same, not_same}
 use Rattle.rules.specs.definitions.Faults.{Fault, fault, first_of}
 use Rattle.rules.proofs.argument.FaultLaws.{first_stops, first_passes}
 use Rattle.equations.specs.Differences.{cost_break, verdict_of}
-use borrow.Author.Rules.{rules}
 use Rattle.equations.proofs.verdict.Goals as goal
 
 pub first_break-before-requires : goal.first_break-before-requires

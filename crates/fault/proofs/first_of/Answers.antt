@@ -1,6 +1,5 @@
 -- `first_of` meets its contract.
 use mathlib.Core.Path.{refl}
-use native.Mathlib.Omega.{arith}
 use Rattle.rules.proofs.argument.FaultLaws.{first_stops, first_passes}
 use Rattle.fault.proofs.first_of.Goals as goal
 

@@ -1,6 +1,5 @@
 -- `fetch` meets its contract: the answer's stretch or run lies in the model, and is the part handed back.
 use Rattle.fetch.specs.Fetched.{fetch-stretch, fetch-handed}
-use borrow.Author.Rules.{rules}
 use Rattle.fetch.proofs.fetch.Goals as goal
 
 pub hand_back-requires : goal.hand_back-requires

@@ -15,7 +15,6 @@ use Rattle.fetch.specs.Fetched.{answer_of, FetchAnswered, fetch-answered}
 use Rattle.answer.specs.declared.Answer as declared
 use Rattle.answer.specs.Answered.{Says}
 use Rattle.answer.specs.AnsweredLaws.{without-as, refusal-as}
-use borrow.Author.Rules.{rules}
 use Rattle.fetch.proofs.fetch_answer.Goals as goal
 
 told : {a b : Answer} (s : List ℕ) (x y : ℕ) {r : declared.Answer} → Bytes s → Says a 0 r → a ≡ b → b ≡ fetch_answer current s x → x ≡ y → FetchAnswered s y r

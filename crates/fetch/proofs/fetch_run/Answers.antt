@@ -11,7 +11,6 @@ use Rattle.rules.specs.definitions.Limits.{current}
 use Rattle.rules.specs.definitions.Faults.{Fault}
 use mathlib.Core.Path.{sym, ◌∙◌, ap, ap₂, subst}
 use native.Mathlib.Omega.{arith}
-use borrow.Author.Rules.{rules}
 use Rattle.fetch.proofs.fetch_run.Goals as goal
 
 pub returns-then-wrong-ne0 : goal.returns-then-wrong-ne0

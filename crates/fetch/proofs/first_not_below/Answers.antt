@@ -2,11 +2,9 @@
 use Rattle.rules.proofs.argument.ModelAutomaton.{automaton-source}
 use Rattle.transition.specs.KnownLaws.{known-transition}
 use Rattle.rules.proofs.argument.ReadingLaws.{first_not_below-turn, first_not_below-end}
-use Rattle.rules.specs.definitions.Reading.{first_not_below}
 use Rattle.bisimulation.proofs.argument.ChoiceLaws.{via, less, not_less}
-use Prim.Native.Nat.{◌+◌, ◌-◌}
-use mathlib.Core.Path.{◌≡◌, refl, ◌∙◌}
-use borrow.Author.Rules.{rules}
+use Prim.Native.Nat.{◌-◌}
+use mathlib.Core.Path.{refl, ◌∙◌}
 use native.Mathlib.Omega.{arith}
 use Rattle.fetch.proofs.first_not_below.Goals as goal
 

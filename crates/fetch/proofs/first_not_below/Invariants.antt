@@ -1,13 +1,7 @@
 -- `first_not_below` meets its contract. The invariant: the search from here on finds what the whole search finds.
-use Rattle.rules.proofs.argument.ModelAutomaton.{automaton-source}
-use Rattle.transition.specs.KnownLaws.{known-transition}
-use Rattle.rules.proofs.argument.ReadingLaws.{first_not_below-turn, first_not_below-end}
 use Rattle.rules.specs.definitions.Reading.{first_not_below}
-use Rattle.bisimulation.proofs.argument.ChoiceLaws.{via, less, not_less}
 use Prim.Native.Nat.{◌+◌, ◌-◌}
-use mathlib.Core.Path.{◌≡◌, refl, ◌∙◌}
-use borrow.Author.Rules.{rules}
-use native.Mathlib.Omega.{arith}
+use mathlib.Core.Path.{◌≡◌}
 use Rattle.fetch.proofs.first_not_below.Given as goal
 
 abbrev pub invariant-loop-ahead : goal.invariant-loop-ahead

@@ -3,7 +3,6 @@ use native.Mathlib.Omega.{arith}
 use Rattle.bisimulation.proofs.argument.ChoiceLaws.{less, not_less}
 use Rattle.rules.specs.definitions.Answers.{run_answer}
 use mathlib.Core.Path.{refl, ◌∙◌}
-use borrow.Author.Rules.{rules}
 use Rattle.fetch.proofs.run_from.Goals as goal
 
 pub returns-then-start-end : goal.returns-then-start-end

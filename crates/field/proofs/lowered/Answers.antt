@@ -1,7 +1,6 @@
 -- `lowered` meets its contract, by the laws of a number moved down.
 use native.Mathlib.Omega.{arith}
 use mir.Facts.{to_z-of_z}
-use borrow.Author.Rules.{rules}
 use Rattle.field.specs.TakenLaws.{lowered-fits, lowered_is}
 use Rattle.field.proofs.lowered.Goals as goal
 

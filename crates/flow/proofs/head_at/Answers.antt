@@ -2,7 +2,6 @@
 use native.Mathlib.Omega.{arith}
 use Rattle.rules.specs.definitions.Certificate.{k_count_at}
 use Rattle.field.specs.Taken.{taken_at}
-use borrow.Author.Rules.{rules}
 use Rattle.flow.proofs.head_at.Goals as goal
 
 pub returns : goal.returns

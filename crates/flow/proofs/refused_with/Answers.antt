@@ -1,5 +1,4 @@
 -- `refused_with` meets its contract.
-use borrow.Author.Rules.{rules}
 use Rattle.fault.specs.FaultsLaws.{placed-as}
 use Rattle.flow.proofs.refused_with.Goals as goal
 

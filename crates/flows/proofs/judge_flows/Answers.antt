@@ -1,18 +1,15 @@
 -- `judge_flows` meets its contract. Before each flow the questions left are judged as all are (`Going`); the loops go through the
 -- questions of a state, of a state against t, and of the transitions of the run.
 use native.Mathlib.Omega.{arith}
-use Prim.Native.Nat.{◌-◌, ◌≤◌}
-use mathlib.Core.Path.{◌≡◌, sym, ◌∙◌, ap}
+use Prim.Native.Nat.{◌-◌}
+use mathlib.Core.Path.{sym, ◌∙◌, ap}
 use Rattle.rules.specs.definitions.Faults as rules
-use Rattle.rule_kind.specs.Kinds.{rule_of}
 use Rattle.fault.specs.declared.Fault.{Fault}
 use Rattle.field.specs.declared.Cursor.{Cursor}
-use Rattle.transition.specs.Known.{automaton_in}
 use Rattle.transition.specs.KnownLaws.{known-own, few-states, few-transitions}
-use Rattle.runs.specs.Runs.{Splits}
 use Rattle.runs.specs.RunsLaws.{splits-start, splits-next}
-use Rattle.flows.specs.Going.{left_states, left_defenders, left_run, Going, going-stops, going-passes, going-left, going-ends, unaccepted-as, going-at}
-use Rattle.flows.specs.GoingLaws.{Asked, next-asked, first-asked, going-all, going-state, states-end, going-first, going_next, going-defender, defenders-end, going-transition, run_ends}
+use Rattle.flows.specs.Going.{going-stops, going-passes, going-left, going-ends, unaccepted-as, going-at}
+use Rattle.flows.specs.GoingLaws.{next-asked, first-asked, going-all, going-state, states-end, going-first, going_next, going-defender, defenders-end, going-transition, run_ends}
 use Rattle.flows.proofs.judge_flows.Goals as goal
 use Rattle.flows.proofs.judge_flows.Goals.{else-flows-test, then-flows-test+then-loop-t-test+then-loop-r-test+then-wrong-ne0}
 

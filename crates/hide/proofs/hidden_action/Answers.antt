@@ -2,7 +2,6 @@
 use mathlib.Core.Path.{refl}
 use Rattle.bisimulation.proofs.argument.ChoiceLaws.{is_true, is_false}
 use Rattle.bisimulation.specs.definitions.Hidden.{hidden_action}
-use borrow.Author.Rules.{rules}
 use Rattle.hide.proofs.hidden_action.Goals as goal
 
 pub returns-then-members-action : goal.returns-then-members-action

@@ -6,7 +6,6 @@ use Rattle.limits.specs.TermsBy.{current_terms}
 use Rattle.transition.specs.ModelRead.{refused-told}
 use Rattle.answer.specs.AnsweredLaws.{refusal-as}
 use Rattle.hide.specs.HideLaws.{can-hide, model-hidden, model-refused}
-use borrow.Author.Rules.{rules}
 use Rattle.hide.proofs.hide_answer.Goals as goal
 
 pub hide_sound-requires : goal.hide_sound-requires

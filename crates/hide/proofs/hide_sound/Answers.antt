@@ -1,6 +1,5 @@
 -- `hide_sound` meets its contract: 38, or the file.
 use Rattle.answer.specs.AnsweredLaws.{file-stretch}
-use borrow.Author.Rules.{rules}
 use Rattle.hide.proofs.hide_sound.Goals as goal
 
 pub returns : goal.returns

@@ -1,9 +1,8 @@
 -- `members_of` meets its contract. The invariant is `FillsMembers`.
 use Prim.Native.Nat.{◌-◌}
 use mathlib.Core.Path.{refl}
-use lib.ListN.{length}
 use native.Mathlib.Omega.{arith}
-use Rattle.hide.specs.MembersLaws.{FillsMembers, members-start, members-turn, members-end}
+use Rattle.hide.specs.MembersLaws.{members-start, members-turn, members-end}
 use Rattle.hide.proofs.members_of.Goals as goal
 
 pub loop-i-init : goal.loop-i-init

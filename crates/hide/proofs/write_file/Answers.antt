@@ -2,7 +2,6 @@
 use native.Mathlib.Omega.{arith}
 use Rattle.answer.specs.AnsweredLaws.{written-short}
 use Rattle.hide.specs.HideLaws.{hidden-size, hidden-written}
-use borrow.Author.Rules.{rules}
 use Rattle.hide.proofs.write_file.Goals as goal
 
 pub returns-then-size-out : goal.returns-then-size-out

@@ -1,13 +1,12 @@
 -- `write_hidden` meets its contract. The invariant is `HidingFile`.
 use Prim.Native.Nat.{◌+◌, ◌-◌}
-use mathlib.Core.Path.{◌≡◌, refl, ◌∙◌}
-use lib.ListN.{length, drop, get_or, length-set}
+use mathlib.Core.Path.{refl, ◌∙◌}
+use lib.ListN.{get_or, length-set}
 use native.Mathlib.Omega.{arith}
 use Rattle.rules.specs.definitions.Bytes.{byte_at}
 use Rattle.transition.specs.KnownLaws.{few-transitions}
 use Rattle.hide.specs.MembersLaws.{action-hidden}
-use Rattle.hide.specs.HidingFile.{record-placed, HidingFile, hiding-start, hiding-turn, hiding-end}
-use borrow.Author.Rules.{rules}
+use Rattle.hide.specs.HidingFile.{record-placed, hiding-start, hiding-turn, hiding-end}
 use Rattle.hide.proofs.write_hidden.Goals as goal
 
 pub loop-r-init : goal.loop-r-init

@@ -1,13 +1,8 @@
 -- `write_hidden` meets its contract. The invariant is `HidingFile`.
-use Prim.Native.Nat.{◌+◌, ◌-◌}
-use mathlib.Core.Path.{◌≡◌, refl, ◌∙◌}
-use lib.ListN.{length, drop, get_or, length-set}
-use native.Mathlib.Omega.{arith}
-use Rattle.rules.specs.definitions.Bytes.{byte_at}
-use Rattle.transition.specs.KnownLaws.{few-transitions}
-use Rattle.hide.specs.MembersLaws.{action-hidden}
-use Rattle.hide.specs.HidingFile.{record-placed, HidingFile, hiding-start, hiding-turn, hiding-end}
-use borrow.Author.Rules.{rules}
+use Prim.Native.Nat.{◌-◌}
+use mathlib.Core.Path.{◌≡◌}
+use lib.ListN.{length, drop}
+use Rattle.hide.specs.HidingFile.{HidingFile}
 use Rattle.hide.proofs.write_hidden.Given as goal
 
 abbrev pub invariant-loop-r : goal.invariant-loop-r

@@ -4,7 +4,6 @@ use Rattle.rules.specs.definitions.Bytes.{byte_at}
 use Rattle.rules.specs.definitions.SoundModel.{Bytes}
 use Rattle.two_models.specs.TwoModelsLaws.{found-both, found-refused}
 use Rattle.join.specs.JoinLaws.{two-sound, two-refused}
-use borrow.Author.Rules.{rules}
 use Rattle.join.proofs.join_answer.Goals as goal
 
 pub join_sound-requires : goal.join_sound-requires

@@ -4,7 +4,6 @@ use native.Mathlib.Omega.{arith}
 use Rattle.answer.specs.AnsweredLaws.{without-as}
 use Rattle.joined_file.specs.JoinedFileLaws.{sums}
 use Rattle.join.specs.JoinLaws.{over-limit, in-limit, file-joined}
-use borrow.Author.Rules.{rules}
 use Rattle.join.proofs.join_sound.Goals as goal
 
 pub overflow_sub-records : goal.overflow_sub-records

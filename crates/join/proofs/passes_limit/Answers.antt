@@ -3,7 +3,6 @@ use mathlib.Core.Path.{refl}
 use native.Mathlib.Omega.{arith}
 use Rattle.bisimulation.proofs.argument.ChoiceLaws.{less, not_less}
 use Rattle.join.specs.Join.{passes_sizes}
-use borrow.Author.Rules.{rules}
 use Rattle.join.proofs.passes_limit.Goals as goal
 
 pub returns-then-states-gt-STATES : goal.returns-then-states-gt-STATES

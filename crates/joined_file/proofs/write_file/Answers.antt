@@ -1,10 +1,9 @@
 -- `write_file` meets its contract: the length is known before the first byte is written.
 use mathlib.Core.Path.{refl}
 use native.Mathlib.Omega.{arith}
-use Rattle.joined_file.specs.JoinedFileLaws.{sums, joined-size, joined-room}
+use Rattle.joined_file.specs.JoinedFileLaws.{joined-size, joined-room}
 use Rattle.answer.specs.AnsweredLaws.{written-short, written-whole}
 use Rattle.writer.specs.AppendsLaws.{file-filled}
-use borrow.Author.Rules.{rules}
 use Rattle.joined_file.proofs.write_file.Goals as goal
 
 pub write_joined-requires : goal.write_joined-requires

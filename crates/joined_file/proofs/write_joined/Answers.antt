@@ -1,7 +1,6 @@
 -- `write_joined` meets its contract: head, labels and records stand one behind the other.
 use native.Mathlib.Omega.{arith}
 use Rattle.joined_file.specs.JoinedFileLaws.{sums, head-fits, labels-fit, records-fit, file-written}
-use borrow.Author.Rules.{rules}
 use Rattle.joined_file.proofs.write_joined.Goals as goal
 
 pub head-labels-requires : goal.head-labels-requires

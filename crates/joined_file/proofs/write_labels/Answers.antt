@@ -1,6 +1,5 @@
 -- `write_labels` meets its contract: the second's labels stand behind the first's.
 use Rattle.joined_file.specs.JoinedFileLaws.{labels-written}
-use borrow.Author.Rules.{rules}
 use Rattle.joined_file.proofs.write_labels.Goals as goal
 
 pub returns : goal.returns

@@ -1,6 +1,5 @@
 -- `write_records` meets its contract: the raised records stand behind the first's.
 use Rattle.joined_file.specs.JoinedFileLaws.{records-written}
-use borrow.Author.Rules.{rules}
 use Rattle.joined_file.proofs.write_records.Goals as goal
 
 pub returns : goal.returns

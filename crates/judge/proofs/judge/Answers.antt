@@ -1,7 +1,6 @@
 -- `judge` meets its contract: the answer of the pair is handed back.
 use mathlib.Core.Path.{refl}
 use Rattle.answer.specs.HandingLaws.{handed-one}
-use borrow.Author.Rules.{rules}
 use Rattle.judge.proofs.judge.Goals as goal
 
 pub hand_back-requires : goal.hand_back-requires

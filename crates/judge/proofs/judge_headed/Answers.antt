@@ -4,7 +4,6 @@ use Rattle.rules.specs.definitions.Bytes.{byte_at}
 use Rattle.rules.specs.definitions.SoundModel.{Bytes}
 use Rattle.judgement.specs.VerdictLaws.{found-accepted, found-refused}
 use Rattle.judge.specs.JudgeLaws.{pair-refused, blocks-fit, blocks-written}
-use borrow.Author.Rules.{rules}
 use Rattle.judge.proofs.judge_headed.Goals as goal
 
 pub overflow_add-at : goal.overflow_add-at

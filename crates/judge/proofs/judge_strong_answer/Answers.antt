@@ -4,7 +4,6 @@ use Rattle.rules.specs.definitions.Bytes.{byte_at}
 use Rattle.rules.specs.definitions.SoundModel.{Bytes}
 use Rattle.judge.specs.JudgeLaws.{pair-refused}
 use Rattle.rule_kind.specs.declared.Kind.TheVariants.{Strong}
-use borrow.Author.Rules.{rules}
 use Rattle.judge.proofs.judge_strong_answer.Goals as goal
 
 pub returns-then-head-ne0 : goal.returns-then-head-ne0

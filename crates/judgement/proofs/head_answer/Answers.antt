@@ -3,7 +3,6 @@ use native.Mathlib.Omega.{arith}
 use Rattle.answer.specs.AnsweredLaws.{refusal-as, without-as}
 use Rattle.judgement.specs.KindsRead.{head_passed}
 use Rattle.judgement.specs.VerdictLaws.{head-refused, head-good}
-use borrow.Author.Rules.{rules}
 use Rattle.judgement.proofs.head_answer.Goals as goal
 
 pub returns-then-head-ne0 : goal.returns-then-head-ne0

@@ -5,7 +5,6 @@ use Rattle.rules.specs.definitions.SoundModel.{Bytes}
 use Rattle.answer.specs.AnsweredLaws.{refusal-as}
 use Rattle.judgement.specs.KindsRead.{sound-by, refused-by}
 use Rattle.judgement.specs.VerdictLaws.{refused_as}
-use borrow.Author.Rules.{rules}
 use Rattle.judgement.proofs.judge_files.Goals as goal
 
 pub judge_sound-requires : goal.judge_sound-requires

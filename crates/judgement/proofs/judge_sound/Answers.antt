@@ -2,7 +2,6 @@
 use native.Mathlib.Omega.{arith}
 use Rattle.answer.specs.AnsweredLaws.{without-as, refusal-as}
 use Rattle.judgement.specs.VerdictLaws.{short-as, unaccepted-inside, unaccepted-as, accepted-as}
-use borrow.Author.Rules.{rules}
 use Rattle.judgement.proofs.judge_sound.Goals as goal
 
 pub returns-then-room-n : goal.returns-then-room-n

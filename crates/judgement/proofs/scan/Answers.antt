@@ -1,7 +1,6 @@
 -- `scan` meets its contract: each kind by the reader of its own.
 use mathlib.Core.Path.{sym, ◌∙◌}
 use Rattle.judgement.specs.KindsRead.{scans-costs, scans-whole}
-use borrow.Author.Rules.{rules}
 use Rattle.judgement.proofs.scan.Goals as goal
 
 pub returns-then-has_costs : goal.returns-then-has_costs

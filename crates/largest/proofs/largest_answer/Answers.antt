@@ -3,7 +3,6 @@ use mathlib.Core.Path.{sym, ◌∙◌}
 use Rattle.bisimulation.proofs.argument.ChoiceLaws.{false-not}
 use Rattle.largest_pair.proofs.argument.LargestAnswerLaws.{inside-within}
 use Rattle.largest.specs.LargestLaws.{outside-refused}
-use borrow.Author.Rules.{rules}
 use Rattle.largest.proofs.largest_answer.Goals as goal
 
 pub returns-then-outside : goal.returns-then-outside

@@ -1,11 +1,9 @@
 -- `write_against` meets its contract. The invariant is `Repeating`.
 use native.Mathlib.Omega.{arith}
 use Rattle.writer.specs.AppendsLaws.{appended-as}
-use Rattle.largest_pair.specs.definitions.LargestPair.{stays}
 use Rattle.rules.specs.definitions.Encoding.{flow_bytes}
 use Rattle.largest_pair.proofs.argument.LargestLaws.{flow-length}
-use Rattle.largest.specs.Repeated.{Repeating, list-repeated, repeating-start, repeating-room, repeating-turn, repeating-end}
-use borrow.Author.Rules.{rules}
+use Rattle.largest.specs.Repeated.{list-repeated, repeating-start, repeating-room, repeating-turn, repeating-end}
 use Rattle.largest.proofs.write_against.Goals as goal
 
 pub loop-left-init : goal.loop-left-init

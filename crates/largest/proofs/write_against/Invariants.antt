@@ -1,11 +1,7 @@
 -- `write_against` meets its contract. The invariant is `Repeating`.
-use native.Mathlib.Omega.{arith}
-use Rattle.writer.specs.AppendsLaws.{appended-as}
 use Rattle.largest_pair.specs.definitions.LargestPair.{stays}
 use Rattle.rules.specs.definitions.Encoding.{flow_bytes}
-use Rattle.largest_pair.proofs.argument.LargestLaws.{flow-length}
-use Rattle.largest.specs.Repeated.{Repeating, list-repeated, repeating-start, repeating-room, repeating-turn, repeating-end}
-use borrow.Author.Rules.{rules}
+use Rattle.largest.specs.Repeated.{Repeating}
 use Rattle.largest.proofs.write_against.Given as goal
 
 abbrev pub invariant-loop-left : goal.invariant-loop-left

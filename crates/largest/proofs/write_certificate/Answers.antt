@@ -2,7 +2,6 @@
 use native.Mathlib.Omega.{arith}
 use Rattle.largest_pair.proofs.argument.LargestLaws.{length-zeros}
 use Rattle.largest.specs.LargestLaws.{certificate-written}
-use borrow.Author.Rules.{rules}
 use Rattle.largest.proofs.write_certificate.Goals as goal
 
 pub write_flows-requires : goal.write_flows-requires

@@ -1,6 +1,5 @@
 -- `write_flow` meets its contract: each piece stands behind the one before it.
 use Rattle.largest.specs.LargestLaws.{flow-written}
-use borrow.Author.Rules.{rules}
 use Rattle.largest.proofs.write_flow.Goals as goal
 
 pub returns : goal.returns

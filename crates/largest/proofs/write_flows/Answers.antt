@@ -1,8 +1,7 @@
 -- `write_flows` meets its contract. The invariant is `Against`.
 use Prim.Native.Nat.{◌-◌}
 use native.Mathlib.Omega.{arith}
-use Rattle.largest.specs.LargestLaws.{Against, against-start, against-room, against-turn, against-end}
-use borrow.Author.Rules.{rules}
+use Rattle.largest.specs.LargestLaws.{against-start, against-room, against-turn, against-end}
 use Rattle.largest.proofs.write_flows.Goals as goal
 
 pub loop-t-init : goal.loop-t-init

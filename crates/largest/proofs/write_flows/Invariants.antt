@@ -1,8 +1,6 @@
 -- `write_flows` meets its contract. The invariant is `Against`.
 use Prim.Native.Nat.{◌-◌}
-use native.Mathlib.Omega.{arith}
-use Rattle.largest.specs.LargestLaws.{Against, against-start, against-room, against-turn, against-end}
-use borrow.Author.Rules.{rules}
+use Rattle.largest.specs.LargestLaws.{Against}
 use Rattle.largest.proofs.write_flows.Given as goal
 
 abbrev pub invariant-loop-t : goal.invariant-loop-t

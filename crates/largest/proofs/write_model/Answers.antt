@@ -3,7 +3,6 @@ use native.Mathlib.Omega.{arith}
 use Rattle.rules.specs.definitions.Bytes.{two_bytes}
 use Rattle.largest_pair.proofs.argument.LargestLaws.{length-zeros}
 use Rattle.largest.specs.LargestLaws.{model-written}
-use borrow.Author.Rules.{rules}
 use Rattle.largest.proofs.write_model.Goals as goal
 
 pub write_zeros-records-requires : goal.write_zeros-records-requires

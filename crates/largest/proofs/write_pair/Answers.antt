@@ -2,7 +2,6 @@
 use mathlib.Core.Path.{refl}
 use native.Mathlib.Omega.{arith}
 use Rattle.largest.specs.LargestLaws.{flows-fit, model-short, certificate-short, pair-written}
-use borrow.Author.Rules.{rules}
 use Rattle.largest.proofs.write_pair.Goals as goal
 
 pub overflow_mul-certificate_size : goal.overflow_mul-certificate_size

@@ -5,8 +5,7 @@ use Rattle.writer.specs.AppendsLaws.{appended-as, append-more}
 use Rattle.largest_pair.specs.definitions.LargestPair.{self_loop}
 use Rattle.rules.specs.definitions.Bytes.{two_bytes}
 use Rattle.rules.specs.definitions.Model.{entries_bytes, transition_bytes}
-use Rattle.largest.specs.Repeated.{Repeating, transitions-repeated, repeating-start, repeating-room, repeating-turn, repeating-end}
-use borrow.Author.Rules.{rules}
+use Rattle.largest.specs.Repeated.{transitions-repeated, repeating-start, repeating-room, repeating-turn, repeating-end}
 use Rattle.largest.proofs.write_transitions.Goals as goal
 
 pub loop-left-init : goal.loop-left-init

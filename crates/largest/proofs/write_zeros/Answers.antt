@@ -1,10 +1,8 @@
 -- `write_zeros` meets its contract. The invariant is `Repeating`.
 use mathlib.Core.Path.{refl}
-use mathlib.Core.List.{[], ◌∷◌}
 use native.Mathlib.Omega.{arith}
 use Rattle.writer.specs.AppendsLaws.{appended-as}
-use Rattle.largest.specs.Repeated.{Repeating, zeros-repeated, repeating-start, repeating-room, repeating-turn, repeating-end}
-use borrow.Author.Rules.{rules}
+use Rattle.largest.specs.Repeated.{zeros-repeated, repeating-start, repeating-room, repeating-turn, repeating-end}
 use Rattle.largest.proofs.write_zeros.Goals as goal
 
 pub loop-left-init : goal.loop-left-init

@@ -1,10 +1,6 @@
 -- `write_zeros` meets its contract. The invariant is `Repeating`.
-use mathlib.Core.Path.{refl}
 use mathlib.Core.List.{[], ◌∷◌}
-use native.Mathlib.Omega.{arith}
-use Rattle.writer.specs.AppendsLaws.{appended-as}
-use Rattle.largest.specs.Repeated.{Repeating, zeros-repeated, repeating-start, repeating-room, repeating-turn, repeating-end}
-use borrow.Author.Rules.{rules}
+use Rattle.largest.specs.Repeated.{Repeating}
 use Rattle.largest.proofs.write_zeros.Given as goal
 
 abbrev pub invariant-loop-left : goal.invariant-loop-left

@@ -1,11 +1,8 @@
 -- `block_count` meets its contract. The invariant: the count of the blocks passed.
-use native.Mathlib.Omega.{arith}
-use Prim.Native.Nat.{ℕ, ◌≤◌}
-use mathlib.Core.Path.{◌≡◌, sym, ◌∙◌, ap}
+use Prim.Native.Nat.{◌≤◌}
+use mathlib.Core.Path.{◌≡◌}
 use lib.ListN.{length, drop}
 use Rattle.rules.specs.definitions.BlockCount.{block_count}
-use Rattle.merged_model.specs.LabelsLaws.{count-end, count-with-turn}
-use borrow.Author.Rules.{rules}
 use Rattle.merged_model.proofs.block_count.Given as goal
 
 abbrev pub invariant-loop-left : goal.invariant-loop-left

@@ -2,7 +2,6 @@
 use native.Mathlib.Omega.{arith}
 use mathlib.Core.Path.{refl}
 use Rattle.bisimulation.proofs.argument.ChoiceLaws.{less, not_less}
-use borrow.Author.Rules.{rules}
 use Rattle.merged_model.proofs.count_with.Goals as goal
 
 pub returns-then-block-count : goal.returns-then-block-count

@@ -1,12 +1,9 @@
 -- `label_of` meets its contract. The invariant: the states left have the label of all.
 use native.Mathlib.Omega.{arith}
-use Prim.Native.Nat.{ℕ, ◌+◌, ◌-◌, ◌≤◌}
-use mathlib.Core.Path.{◌≡◌, refl, sym, ◌∙◌, ap}
-use lib.ListN.{length, drop}
+use Prim.Native.Nat.{◌-◌}
+use mathlib.Core.Path.{refl, ◌∙◌}
 use Rattle.bisimulation.proofs.argument.ChoiceLaws.{via, same, not_same}
-use Rattle.quotient.specs.definitions.Quotient.{label_of_block}
 use Rattle.merged_model.specs.LabelsLaws.{label-turn, label-end}
-use borrow.Author.Rules.{rules}
 use Rattle.merged_model.proofs.label_of.Goals as goal
 
 pub loop-v-init : goal.loop-v-init

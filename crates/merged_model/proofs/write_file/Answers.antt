@@ -2,7 +2,6 @@
 use native.Mathlib.Omega.{arith}
 use mathlib.Core.Path.{refl}
 use Rattle.merged_model.specs.FileLaws.{blocks-known, small, can-write-parts, file-written, file-short}
-use borrow.Author.Rules.{rules}
 use Rattle.merged_model.proofs.write_file.Goals as goal
 
 pub write_transitions-kept-requires : goal.write_transitions-kept-requires

@@ -1,12 +1,11 @@
 -- `write_labels` meets its contract. The invariant: the labels of the blocks before b are appended.
 use native.Mathlib.Omega.{arith}
-use Prim.Native.Nat.{ℕ, ◌+◌, ◌-◌, ◌≤◌}
-use mathlib.Core.Path.{◌≡◌, sym, ◌∙◌, ap, subst}
+use Prim.Native.Nat.{ℕ, ◌-◌}
+use mathlib.Core.Path.{◌≡◌, subst}
 use Rattle.quotient.specs.definitions.Quotient.{block_labels}
 use Rattle.writer.specs.Appends.{Appends}
 use Rattle.writer.specs.AppendsLaws.{append-none}
 use Rattle.merged_model.specs.LabelsLaws.{labels_append}
-use borrow.Author.Rules.{rules}
 use Rattle.merged_model.proofs.write_labels.Goals as goal
 
 pub loop-b-init : goal.loop-b-init

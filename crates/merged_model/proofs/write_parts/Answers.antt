@@ -2,8 +2,7 @@
 use native.Mathlib.Omega.{arith}
 use mathlib.Core.Path.{sym}
 use lib.Seq.{length-take-le}
-use Rattle.merged_model.specs.FileLaws.{parts-few, actions-few, labels-fit, labels-inside, can_write, parts-written}
-use borrow.Author.Rules.{rules}
+use Rattle.merged_model.specs.FileLaws.{parts-few, actions-few, labels-fit, can_write, parts-written}
 use Rattle.merged_model.proofs.write_parts.Goals as goal
 
 pub write_labels-requires : goal.write_labels-requires

@@ -1,9 +1,7 @@
 -- `add_weights` meets its contract. The invariant is `Adding`.
 use native.Mathlib.Omega.{arith}
 use mathlib.Core.Path.{refl}
-use borrow.Author.Rules.{rules}
-use Rattle.transition.specs.Known.{entries_of}
-use Rattle.merged_transition.specs.WeightsLaws.{Adding, walking-state, walking-block, adding-start, adding-fits, adding-turn, adding-end, adding-few}
+use Rattle.merged_transition.specs.WeightsLaws.{walking-state, walking-block, adding-start, adding-fits, adding-turn, adding-end, adding-few}
 use Rattle.merged_transition.proofs.add_weights.Goals as goal
 
 pub loop-left-init : goal.loop-left-init

@@ -1,7 +1,6 @@
 -- `block_of` meets its contract: a byte is below 256.
 use mathlib.Core.Path.{refl}
 use native.Mathlib.Omega.{arith}
-use borrow.Author.Rules.{rules}
 use Rattle.merged_transition.proofs.block_of.Goals as goal
 
 pub overflow_cast-result : goal.overflow_cast-result

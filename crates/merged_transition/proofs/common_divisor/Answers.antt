@@ -1,8 +1,6 @@
 -- `common_divisor` meets its contract. The invariant is `Dividing`.
 use native.Mathlib.Omega.{arith}
-use Rattle.transition.specs.Known.{entries_of}
-use borrow.Author.Rules.{rules}
-use Rattle.merged_transition.specs.WeightsLaws.{walking-state, walking-block, Dividing, dividing-start, dividing-turn, dividing-end, dividing-one}
+use Rattle.merged_transition.specs.WeightsLaws.{walking-state, walking-block, dividing-start, dividing-turn, dividing-end, dividing-one}
 use Rattle.merged_transition.proofs.common_divisor.Goals as goal
 
 pub loop-left-init : goal.loop-left-init

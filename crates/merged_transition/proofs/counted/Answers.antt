@@ -1,11 +1,10 @@
 -- `counted` meets its contract.
 -- a block has an entry where it has a weight
-use mathlib.Core.Path.{◌≡◌, refl, sym}
+use mathlib.Core.Path.{◌≡◌, refl}
 use Prim.Native.Nat.{ℕ}
 use native.Mathlib.Omega.{arith}
 use Rattle.bisimulation.specs.definitions.Choice.{if_same}
 use Rattle.bisimulation.proofs.argument.ChoiceLaws.{same, not_same}
-use borrow.Author.Rules.{rules}
 use Rattle.merged_transition.proofs.counted.Goals as goal
 
 no-entry : {weight : ℕ} → weight ≡ 0 → ◌≡◌ {A = ℕ} 0 (if_same weight 0 0 1)

@@ -2,7 +2,6 @@
 use mathlib.Core.Path.{◌≡◌, sym, ◌∙◌, ap}
 use Prim.Native.Nat.{ℕ, ◌/◌}
 use native.Mathlib.Nat.{div-one}
-use borrow.Author.Rules.{rules}
 use Rattle.merged_transition.proofs.divided.Goals as goal
 
 by_one : (x : ℕ) {g : ℕ} → g ≡ 1 → x ≡ x / g

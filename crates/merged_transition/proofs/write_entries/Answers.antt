@@ -2,7 +2,7 @@
 use native.Mathlib.Omega.{arith}
 use mathlib.Core.Path.{refl}
 use Prim.Native.Nat.{◌-◌}
-use Rattle.merged_transition.specs.WeightsLaws.{Writing, writing_start, writing-asks, writing-turn, writing-end, writing-full}
+use Rattle.merged_transition.specs.WeightsLaws.{writing_start, writing-asks, writing-turn, writing-end, writing-full}
 use Rattle.merged_transition.proofs.write_entries.Goals as goal
 
 pub overflow_mul-end : goal.overflow_mul-end

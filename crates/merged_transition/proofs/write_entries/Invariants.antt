@@ -1,8 +1,6 @@
 -- `write_entries` meets its contract. The invariant is `Writing`.
-use native.Mathlib.Omega.{arith}
-use mathlib.Core.Path.{refl}
 use Prim.Native.Nat.{◌-◌}
-use Rattle.merged_transition.specs.WeightsLaws.{Writing, writing_start, writing-asks, writing-turn, writing-end, writing-full}
+use Rattle.merged_transition.specs.WeightsLaws.{Writing}
 use Rattle.merged_transition.proofs.write_entries.Given as goal
 
 abbrev pub invariant-loop-b : goal.invariant-loop-b

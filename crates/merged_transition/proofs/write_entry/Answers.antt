@@ -1,7 +1,6 @@
 -- `write_entry` meets its contract: a block without a weight has no entry.
 use native.Mathlib.Omega.{arith}
 use Rattle.merged_transition.specs.WeightsLaws.{entry-room, divided-light, wrote_none, wrote-some}
-use borrow.Author.Rules.{rules}
 use Rattle.merged_transition.proofs.write_entry.Goals as goal
 
 pub returns-then-weight-eq0 : goal.returns-then-weight-eq0

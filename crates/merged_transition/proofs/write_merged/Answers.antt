@@ -5,7 +5,6 @@ use native.Mathlib.Nat.{div-le_self}
 use mathlib.Core.Path.{◌∙◌}
 use Rattle.transition.specs.KnownLaws.{few-states, fields-small}
 use Rattle.merged_transition.specs.MergedTransitionLaws.{merging-adds, merging-divides, count_small, divisor-positive, merging-writes, merged-done}
-use borrow.Author.Rules.{rules}
 use Rattle.merged_transition.proofs.write_merged.Goals as goal
 
 pub add_weights-count-requires : goal.add_weights-count-requires

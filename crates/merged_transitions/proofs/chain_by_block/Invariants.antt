@@ -1,10 +1,6 @@
 -- `chain_by_block` meets its contract. The invariant: the transitions from r on are chained.
-use native.Mathlib.Omega.{arith}
-use Prim.Native.Nat.{◌-◌, ◌≤◌, ◌<◌}
-use Rattle.rules.specs.definitions.Limits.{limits}
-use Rattle.transition.specs.KnownLaws.{few-transitions, known-transition}
+use Prim.Native.Nat.{◌-◌, ◌≤◌}
 use Rattle.merged_transitions.specs.MergedTransitions.{Chained}
-use Rattle.merged_transitions.specs.ChainsLaws.{chained-at, one-more-chained, block-found, block-known, block-few}
 use Rattle.merged_transitions.proofs.chain_by_block.Given as goal
 
 abbrev pub invariant-loop-r : goal.invariant-loop-r

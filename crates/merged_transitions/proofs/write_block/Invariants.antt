@@ -1,13 +1,9 @@
 -- `write_block` meets its contract. The invariant: those of the block among the first r transitions stand behind the blocks before, and r is of the block.
-use native.Mathlib.Omega.{arith}
-use Prim.Native.Nat.{◌+◌, ◌-◌, ◌≤◌, ◌<◌}
-use mathlib.Core.Path.{◌≡◌, refl}
-use lib.ListN.{length, get_or}
-use Rattle.transition.specs.KnownLaws.{few-transitions}
+use Prim.Native.Nat.{◌-◌, ◌≤◌, ◌<◌}
+use mathlib.Core.Path.{◌≡◌}
+use lib.ListN.{length}
 use Rattle.merged_transition.specs.MergedTransition.{NoWeights}
-use Rattle.merged_transitions.specs.MergedTransitions.{block_of_source, IsFirst, InBlock}
-use Rattle.merged_transitions.specs.ChainsLaws.{behind}
-use Rattle.merged_transitions.specs.MergedTransitionsLaws.{count-is, skip-others, block-begins, block-ends}
+use Rattle.merged_transitions.specs.MergedTransitions.{block_of_source, InBlock}
 use Rattle.merged_transitions.proofs.write_block.Given as goal
 
 abbrev pub invariant-loop-r : goal.invariant-loop-r

@@ -1,10 +1,8 @@
 -- `write_transitions` meets its contract. The invariant: the transitions of the blocks before the next one stand in the buffer.
 use native.Mathlib.Omega.{arith}
-use Prim.Native.Nat.{ℕ, ◌-◌, ◌≤◌}
+use Prim.Native.Nat.{ℕ, ◌-◌}
 use mathlib.Core.Path.{◌≡◌, refl, subst}
-use lib.ListN.{length}
 use Rattle.transition.specs.KnownLaws.{few-transitions}
-use Rattle.merged_transition.specs.MergedTransition.{NoWeights}
 use Rattle.merged_transitions.specs.MergedTransitions.{transitions_in, before, Holds}
 use Rattle.merged_transitions.specs.ChainsLaws.{none-chained}
 use Rattle.merged_transitions.specs.MergedTransitionsLaws.{none-held}

@@ -1,13 +1,9 @@
 -- `write_transitions` meets its contract. The invariant: the transitions of the blocks before the next one stand in the buffer.
-use native.Mathlib.Omega.{arith}
-use Prim.Native.Nat.{ℕ, ◌-◌, ◌≤◌}
-use mathlib.Core.Path.{◌≡◌, refl, subst}
+use Prim.Native.Nat.{◌-◌, ◌≤◌}
+use mathlib.Core.Path.{◌≡◌}
 use lib.ListN.{length}
-use Rattle.transition.specs.KnownLaws.{few-transitions}
 use Rattle.merged_transition.specs.MergedTransition.{NoWeights}
 use Rattle.merged_transitions.specs.MergedTransitions.{transitions_in, before, Holds}
-use Rattle.merged_transitions.specs.ChainsLaws.{none-chained}
-use Rattle.merged_transitions.specs.MergedTransitionsLaws.{none-held}
 use Rattle.merged_transitions.proofs.write_transitions.Given as goal
 
 abbrev pub invariant-loop-block : goal.invariant-loop-block

@@ -1,9 +1,9 @@
 -- `scan_model` meets its contract: the labels and the transitions in the order of `scan_model`.
 use Rattle.rules.proofs.argument.ReadingLaws.{refuse-stops, refuse-passes, head-terms, labels-terms, head_passed, labels-passed}
-use Rattle.rules.specs.definitions.Reading.{Scan, refused, scan_transitions, scan_model, labels_fault}
+use Rattle.rules.specs.definitions.Reading.{refused, scan_transitions, scan_model, labels_fault}
 use Rattle.rules.specs.definitions.Limits.{limits}
 use Prim.Native.Nat.{ℕ, ◌+◌}
-use mathlib.Core.Path.{refl, sym, ◌∙◌, ap}
+use mathlib.Core.Path.{sym, ◌∙◌, ap}
 use native.Mathlib.Omega.{arith}
 use Rattle.limits.specs.TermsBy.{limits_by}
 use Rattle.fault.specs.Faults.{fault_of}

@@ -2,7 +2,6 @@
 -- what is known before each record: the places so far, and that the scan of what is left is the whole scan
 use borrow.Author.Rules.{rules}
 use Rattle.model.specs.Places.{none-held, one-more-held}
-use Rattle.limits.specs.Sizes as sizes
 use Rattle.limits.specs.TermsBy.{limits_by}
 use Rattle.limits.specs.declared.Terms.{Terms}
 use Rattle.rules.specs.definitions.Faults as rules
@@ -12,9 +11,8 @@ use Rattle.fault.specs.declared.Fault.{Fault}
 use Rattle.model.specs.Scanned.{PlacesHeld, scans}
 use Rattle.rules.proofs.argument.ReadingLaws.{scan_transitions-turn, scan_transitions-end, refuse-stops, refuse-passes, transition-passed, place_of-next}
 use Rattle.rules.specs.definitions.Reading.{Scan, refused, scan_transitions, place_of, after_transition}
-use Rattle.rules.specs.definitions.Limits.{limits}
 use lib.ListN.{length, set, length-set}
-use Prim.Native.Nat.{ℕ, ◌+◌, ◌*◌, ◌-◌, ◌≤◌, ◌<◌}
+use Prim.Native.Nat.{ℕ, ◌+◌, ◌-◌, ◌<◌}
 use mathlib.Core.List.{List}
 use mathlib.Core.Path.{◌≡◌, refl, sym, ◌∙◌, ap, subst}
 use Rattle.bisimulation.proofs.argument.ChoiceLaws.{via}

@@ -4,7 +4,6 @@ use Rattle.bisimulation.proofs.argument.ChoiceLaws.{via}
 use Rattle.rules.specs.definitions.Reading.{scan_whole, refuse_bytes_left}
 use Rattle.model.specs.Scanned.{scan_of, PlacesOf, scans, left-held}
 use Rattle.model.specs.declared.Scanned.{Scanned}
-use borrow.Author.Rules.{rules}
 use Rattle.model.proofs.scan_whole.Goals as goal
 
 pub returns-in-Sound : goal.returns-in-Sound

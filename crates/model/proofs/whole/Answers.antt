@@ -3,7 +3,6 @@ use native.Mathlib.Omega.{arith}
 use mathlib.Core.Path.{refl, ◌∙◌, ap₂}
 use Rattle.bisimulation.proofs.argument.ChoiceLaws.{less, not_less}
 use Rattle.rules.specs.definitions.Reading.{refused, refuse_bytes_left}
-use borrow.Author.Rules.{rules}
 use Rattle.model.proofs.whole.Goals as goal
 
 pub returns-then-m-s : goal.returns-then-m-s

@@ -2,7 +2,6 @@
 use Rattle.field.specs.Taken.{taken_at}
 use native.Mathlib.Omega.{arith}
 use Rattle.rules.specs.definitions.Reading.{states_of, actions_of, count_of}
-use borrow.Author.Rules.{rules}
 use Rattle.model_head.proofs.head_at.Goals as goal
 
 pub returns : goal.returns

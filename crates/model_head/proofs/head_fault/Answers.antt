@@ -1,5 +1,4 @@
 -- `head_fault` meets its contract: the record is opened, then its ranges are judged.
-use native.Mathlib.Omega.{arith}
 use mathlib.Core.Path.{◌∙◌}
 use Rattle.rules.specs.definitions.Limits.{limits}
 use Rattle.rules.specs.definitions.Faults.{model_record}
@@ -7,7 +6,6 @@ use Rattle.rules.proofs.argument.FaultLaws.{first_stops, first_passes, model-ref
 use Rattle.fault.specs.FaultsLaws.{none_is, placed-as}
 use Rattle.rules.specs.definitions.Reading.{head_fault, range_fault}
 use Rattle.model_head.specs.HeadLaws.{of-head}
-use borrow.Author.Rules.{rules}
 use Rattle.model_head.proofs.head_fault.Goals as goal
 
 pub returns-then-opened-ne0 : goal.returns-then-opened-ne0

@@ -4,9 +4,8 @@ use Rattle.bisimulation.proofs.argument.ChoiceLaws.{via, less, not_less}
 use Rattle.rules.specs.definitions.Limits.{limits}
 use Rattle.rules.specs.definitions.Reading.{label_fault}
 use Rattle.rules.proofs.argument.ReadingLaws.{label_fault-end, label_fault-turn}
-use Prim.Native.Nat.{ℕ, ◌+◌, ◌-◌}
-use mathlib.Core.Path.{◌≡◌, refl, ◌∙◌, ap}
-use borrow.Author.Rules.{rules}
+use Prim.Native.Nat.{◌+◌, ◌-◌}
+use mathlib.Core.Path.{◌≡◌, ◌∙◌, ap}
 use Rattle.model_head.proofs.label_fault.Goals as goal
 
 pub loop-left-init : goal.loop-left-init

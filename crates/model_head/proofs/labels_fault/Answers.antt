@@ -1,11 +1,9 @@
 -- `labels_fault` meets its contract: the record is opened, then its labels are judged.
 use native.Mathlib.Omega.{arith}
-use mathlib.Core.Path.{◌∙◌}
 use Rattle.rules.specs.definitions.Faults.{model_record}
 use Rattle.rules.proofs.argument.FaultLaws.{first_stops, first_passes, model-refuses, opened}
 use Rattle.fault.specs.FaultsLaws.{none_is, placed-as}
 use Rattle.rules.specs.definitions.Reading.{labels_fault}
-use borrow.Author.Rules.{rules}
 use Rattle.model_head.proofs.labels_fault.Goals as goal
 
 pub returns-then-opened-ne0 : goal.returns-then-opened-ne0

@@ -2,7 +2,6 @@
 use native.Mathlib.Omega.{arith}
 use Rattle.bisimulation.proofs.argument.ChoiceLaws.{less, not_less}
 use Rattle.rules.specs.definitions.Reading.{range_fault}
-use borrow.Author.Rules.{rules}
 use Rattle.model_head.proofs.range_fault.Goals as goal
 
 pub returns-then-n-eq0 : goal.returns-then-n-eq0

@@ -1,5 +1,4 @@
 -- `same_in` meets its contract: both words have the same bits.
-use borrow.Author.Tests.{not-true, not-false}
 use Rattle.pairs.specs.RowsLaws.{first-differs, words_same}
 use native.Mathlib.Omega.{arith}
 use Rattle.pairs.proofs.same_in.Goals as goal

@@ -3,7 +3,6 @@ use mathlib.Core.Path.{refl}
 use native.Mathlib.Omega.{arith}
 use Rattle.sentences.specs.definitions.Phrases.{bytes_of, phrases, other_phrase}
 use Rattle.phrases.specs.Table.{rows, table_of, lengths_of}
-use borrow.Author.Rules.{rules}
 use Rattle.phrases.proofs.write_phrase.Goals as goal
 
 pub write_row-requires : goal.write_row-requires

@@ -4,7 +4,6 @@ use lib.ListN.{length}
 use native.Mathlib.Omega.{arith}
 use Rattle.writer.specs.AppendsLaws.{appended-as}
 use Rattle.phrases.specs.TableLaws.{row_below, row-holds}
-use borrow.Author.Rules.{rules}
 use Rattle.phrases.proofs.write_row.Goals as goal
 
 pub overflow_mul-start : goal.overflow_mul-start

@@ -1,11 +1,8 @@
 -- `write_entries` meets its contract. The invariant is `ChangingEntries`.
 use Prim.Native.Nat.{ℕ, ◌+◌, ◌*◌}
 use mathlib.Core.Path.{ap}
-use mathlib.Core.List.{map}
 use native.Mathlib.Omega.{arith}
-use Rattle.rules.specs.definitions.Model.{entries_bytes}
-use Rattle.rules.specs.definitions.Reading.{entries_at}
-use Rattle.writer.specs.ChangedRecords.{ChangingEntries, entries-start, entries_fit, entries-turn, entries-end}
+use Rattle.writer.specs.ChangedRecords.{entries-start, entries-turn, entries-end}
 use Rattle.placed_entries.specs.Placed.{placed_entry}
 use Rattle.placed_entries.specs.PlacedLaws.{next_fits}
 use Rattle.placed_entries.proofs.write_entries.Goals as goal

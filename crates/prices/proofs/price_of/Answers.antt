@@ -5,7 +5,6 @@ use mir.Syntax.{w32, w64}
 use mir.Val.{of_z}
 use mir.Facts.{to_z-of_z}
 use Rattle.prices.specs.Prices.{price_in}
-use borrow.Author.Rules.{rules}
 use Rattle.prices.specs.PricesLaws.{four-fit}
 use Rattle.prices.proofs.price_of.Goals as goal
 

@@ -1,11 +1,8 @@
 -- `prices_at` meets its contract. The invariant: the table holds the prices before i.
-use native.Mathlib.Omega.{arith}
-use Prim.Native.Nat.{ℕ, ◌+◌, ◌*◌, ◌-◌, ◌≤◌}
-use mathlib.Core.Path.{◌≡◌, ap, subst}
+use Prim.Native.Nat.{◌+◌, ◌*◌, ◌-◌, ◌≤◌}
+use mathlib.Core.Path.{◌≡◌}
 use Rattle.rules.specs.definitions.Bytes.{signed_at}
 use Rattle.prices.specs.Prices.{HoldsPrices}
-use Rattle.prices.specs.PricesLaws.{none-held, read_fits, read_held}
-use borrow.Author.Rules.{rules}
 use Rattle.prices.proofs.prices_at.Given as goal
 
 abbrev pub invariant-loop-i : goal.invariant-loop-i

@@ -1,11 +1,8 @@
 -- `sums_of` meets its contract. The invariant is `SummingBoth`.
 use mathlib.Core.Path.{refl}
 use native.Mathlib.Omega.{arith}
-use Rattle.rules.specs.definitions.Reading.{entries_at}
-use Rattle.prices.specs.Adding.{SummingBoth}
 use Rattle.prices.specs.PricesLaws.{summing_start, summing-back, summing-end}
 use Rattle.prices.specs.AddingLaws.{adds_then, ready, ready-then}
-use borrow.Author.Rules.{rules}
 use Rattle.prices.proofs.sums_of.Goals as goal
 
 pub loop-left-init : goal.loop-left-init

@@ -1,6 +1,5 @@
 -- `with_rest` meets its contract.
 use native.Mathlib.Omega.{arith}
-use borrow.Author.Rules.{rules}
 use Rattle.prices.specs.AddingLaws.{adds_then, ready-fewer, ready-then}
 use Rattle.prices.proofs.with_rest.Goals as goal
 

@@ -3,7 +3,6 @@ use native.Mathlib.Omega.{arith}
 use native.Mathlib.Nat.{div-le_self}
 use Rattle.rules.specs.definitions.Bytes.{two_bytes}
 use Rattle.prism_choice.specs.TargetsLaws.{choice-written}
-use borrow.Author.Rules.{rules}
 use Rattle.prism_choice.proofs.write_choice.Goals as goal
 
 pub fixed-entries-requires : goal.fixed-entries-requires

@@ -1,6 +1,6 @@
 -- `write_targets` meets its contract. The invariant: the entries of the targets before i are appended.
 use native.Mathlib.Omega.{arith}
-use Prim.Native.Nat.{ℕ, ◌+◌, ◌*◌, ◌-◌, ◌≤◌}
+use Prim.Native.Nat.{ℕ, ◌-◌}
 use mathlib.Core.Path.{◌≡◌, subst}
 use Rattle.rules.specs.definitions.Bytes.{two_bytes}
 use Rattle.writer.specs.Appends.{Appends}

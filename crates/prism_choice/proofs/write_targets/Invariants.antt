@@ -1,10 +1,8 @@
 -- `write_targets` meets its contract. The invariant: the entries of the targets before i are appended.
-use native.Mathlib.Omega.{arith}
-use Prim.Native.Nat.{ℕ, ◌+◌, ◌*◌, ◌-◌, ◌≤◌}
-use mathlib.Core.Path.{◌≡◌, subst}
-use Rattle.rules.specs.definitions.Bytes.{two_bytes}
+use Prim.Native.Nat.{◌+◌, ◌*◌, ◌-◌, ◌≤◌}
+use mathlib.Core.Path.{◌≡◌}
 use Rattle.writer.specs.Appends.{Appends}
-use Rattle.prism_choice.specs.TargetsLaws.{divided_bytes, target_fits, divided-none, divided-more}
+use Rattle.prism_choice.specs.TargetsLaws.{divided_bytes}
 use Rattle.prism_choice.proofs.write_targets.Given as goal
 
 abbrev pub invariant-loop-i : goal.invariant-loop-i

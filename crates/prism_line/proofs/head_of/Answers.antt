@@ -3,7 +3,6 @@ use mathlib.Core.Path.{refl}
 use native.Mathlib.Omega.{arith}
 use Rattle.bisimulation.proofs.argument.ChoiceLaws.{less, not_less}
 use Rattle.prism_line.specs.LineParts.{head_within}
-use borrow.Author.Rules.{rules}
 use Rattle.prism_line.proofs.head_of.Goals as goal
 
 pub returns-then-states-gt-STATES : goal.returns-then-states-gt-STATES

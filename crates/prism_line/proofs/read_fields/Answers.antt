@@ -3,7 +3,6 @@ use mathlib.Core.Path.{sym}
 use lib.Seq.{length-take-le}
 use native.Mathlib.Omega.{arith}
 use Rattle.prism_line.specs.LineLaws.{three-fields, four-fields, five-fields, no_fields}
-use borrow.Author.Rules.{rules}
 use Rattle.prism_line.proofs.read_fields.Goals as goal
 
 pub slice_bounds-number-end : goal.slice_bounds-number-end

@@ -3,7 +3,6 @@ use mathlib.Core.Path.{sym}
 use lib.Seq.{length-take-le}
 use native.Mathlib.Omega.{arith}
 use Rattle.prism_line.specs.LineLaws.{head-one, head-two, fields-two, head-fields}
-use borrow.Author.Rules.{rules}
 use Rattle.prism_line.proofs.read_head.Goals as goal
 
 pub returns-then-first-s : goal.returns-then-first-s

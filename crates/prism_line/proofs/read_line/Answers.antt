@@ -1,6 +1,5 @@
 -- `read_line` meets its contract: one field, two, or more.
 use Rattle.prism_line.specs.LineLaws.{one_field, two_fields, fields-two}
-use borrow.Author.Rules.{rules}
 use Rattle.prism_line.proofs.read_line.Goals as goal
 
 pub returns-then-first-s : goal.returns-then-first-s

@@ -1,9 +1,7 @@
 -- `action_of` meets its contract. The invariant: the name is new to the names before i.
-use native.Mathlib.Omega.{arith}
 use Prim.Native.Nat.{◌-◌, ◌≤◌}
-use mathlib.Core.Path.{sym, ◌∙◌}
 use Rattle.prism_names.specs.Names.{between}
-use Rattle.prism_names.specs.NamesLaws.{NewTo, new_none, new-more, action-none, action-known, action-new}
+use Rattle.prism_names.specs.NamesLaws.{NewTo}
 use Rattle.prism_names.proofs.action_of.Given as goal
 
 abbrev pub invariant-loop-i : goal.invariant-loop-i

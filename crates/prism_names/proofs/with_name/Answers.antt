@@ -1,7 +1,6 @@
 -- `with_name` meets its contract.
 use native.Mathlib.Omega.{arith}
 use Rattle.prism_names.specs.NamesLaws.{name-known, name_new}
-use borrow.Author.Rules.{rules}
 use Rattle.prism_names.proofs.with_name.Goals as goal
 
 pub returns-then-action-count : goal.returns-then-action-count

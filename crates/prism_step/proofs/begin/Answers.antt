@@ -1,11 +1,9 @@
 -- `begin` meets its contract.
 use native.Mathlib.Omega.{arith}
 use mathlib.Core.Path.{refl, sym, ◌∙◌}
-use borrow.Author.Tests.{not-true, not-false}
 use Rattle.bisimulation.proofs.argument.ChoiceLaws.{less, not_less, is_true, is_false}
 use Rattle.prism_step.specs.Progressing.{begins_by}
 use Rattle.prism_step.specs.PartLaws.{not-begun}
-use borrow.Author.Rules.{rules}
 use Rattle.prism_step.proofs.begin.Goals as goal
 
 pub returns-then-not-follows : goal.returns-then-not-follows

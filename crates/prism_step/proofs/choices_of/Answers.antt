@@ -3,7 +3,6 @@ use native.Mathlib.Omega.{arith}
 use mathlib.Core.Path.{refl}
 use Rattle.bisimulation.proofs.argument.ChoiceLaws.{same, not_same}
 use Rattle.prism_step.specs.Progressing.{count_by}
-use borrow.Author.Rules.{rules}
 use Rattle.prism_step.proofs.choices_of.Goals as goal
 
 pub returns-then-p-eq0 : goal.returns-then-p-eq0

@@ -1,7 +1,6 @@
 -- `end_choice` meets its contract: nothing is written, or the record of the choice that has begun.
 use native.Mathlib.Omega.{arith}
 use Rattle.prism_step.specs.PartLaws.{ends-none, ends_some}
-use borrow.Author.Rules.{rules}
 use Rattle.prism_step.proofs.end_choice.Goals as goal
 
 pub returns-then-p-eq0 : goal.returns-then-p-eq0

@@ -4,7 +4,6 @@ use mathlib.Core.Path.{refl}
 use Rattle.bisimulation.proofs.argument.ChoiceLaws.{less, not_less, same, not_same}
 use Rattle.prism_step.specs.Progressing.{extends_by}
 use Rattle.prism_step.specs.PartLaws.{not_extended}
-use borrow.Author.Rules.{rules}
 use Rattle.prism_step.proofs.extend.Goals as goal
 
 pub returns-then-line-p : goal.returns-then-line-p

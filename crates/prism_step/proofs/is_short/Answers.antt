@@ -4,7 +4,6 @@ use mathlib.Core.Path.{refl}
 use Rattle.bisimulation.proofs.argument.ChoiceLaws.{same, not_same, is_true, is_false}
 use Rattle.prism_step.specs.Progressing.{short_by}
 use Rattle.prism_step.specs.PartLaws.{other-is}
-use borrow.Author.Rules.{rules}
 use Rattle.prism_step.proofs.is_short.Goals as goal
 
 pub returns-then-p-eq0 : goal.returns-then-p-eq0

@@ -2,7 +2,6 @@
 use native.Mathlib.Omega.{arith}
 use mathlib.Core.Path.{refl, sym, ◌∙◌}
 use borrow.Author.Rules.{rules}
-use borrow.Author.Tests.{not-true, not-false}
 use Rattle.prism_step.specs.PartLaws.{can-extend, can-begin}
 use Rattle.prism_step.specs.StepLaws.{name-inside, action-next, step-unfit, step-extends, step-begins}
 use Rattle.prism_step.proofs.step.Goals as goal

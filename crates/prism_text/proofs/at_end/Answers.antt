@@ -2,7 +2,6 @@
 use native.Mathlib.Omega.{arith}
 use mathlib.Core.Path.{refl}
 use Rattle.bisimulation.proofs.argument.ChoiceLaws.{same, not_same}
-use borrow.Author.Rules.{rules}
 use Rattle.prism_text.proofs.at_end.Goals as goal
 
 pub returns-then-at-text : goal.returns-then-at-text

@@ -2,11 +2,9 @@
 use native.Mathlib.Omega.{arith}
 use Prim.Native.Nat.{◌-◌}
 use mathlib.Core.Path.{sym, ◌∙◌}
-use lib.ListN.{length}
-use borrow.Author.Rules.{rules}
 use borrow.Author.Tests.{not-true, not-false}
 use Rattle.prism_step.specs.PartLaws.{count-least}
-use Rattle.prism_text.specs.LinesLaws.{Between, lines_start, lines-can-step, lines-short, lines-last, lines-fault, lines-turn}
+use Rattle.prism_text.specs.LinesLaws.{lines_start, lines-can-step, lines-short, lines-last, lines-fault, lines-turn}
 use Rattle.prism_text.proofs.read_lines.Goals as goal
 
 pub loop-head-init : goal.loop-head-init

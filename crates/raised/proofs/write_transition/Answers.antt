@@ -5,7 +5,6 @@ use Rattle.rules.specs.definitions.Bytes.{two_bytes}
 use Rattle.transition.specs.KnownLaws.{fields-small}
 use Rattle.placed_entries.specs.PlacedLaws.{known-placed}
 use Rattle.raised.specs.RaisedLaws.{transition-raised}
-use borrow.Author.Rules.{rules}
 use Rattle.raised.proofs.write_transition.Goals as goal
 
 pub fixed-next-requires : goal.fixed-next-requires

@@ -1,9 +1,8 @@
 -- `write_transitions` meets its contract. The invariant is `Changing`.
 use Prim.Native.Nat.{◌-◌}
 use native.Mathlib.Omega.{arith}
-use Rattle.joined.specs.definitions.Joined.{raised_transition}
-use Rattle.writer.specs.ChangedRecords.{Changing, changing-start, changing-turn, changing-end}
-use Rattle.raised.specs.RaisedLaws.{raised-count, record-asks}
+use Rattle.writer.specs.ChangedRecords.{changing-start, changing-turn, changing-end}
+use Rattle.raised.specs.RaisedLaws.{record-asks}
 use Rattle.raised.proofs.write_transitions.Goals as goal
 
 pub loop-r-init : goal.loop-r-init

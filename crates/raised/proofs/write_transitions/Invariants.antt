@@ -1,9 +1,8 @@
 -- `write_transitions` meets its contract. The invariant is `Changing`.
 use Prim.Native.Nat.{◌-◌}
-use native.Mathlib.Omega.{arith}
 use Rattle.joined.specs.definitions.Joined.{raised_transition}
-use Rattle.writer.specs.ChangedRecords.{Changing, changing-start, changing-turn, changing-end}
-use Rattle.raised.specs.RaisedLaws.{raised-count, record-asks}
+use Rattle.writer.specs.ChangedRecords.{Changing}
+use Rattle.raised.specs.RaisedLaws.{raised-count}
 use Rattle.raised.proofs.write_transitions.Given as goal
 
 abbrev pub invariant-loop-r : goal.invariant-loop-r

@@ -3,7 +3,6 @@ use mathlib.Core.Path.{sym}
 use lib.Seq.{length-take-le}
 use native.Mathlib.Omega.{arith}
 use Rattle.read_prism.specs.PrismLaws.{head-broken, refused_says, lines-refused, lines-held, lines-written}
-use borrow.Author.Rules.{rules}
 use Rattle.read_prism.proofs.read_headed.Goals as goal
 
 pub slice_bounds-read_head-end : goal.slice_bounds-read_head-end

@@ -1,7 +1,6 @@
 -- `read_prism_answer` meets its contract: no line is ended, or the head line is.
 use native.Mathlib.Omega.{arith}
 use Rattle.read_prism.specs.PrismLaws.{unended, refused_says, with-demands}
-use borrow.Author.Rules.{rules}
 use Rattle.read_prism.proofs.read_prism_answer.Goals as goal
 
 pub returns-then-end-text : goal.returns-then-end-text

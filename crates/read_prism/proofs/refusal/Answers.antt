@@ -1,6 +1,5 @@
 -- `refusal` meets its contract.
 use Rattle.read_prism.specs.PrismLaws.{refusal-at}
-use borrow.Author.Rules.{rules}
 use Rattle.read_prism.proofs.refusal.Goals as goal
 
 pub returns : goal.returns

@@ -3,7 +3,6 @@ use mathlib.Core.Path.{refl, sym}
 use lib.Seq.{length-take-le}
 use native.Mathlib.Omega.{arith}
 use Rattle.read_prism.specs.PrismLaws.{zeros-taken, can_write, file-written, file-short}
-use borrow.Author.Rules.{rules}
 use Rattle.read_prism.proofs.write_file.Goals as goal
 
 pub slice_bounds-write_model-end : goal.slice_bounds-write_model-end

@@ -3,7 +3,6 @@ use mathlib.Core.Path.{sym}
 use lib.Seq.{length-take-le}
 use Rattle.prism_step.specs.PartLaws.{can-end}
 use Rattle.read_prism.specs.PrismLaws.{used-inside, can-write-file, held-written}
-use borrow.Author.Rules.{rules}
 use Rattle.read_prism.proofs.write_held.Goals as goal
 
 pub end_choice-used-requires : goal.end_choice-used-requires

@@ -2,7 +2,6 @@
 use native.Mathlib.Omega.{arith}
 use Rattle.rules.proofs.argument.FaultLaws.{open-ends, open-mark, open-cut, open-whole}
 use Rattle.field.specs.Taken.{taken_at}
-use borrow.Author.Rules.{rules}
 use Rattle.record.proofs.open.Goals as goal
 
 pub returns-then-left-lt2 : goal.returns-then-left-lt2

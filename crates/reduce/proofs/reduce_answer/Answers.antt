@@ -4,7 +4,6 @@ use Rattle.rules.specs.definitions.Bytes.{byte_at}
 use Rattle.rules.specs.definitions.SoundModel.{Bytes}
 use Rattle.judgement.specs.VerdictLaws.{found-accepted, found-refused}
 use Rattle.reduce.specs.ReduceLaws.{pair-refused, blocks-numbered, merged-written}
-use borrow.Author.Rules.{rules}
 use Rattle.reduce.proofs.reduce_answer.Goals as goal
 
 pub returns-then-head-ne0 : goal.returns-then-head-ne0

@@ -1,7 +1,5 @@
 -- `write_merged` meets its contract: the file was written, or there was no room for it.
-use native.Mathlib.Omega.{arith}
 use Rattle.answer.specs.AnsweredLaws.{gives-file}
-use borrow.Author.Rules.{rules}
 use Rattle.reduce.proofs.write_merged.Goals as goal
 
 pub write_file-size-requires : goal.write_file-size-requires

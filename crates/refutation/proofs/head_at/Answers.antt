@@ -2,7 +2,6 @@
 use native.Mathlib.Omega.{arith}
 use Rattle.rules.specs.definitions.Certificate.{challenger_at, defender_at}
 use Rattle.field.specs.Taken.{taken_at}
-use borrow.Author.Rules.{rules}
 use Rattle.refutation.proofs.head_at.Goals as goal
 
 pub returns : goal.returns

@@ -1,12 +1,10 @@
 -- `pair_fault` meets its contract: each test in its order.
 use native.Mathlib.Omega.{arith}
 use mathlib.Core.Path.{refl, ◌∙◌}
-use borrow.Author.Tests.{not-true, not-false}
 use Rattle.bisimulation.proofs.argument.ChoiceLaws.{less, not_less, same, not_same, is_true, is_false}
 use Rattle.rules.specs.definitions.Certificate.{pair_fault}
 use Rattle.transition.specs.KnownLaws.{known-states, known-transitions, few-states, known-transition}
 use Rattle.refutation.specs.RefutationLaws.{pair-refused, pair-bit}
-use borrow.Author.Rules.{rules}
 use Rattle.refutation.proofs.pair_fault.Goals as goal
 
 pub returns-then-count-q : goal.returns-then-count-q

@@ -1,13 +1,7 @@
 -- `first_prices_at` meets its contract: one price for every state by the strong rule, a price for each by the others.
 use mathlib.Core.Path.{◌≡◌, refl, ap}
 use mathlib.Core.Bool.{false}
-use mathlib.Core.Logic.{inl, inr}
-use mathlib.Core.List.{[], ◌∷◌}
 use native.Mathlib.Omega.{arith}
-use types.Run.{OneOf}
-use denote.Enum.Declared.{tag_of}
-use borrow.Author.Rules.{rules}
-use Rattle.rule_kind.specs.contracts.Kind.{the_type}
 use Rattle.rule_kind.specs.declared.Kind.{Kind}
 use Rattle.rule_kind.specs.declared.Kind.TheVariants.{Plain, Costs, Strong}
 use Rattle.rule_kind.specs.Kinds.{is_strong}

@@ -1,11 +1,9 @@
 -- `prices_fault` meets its contract: the tables hold the prices of the record.
-use Prim.Native.Nat.{ℕ, ◌+◌, ◌*◌, ◌≤◌}
+use Prim.Native.Nat.{◌+◌, ◌*◌, ◌≤◌}
 use mathlib.Core.Path.{◌≡◌, sym, ◌∙◌}
 use mathlib.Core.Bool.{true, false}
 use lib.ListN.{length}
 use native.Mathlib.Omega.{arith}
-use borrow.Author.Tests.{not-true, not-false}
-use borrow.Author.Rules.{rules}
 use Rattle.rule_kind.specs.Steps.{has_move, further_prices}
 use Rattle.rule_kind.specs.StepsLaws.{prices-with-move, prices-without-move}
 use Rattle.transition.specs.KnownLaws.{few-states}

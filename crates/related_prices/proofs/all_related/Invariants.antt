@@ -1,10 +1,6 @@
 -- `all_related` meets its contract. The invariant is `Covering`.
 use Prim.Native.Nat.{◌-◌, ◌≤◌}
-use mathlib.Core.Path.{◌≡◌}
-use native.Mathlib.Omega.{arith}
-use mir.Syntax.{w64}
-use mir.Val.{to_z}
-use Rattle.related_prices.specs.HighestLaws.{Covering, cover-start, cover-past, cover-turn, cover-not, cover-end}
+use Rattle.related_prices.specs.HighestLaws.{Covering}
 use Rattle.related_prices.proofs.all_related.Given as goal
 
 abbrev pub invariant-loop-v : goal.invariant-loop-v

@@ -1,10 +1,7 @@
 -- `highest_in` meets its contract. The invariant is `Seeking`.
-use Prim.Native.Nat.{◌*◌, ◌-◌}
+use Prim.Native.Nat.{◌-◌}
 use native.Mathlib.Omega.{arith}
-use mir.Syntax.{w64}
-use mir.Val.{to_z}
-use Rattle.word.specs.Bits.{word_bits}
-use Rattle.related_prices.specs.HighestLaws.{Seeking, highest-back, seek-start, seek-further, seek-turn, seek-end}
+use Rattle.related_prices.specs.HighestLaws.{highest-back, seek-start, seek-further, seek-turn, seek-end}
 use Rattle.related_prices.proofs.highest_in.Goals as goal
 
 pub part-rest-requires : goal.part-rest-requires

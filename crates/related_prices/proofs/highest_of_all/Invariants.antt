@@ -1,11 +1,6 @@
 -- `highest_of_all` meets its contract. The invariant is `AboveAll`, for the states so far.
 use Prim.Native.Nat.{◌-◌, ◌≤◌}
-use mathlib.Core.Path.{◌≡◌}
-use native.Mathlib.Omega.{arith}
-use mir.Syntax.{w64}
-use mir.Val.{to_z}
 use Rattle.related_prices.specs.Highest.{AboveAll}
-use Rattle.related_prices.specs.HighestLaws.{all_none, all_more}
 use Rattle.related_prices.proofs.highest_of_all.Given as goal
 
 abbrev pub invariant-loop-u : goal.invariant-loop-u

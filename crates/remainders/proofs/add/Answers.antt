@@ -1,6 +1,5 @@
 -- `add` meets its contract: the remainder and its next value fit the machine's.
 use mir.Facts.{to_z-of_z}
-use borrow.Author.Rules.{rules}
 use Rattle.remainders.specs.MovingLaws.{remainder-fits, remainder-changes, next_fits, add_done}
 use Rattle.remainders.proofs.add.Goals as goal
 

@@ -1,12 +1,6 @@
 -- `arrive` meets its contract. The invariant is `Arriving`.
-use mathlib.Core.Path.{refl}
-use mir.Syntax.{w64}
-use mir.Val.{to_z}
-use mir.Facts.{to_z-of_z}
-use native.Mathlib.Omega.{arith}
-use borrow.Author.Rules.{rules}
 use Rattle.transition.specs.Known.{entries_of}
-use Rattle.remainders.specs.MovingLaws.{Arriving, arriving-start, arriving-asks, arriving-turn, arriving-end}
+use Rattle.remainders.specs.MovingLaws.{Arriving}
 use Rattle.remainders.proofs.arrive.Given as goal
 
 abbrev pub invariant-loop-left : goal.invariant-loop-left

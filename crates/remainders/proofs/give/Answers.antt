@@ -1,6 +1,5 @@
 -- `give` meets its contract.
 use Rattle.signed.specs.TermsLaws.{plus-back}
-use borrow.Author.Rules.{rules}
 use Rattle.remainders.proofs.give.Goals as goal
 
 pub add-requires : goal.add-requires

@@ -1,7 +1,6 @@
 -- `leave` meets its contract: the fields are the transition's.
 use mir.Facts.{to_z-of_z}
 use native.Mathlib.Omega.{arith}
-use borrow.Author.Rules.{rules}
 use Rattle.remainders.specs.MovingLaws.{leave-asks, leave-done}
 use Rattle.remainders.proofs.leave.Goals as goal
 

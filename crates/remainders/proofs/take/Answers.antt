@@ -1,6 +1,5 @@
 -- `take` meets its contract.
 use Rattle.signed.specs.TermsLaws.{minus-back}
-use borrow.Author.Rules.{rules}
 use Rattle.remainders.proofs.take.Goals as goal
 
 pub add-requires : goal.add-requires

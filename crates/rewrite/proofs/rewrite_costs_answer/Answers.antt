@@ -5,7 +5,6 @@ use Rattle.rules.specs.definitions.Bytes.{byte_at}
 use Rattle.rules.specs.definitions.SoundModel.{Bytes}
 use Rattle.rule_kind.specs.declared.Kind.TheVariants.{Costs}
 use Rattle.rewrite.specs.RewriteLaws.{pair-refused}
-use borrow.Author.Rules.{rules}
 use Rattle.rewrite.proofs.rewrite_costs_answer.Goals as goal
 
 pub returns-then-head-ne0 : goal.returns-then-head-ne0

@@ -5,7 +5,6 @@ use Rattle.rules.specs.definitions.Bytes.{byte_at}
 use Rattle.rules.specs.definitions.SoundModel.{Bytes}
 use Rattle.judgement.specs.VerdictLaws.{found-accepted, found-refused}
 use Rattle.rewrite.specs.RewriteLaws.{pair-refused}
-use borrow.Author.Rules.{rules}
 use Rattle.rewrite.proofs.rewrite_headed.Goals as goal
 
 pub overflow_add-blocks : goal.overflow_add-blocks

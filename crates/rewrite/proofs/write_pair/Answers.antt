@@ -2,7 +2,6 @@
 use mathlib.Core.Path.{refl}
 use native.Mathlib.Omega.{arith}
 use Rattle.rewrite.specs.RewriteLaws.{pair-ready, large-refused, model-short, certificate-short, pair-written}
-use borrow.Author.Rules.{rules}
 use Rattle.rewrite.proofs.write_pair.Goals as goal
 
 pub first_large-large-requires : goal.first_large-large-requires

@@ -2,8 +2,7 @@
 use Prim.Native.Nat.{◌-◌}
 use mathlib.Core.Path.{sym, ◌∙◌}
 use native.Mathlib.Omega.{arith}
-use lib.ListN.{length}
-use Rattle.rewritten_flows.specs.FlowLoops.{Searching, search-start, search-inside, search-end, search-first, search-asks, search-behind, search-large, search-past, search-turn}
+use Rattle.rewritten_flows.specs.FlowLoops.{search-start, search-inside, search-end, search-first, search-asks, search-behind, search-large, search-past, search-turn}
 use Rattle.rewritten_flows.proofs.first_large.Goals as goal
 
 pub loop-at-init : goal.loop-at-init

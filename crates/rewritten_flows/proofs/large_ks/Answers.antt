@@ -1,9 +1,7 @@
 -- `large_ks` meets its contract. The invariant is `Looking`.
 use mathlib.Core.Path.{refl}
 use native.Mathlib.Omega.{arith}
-use Rattle.rewriting.specs.definitions.RewriteAnswer.{passes_k}
-use Rattle.rewritten_flows.specs.Flows.{multiplied_ks}
-use Rattle.rewritten_flows.specs.KsLaws.{Looking, ks-entry, looking-large, looking-turn, looking-end}
+use Rattle.rewritten_flows.specs.KsLaws.{ks-entry, looking-large, looking-turn, looking-end}
 use Rattle.rewritten_flows.proofs.large_ks.Goals as goal
 
 pub loop-left-init : goal.loop-left-init

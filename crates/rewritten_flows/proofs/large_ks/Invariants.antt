@@ -1,9 +1,7 @@
 -- `large_ks` meets its contract. The invariant is `Looking`.
-use mathlib.Core.Path.{refl}
-use native.Mathlib.Omega.{arith}
 use Rattle.rewriting.specs.definitions.RewriteAnswer.{passes_k}
 use Rattle.rewritten_flows.specs.Flows.{multiplied_ks}
-use Rattle.rewritten_flows.specs.KsLaws.{Looking, ks-entry, looking-large, looking-turn, looking-end}
+use Rattle.rewritten_flows.specs.KsLaws.{Looking}
 use Rattle.rewritten_flows.proofs.large_ks.Given as goal
 
 abbrev pub invariant-loop-left : goal.invariant-loop-left

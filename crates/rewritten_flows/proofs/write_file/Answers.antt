@@ -2,8 +2,7 @@
 use Prim.Native.Nat.{◌-◌}
 use mathlib.Core.Path.{sym, ◌∙◌}
 use native.Mathlib.Omega.{arith}
-use lib.ListN.{length}
-use Rattle.rewritten_flows.specs.FlowLoops.{Writing, start-inside, start-length, writing_start, file-written, writing-end, writing-asks, writing-less, writing-turn}
+use Rattle.rewritten_flows.specs.FlowLoops.{start-inside, start-length, writing_start, file-written, writing-end, writing-asks, writing-less, writing-turn}
 use Rattle.rewritten_flows.proofs.write_file.Goals as goal
 
 pub slice_bounds-part-end : goal.slice_bounds-part-end

@@ -1,9 +1,7 @@
 -- `write_file` meets its contract. The invariant is `Writing`.
 use Prim.Native.Nat.{◌-◌}
-use mathlib.Core.Path.{sym, ◌∙◌}
-use native.Mathlib.Omega.{arith}
 use lib.ListN.{length}
-use Rattle.rewritten_flows.specs.FlowLoops.{Writing, start-inside, start-length, writing_start, file-written, writing-end, writing-asks, writing-less, writing-turn}
+use Rattle.rewritten_flows.specs.FlowLoops.{Writing}
 use Rattle.rewritten_flows.proofs.write_file.Given as goal
 
 abbrev pub invariant-loop-at : goal.invariant-loop-at

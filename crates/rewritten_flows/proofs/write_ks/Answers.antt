@@ -1,8 +1,6 @@
 -- `write_ks` meets its contract. The invariant is `WritingKs`.
 use native.Mathlib.Omega.{arith}
-use Rattle.rules.specs.definitions.Encoding.{list_bytes, k_bytes}
-use Rattle.rewritten_flows.specs.Flows.{multiplied_ks}
-use Rattle.rewritten_flows.specs.KsLaws.{WritingKs, ks-entry, ks-start, ks-fits, ks-room, ks-later, ks-turn, ks-end}
+use Rattle.rewritten_flows.specs.KsLaws.{ks-entry, ks-start, ks-fits, ks-room, ks-later, ks-turn, ks-end}
 use Rattle.rewritten_flows.proofs.write_ks.Goals as goal
 
 pub loop-left-init : goal.loop-left-init

@@ -1,12 +1,9 @@
 -- `write_entries` meets its contract. The invariant is `ChangingEntries`.
-use Prim.Native.Nat.{ℕ, ◌/◌}
-use mathlib.Core.Path.{ap}
 use mathlib.Core.List.{map}
-use native.Mathlib.Omega.{arith}
 use Rattle.rules.specs.definitions.Model.{entries_bytes}
 use Rattle.rules.specs.definitions.LowestTerms.{divided_entry}
 use Rattle.rules.specs.definitions.Reading.{entries_at}
-use Rattle.writer.specs.ChangedRecords.{ChangingEntries, entries-start, entries_fit, entries-turn, entries-end}
+use Rattle.writer.specs.ChangedRecords.{ChangingEntries}
 use Rattle.rewritten_model.proofs.write_entries.Given as goal
 
 abbrev pub invariant-loop-left : goal.invariant-loop-left

@@ -2,7 +2,6 @@
 use mathlib.Core.Path.{sym}
 use native.Mathlib.Omega.{arith}
 use Rattle.rewritten_model.specs.WritingLaws.{front_length, records-fit, tail-inside, tail-fits, file-written}
-use borrow.Author.Rules.{rules}
 use Rattle.rewritten_model.proofs.write_file.Goals as goal
 
 pub slice_bounds-part-end : goal.slice_bounds-part-end

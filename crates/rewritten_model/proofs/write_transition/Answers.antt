@@ -4,7 +4,6 @@ use native.Mathlib.Omega.{arith}
 use native.Mathlib.Nat.{div-le_self}
 use Rattle.transition.specs.KnownLaws.{few-states, fields-small}
 use Rattle.rewritten_model.specs.WritingLaws.{transition-asks, transition-lowest}
-use borrow.Author.Rules.{rules}
 use Rattle.rewritten_model.proofs.write_transition.Goals as goal
 
 pub fixed-next-requires : goal.fixed-next-requires

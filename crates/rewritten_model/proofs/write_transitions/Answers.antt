@@ -3,7 +3,7 @@ use Prim.Native.Nat.{◌-◌}
 use native.Mathlib.Omega.{arith}
 use Rattle.rules.specs.definitions.LowestTerms.{in_lowest}
 use Rattle.rules.proofs.argument.TermsLaws.{lowest-count}
-use Rattle.writer.specs.ChangedRecords.{Changing, changing-start, changing-turn, changing-end}
+use Rattle.writer.specs.ChangedRecords.{changing-start, changing-turn, changing-end}
 use Rattle.rewritten_model.specs.WritingLaws.{record-asks}
 use Rattle.rewritten_model.proofs.write_transitions.Goals as goal
 

@@ -1,10 +1,8 @@
 -- `write_transitions` meets its contract. The invariant is `Changing`.
 use Prim.Native.Nat.{◌-◌}
-use native.Mathlib.Omega.{arith}
 use Rattle.rules.specs.definitions.LowestTerms.{in_lowest}
 use Rattle.rules.proofs.argument.TermsLaws.{lowest-count}
-use Rattle.writer.specs.ChangedRecords.{Changing, changing-start, changing-turn, changing-end}
-use Rattle.rewritten_model.specs.WritingLaws.{record-asks}
+use Rattle.writer.specs.ChangedRecords.{Changing}
 use Rattle.rewritten_model.proofs.write_transitions.Given as goal
 
 abbrev pub invariant-loop-r : goal.invariant-loop-r

@@ -1,6 +1,5 @@
 -- `condition_of` meets its contract: by the kind of the rule.
 use mathlib.Core.Path.{sym, ◌∙◌}
-use borrow.Author.Rules.{rules}
 use Rattle.rule_kind.specs.StepsLaws.{weak-conditions, strong-conditions}
 use Rattle.rule_kind.proofs.condition_of.Goals as goal
 

@@ -1,11 +1,8 @@
 -- `cost_of` meets its contract: the table has where the transitions end, and the costs stand behind the mark.
 use mathlib.Core.Path.{refl}
 use native.Mathlib.Omega.{arith}
-use mathlib.Core.Path.{sym, ◌∙◌, ap}
-use Rattle.rules.specs.definitions.Bytes.{byte_at}
 use Rattle.rule_kind.specs.KindsLaws.{no-cost, end-in-table, cost-inside, cost-is}
 use Rattle.field.specs.Taken.{taken_at}
-use borrow.Author.Rules.{rules}
 use Rattle.rule_kind.specs.declared.Kind.TheVariants.{Plain, Strong}
 use Rattle.rule_kind.proofs.cost_of.Goals as goal
 

@@ -1,6 +1,5 @@
 -- `first_prices` meets its contract: by the kind of the rule.
 use mathlib.Core.Path.{sym, ◌∙◌}
-use borrow.Author.Rules.{rules}
 use Rattle.rule_kind.specs.StepsLaws.{weak-first, strong-first}
 use Rattle.rule_kind.proofs.first_prices.Goals as goal
 

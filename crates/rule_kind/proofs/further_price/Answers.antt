@@ -3,7 +3,6 @@ use native.Mathlib.Omega.{arith}
 use mathlib.Core.Path.{refl, ap}
 use Rattle.rule_kind.specs.Steps.{further_prices}
 use Rattle.rule_kind.specs.StepsLaws.{further-none, further-read}
-use borrow.Author.Rules.{rules}
 use Rattle.rule_kind.specs.declared.Kind.TheVariants.{Plain, Strong}
 use Rattle.rule_kind.proofs.further_price.Goals as goal
 

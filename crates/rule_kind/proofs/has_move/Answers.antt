@@ -1,6 +1,5 @@
 -- `has_move` meets its contract: by the kind of the rule.
 use mathlib.Core.Path.{sym, ◌∙◌}
-use borrow.Author.Rules.{rules}
 use Rattle.rule_kind.specs.StepsLaws.{weak-move, strong-move}
 use Rattle.rule_kind.proofs.has_move.Goals as goal
 

@@ -1,6 +1,5 @@
 -- `in_question` meets its contract: by the kind of the rule.
 use mathlib.Core.Path.{sym, ◌∙◌}
-use borrow.Author.Rules.{rules}
 use Rattle.rule_kind.specs.StepsLaws.{weak-question, strong-question}
 use Rattle.rule_kind.proofs.in_question.Goals as goal
 

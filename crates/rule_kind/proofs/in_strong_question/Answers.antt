@@ -3,7 +3,6 @@ use mathlib.Core.Path.{refl}
 use native.Mathlib.Omega.{arith}
 use Rattle.bisimulation.proofs.argument.ChoiceLaws.{same, not_same}
 use Rattle.rule_kind.specs.Steps.{strong_question}
-use borrow.Author.Rules.{rules}
 use Rattle.rule_kind.proofs.in_strong_question.Goals as goal
 
 pub returns-then-layer-ne1 : goal.returns-then-layer-ne1

@@ -2,7 +2,6 @@
 use mathlib.Core.Path.{sym, ◌∙◌}
 use native.Mathlib.Omega.{arith}
 use Rattle.rule_kind.specs.StepsLaws.{prices-with-move, prices-without-move, prices-most}
-use borrow.Author.Rules.{rules}
 use Rattle.rule_kind.proofs.price_count.Goals as goal
 
 pub overflow_add-result : goal.overflow_add-result

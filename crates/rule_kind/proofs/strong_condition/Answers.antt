@@ -2,7 +2,6 @@
 use mathlib.Core.Path.{refl, sym, ◌∙◌}
 use Rattle.bisimulation.proofs.argument.ChoiceLaws.{is_true, is_false}
 use Rattle.rule_kind.specs.Steps.{strong_condition}
-use borrow.Author.Rules.{rules}
 use Rattle.rule_kind.proofs.strong_condition.Goals as goal
 
 pub returns-then-is_own : goal.returns-then-is_own

@@ -1,7 +1,5 @@
 -- `w_departure` meets its contract, with a move and without.
 use mathlib.Core.Path.{sym, ◌∙◌}
-use borrow.Author.Rules.{rules}
-use borrow.Author.Tests.{not-true, not-false}
 use Rattle.rule_kind.specs.StepsLaws.{w-after, w-before}
 use Rattle.rule_kind.proofs.w_departure.Goals as goal
 

@@ -20,7 +20,7 @@ use Rattle.rules.specs.definitions.Certificate.{FileRule, refutation_count, pair
 use Rattle.rules.specs.definitions.PlainRule.{by_kind, last_fault, internal_prices_fault, external_prices_fault, plain_prices_fault, plain_rule}
 use Rattle.rules.specs.definitions.Judging.{Judgement, accepted, refused_in, Question, questions, judge_flows, judge_blocks, judge_refutations, judge_certificate, judge_reading, judge}
 use Rattle.rules.specs.definitions.JudgedBy.{plain_pairs}
-use Rattle.rules.specs.definitions.Accepted.{Among, here, there, Asks}
+use Rattle.rules.specs.definitions.Accepted.{Among, Asks}
 use Rattle.rules.specs.definitions.Answers.{Answer, refusal_in, answer_without_place, unwritten, Follows}
 use Rattle.rules.specs.definitions.Demands.{outcome_by, Accepting}
 use Rattle.rules.proofs.argument.AnyRule.{CertificateRule, PairRules, RefusalOf, pairs_of}

@@ -18,7 +18,7 @@ use Rattle.rules.specs.definitions.Faults.{Fault, fault, Passes, certificate_rec
 use Rattle.rules.specs.definitions.Judging.{Judgement, accepted, refused_in, refuse_record_at, Question, questions, judge_flows, judge_blocks, judge_refutations, judge_certificate}
 use Rattle.rules.specs.definitions.Encoding.{Refutation, FlowRecord, Certificate, list_bytes, refutation_bytes, blocks_bytes, flow_bytes, certificate_bytes}
 use Rattle.rules.specs.definitions.CertificateAt.{refutation_at, flow_record_at, refutations_from, after_refutations, blocks_place, flows_place, flows_from, certificate_at}
-use Rattle.rules.specs.definitions.Accepted.{RuleSays, Kept, GoodRefutations, done, refute, GoodBlocks, GoodFlows, KeepsRules}
+use Rattle.rules.specs.definitions.Accepted.{RuleSays, Kept, GoodRefutations, GoodBlocks, GoodFlows, KeepsRules}
 use Rattle.rules.proofs.argument.QuestionsLaws.{questions-asked, questions-only}
 use Rattle.rules.proofs.argument.RefutationRecords.{refutation-good, refutation-stands, refutation-after, challenger-read, defender-read, after_read, refutation-passes}
 use Rattle.rules.proofs.argument.FaultLaws.{none_first, first-none, certificate-refuses, opened, opens, pass_on, pass-if_less}

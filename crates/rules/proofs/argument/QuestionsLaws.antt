@@ -14,7 +14,7 @@ use Rattle.bisimulation.proofs.argument.ChoiceLaws.{same, not_same, is_true, eit
 use Rattle.bisimulation.specs.definitions.Automaton.{Automaton}
 use Rattle.rules.specs.definitions.Certificate.{same_block}
 use Rattle.rules.specs.definitions.Judging.{Question, questions_of_pair, questions_of_state, questions_from, questions}
-use Rattle.rules.specs.definitions.Accepted.{Among, here, there, Asks, question_key, IsQuestions, Ascends, end, next}
+use Rattle.rules.specs.definitions.Accepted.{Among, Asks, question_key, IsQuestions, Ascends, end}
 
 among-left : {X : Type 0} {x : X} (xs ys : List X) → Among x xs → Among x (xs ++ ys)
 among-left xs ys (Among.here {xs = rest}) = Among.here

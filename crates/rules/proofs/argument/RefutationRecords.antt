@@ -1,11 +1,9 @@
 -- A refutation record without fault is the encoding of a refutation that keeps document 01's rules, and the other way round.
-use Rattle.std.specs.Prelude.{ℕ, zero, suc, ◌+◌, ◌*◌, ◌^◌, ◌≤◌, ◌<◌, ◌≡◌, ◌≢◌, Bool, true, false, cond, List, [], ◌∷◌, ◌++◌, eqb, length, get_or, pos}
+use Rattle.std.specs.Prelude.{ℕ, zero, suc, ◌+◌, ◌*◌, ◌^◌, ◌≤◌, ◌<◌, ◌≡◌, ◌≢◌, true, List, [], ◌∷◌, ◌++◌, length, get_or, pos}
 use Rattle.std.proofs.Math.Path.{refl, sym, ap}
-use Rattle.std.proofs.Common.{◌∙◌, ap₂, subst, subst₂, length-append, eqb-true, arith}
+use Rattle.std.proofs.Common.{◌∙◌, ap₂, subst, subst₂, length-append, arith}
 use Rattle.std.proofs.Math.IntN.{ℤ}
 use Rattle.std.specs.Int.Signed.{mag}
-use Rattle.std.proofs.lemmas.Bool.{eqb-false}
-use Rattle.bisimulation.specs.definitions.Choice.{if_same}
 use Rattle.bisimulation.proofs.argument.ChoiceLaws.{less, not_less, not_same, is_true}
 use Rattle.bisimulation.specs.definitions.Automaton.{Automaton}
 use Rattle.bisimulation.specs.definitions.Pairs.{Pairs}

@@ -1,15 +1,13 @@
 -- Document 02, K10: pairs judged with refusal 34 and without it. A pair is accepted with it exactly when it is accepted without it and every transition of
 -- its model is in lowest terms.
 use Rattle.std.specs.Prelude.{ℕ, ◌<◌, ◌≡◌, refl, ◌↔◌, List}
-use Rattle.std.proofs.Common.{sym, subst, subst₂, arith}
-use Rattle.bisimulation.specs.definitions.Automaton.{Automaton}
+use Rattle.std.proofs.Common.{sym, subst, subst₂}
 use Rattle.rules.specs.definitions.Limits.{Terms, any_terms, lowest_terms, Limits, with_terms}
 use Rattle.rules.specs.definitions.Model.{Model, automaton_of}
 use Rattle.rules.specs.definitions.SoundModel.{Each, Bytes, LowestTerms, HasTerms, SoundModel, FitsWidths}
-use Rattle.rules.specs.definitions.Accepted.{RuleSays, KeepsRules, Kept, FileOf}
+use Rattle.rules.specs.definitions.Accepted.{RuleSays, Kept, FileOf}
 use Rattle.rules.specs.definitions.Demand3.{HoldsModel}
 use Rattle.rules.specs.definitions.JudgedBy.{AcceptedBy, plain_pairs_at}
-use Rattle.rules.specs.definitions.Encoding.{Certificate}
 use Rattle.rules.proofs.argument.MappedLists.{each_all}
 use Rattle.rules.proofs.argument.AnyRule.{PairRules, pairs_of}
 use Rattle.rules.proofs.argument.AcceptedExactly.{keeps-limit, accepted-exactly}

@@ -1,18 +1,18 @@
 -- Document 02, K10: 34, 'the divisor, after 7', computed case by case: which weights have it, its place, what comes before it, and what it leaves.
-use Rattle.std.specs.Prelude.{ℕ, ◌*◌, ◌≡◌, refl, List, [], ◌∷◌, ◌++◌, length, drop, set}
+use Rattle.std.specs.Prelude.{ℕ, ◌≡◌, refl, List, [], ◌∷◌, ◌++◌, length, set}
 use Rattle.std.proofs.Common.{arith}
 use Rattle.bisimulation.specs.definitions.Choice.{if_less, if_same}
 use Rattle.numbers.specs.definitions.Divisor.{divisor_within, divisor, divisor_of}
-use Rattle.rules.specs.definitions.Limits.{Terms, any_terms, lowest_terms, Limits, limits, with_terms}
+use Rattle.rules.specs.definitions.Limits.{lowest_terms, limits, with_terms}
 use Rattle.rules.specs.definitions.Bytes.{byte_at, two_at, two_bytes}
-use Rattle.rules.specs.definitions.Model.{Entry, Transition, Model, entries_bytes, transition_bytes, transitions_bytes, head_bytes, labels_bytes, model_bytes}
+use Rattle.rules.specs.definitions.Model.{Transition, Model, entries_bytes, transition_bytes, transitions_bytes, head_bytes, labels_bytes, model_bytes}
 use Rattle.rules.specs.definitions.SoundModel.{Each, LowestTerms}
 use Rattle.rules.specs.definitions.LowestTerms.{divisor_in, divided_entry, in_lowest}
 use Rattle.rules.specs.definitions.Faults.{fault, first_of, open_fault}
 use Rattle.rules.specs.definitions.Reading.{states_of, actions_of, count_of, range_fault, head_fault, label_fault, labels_fault, source_at, action_at, denominator_at, entry_count_at, after_transition, fixed_fault, fixed_fault_at, entries_fault, terms_fault, transition_fault, refuse_at, scan_transitions, scan_model, refuse_bytes_left, scan_whole, entries_at, transition_at, transitions_at, model_at, Reading, model, no_model, reading_of, read_whole}
 use Rattle.rules.specs.definitions.PlainRule.{plain_rule}
 use Rattle.rules.specs.definitions.Judging.{judge_reading, judge}
-use Rattle.rules.specs.definitions.Answers.{refusal_in, answer_without_place, stretch_in, fetch_reading, fetch_answer, unwritten, read_outcome, pair_outcome, writes_blocks}
+use Rattle.rules.specs.definitions.Answers.{refusal_in, stretch_in, fetch_reading, fetch_answer, unwritten, read_outcome, pair_outcome, writes_blocks}
 use Rattle.rules.proofs.argument.TermsLaws.{lowest-divisor}
 use Rattle.rules.proofs.cases.MoreCases.{answer_at, outcome_of}
 

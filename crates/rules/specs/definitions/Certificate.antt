@@ -1,7 +1,7 @@
 -- Document 01, 'The certificate' and 'Refused, and where': the records of the certificate file, each judged at its place.
 -- What a step rule decides comes in as a `FileRule`.
 use Rattle.std.specs.Prelude.{ℕ, zero, suc, ◌+◌, ◌*◌, List, Bool, not, cond, eqb, length, take, drop, get_or, ℤ}
-use Rattle.bisimulation.specs.definitions.Choice.{if_less, if_same, if_true, unless_less, unless_same, unless_true, both, all_below}
+use Rattle.bisimulation.specs.definitions.Choice.{if_less, if_same, if_true, unless_less, unless_true, both, all_below}
 use Rattle.bisimulation.specs.definitions.Pairs.{Pairs, removed}
 use Rattle.bisimulation.specs.definitions.Automaton.{Automaton}
 use Rattle.bisimulation.specs.definitions.StepRule.{Flow}

@@ -1,6 +1,5 @@
 -- `first_defender` meets its contract.
 use mathlib.Core.Path.{refl}
-use borrow.Author.Rules.{rules}
 use Rattle.runs.specs.Runs.{no_run, asked}
 use Rattle.runs.proofs.first_defender.Goals as goal
 

@@ -1,11 +1,9 @@
 -- `run_past` meets its contract. The invariant: the transitions passed leave the state.
 use native.Mathlib.Omega.{arith}
-use Prim.Native.Nat.{ℕ, ◌-◌, ◌≤◌, ◌<◌}
-use mathlib.Core.Path.{◌≡◌, sym, ◌∙◌, ap}
+use Prim.Native.Nat.{◌-◌}
 use Rattle.transition.specs.Known.{automaton_in}
-use Rattle.transition.specs.KnownLaws.{known-transition, few-transitions}
+use Rattle.transition.specs.KnownLaws.{known-transition}
 use Rattle.runs.specs.RunsLaws.{leave-more}
-use borrow.Author.Rules.{rules}
 use Rattle.runs.proofs.run_past.Goals as goal
 
 pub loop-past-init : goal.loop-past-init

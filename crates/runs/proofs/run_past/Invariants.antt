@@ -1,11 +1,7 @@
 -- `run_past` meets its contract. The invariant: the transitions passed leave the state.
-use native.Mathlib.Omega.{arith}
 use Prim.Native.Nat.{ℕ, ◌-◌, ◌≤◌, ◌<◌}
-use mathlib.Core.Path.{◌≡◌, sym, ◌∙◌, ap}
+use mathlib.Core.Path.{◌≡◌}
 use Rattle.transition.specs.Known.{automaton_in}
-use Rattle.transition.specs.KnownLaws.{known-transition, few-transitions}
-use Rattle.runs.specs.RunsLaws.{leave-more}
-use borrow.Author.Rules.{rules}
 use Rattle.runs.proofs.run_past.Given as goal
 
 abbrev pub invariant-loop-past : goal.invariant-loop-past

@@ -1,6 +1,5 @@
 -- `pass` meets its contract.
 use mathlib.Core.Path.{sym, ◌∙◌}
-use borrow.Author.Rules.{rules}
 use native.Mathlib.Omega.{arith}
 use Rattle.rules.specs.definitions.Reading.{after_transition}
 use Rattle.field.specs.Taken.{taken_at}

@@ -1,10 +1,9 @@
 -- `same_bytes` meets its contract. The invariant: the bytes from `left` on agree.
-use Prim.Native.Nat.{ℕ, ◌-◌, ◌≤◌, ◌<◌}
+use Prim.Native.Nat.{◌-◌}
 use mathlib.Core.Path.{sym}
 use native.Mathlib.Omega.{arith}
-use borrow.Author.Rules.{rules}
 use Rattle.rules.specs.definitions.Bytes.{byte_at}
-use Rattle.same_transition.specs.SameTransitionLaws.{from_more, ByteAgrees, bytes_same, bytes-not}
+use Rattle.same_transition.specs.SameTransitionLaws.{from_more, bytes_same, bytes-not}
 use Rattle.same_transition.proofs.same_bytes.Goals as goal
 
 pub loop-left-init : goal.loop-left-init

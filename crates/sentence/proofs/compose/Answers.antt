@@ -6,7 +6,6 @@ use Rattle.writer.specs.AppendsLaws.{appended-as, append-more}
 use Rattle.sentence.specs.Parts.{closing}
 use Rattle.sentence.specs.PartsLaws.{sentence-parts, parts-length}
 use Rattle.sentence.specs.Sentence.{told}
-use borrow.Author.Rules.{rules}
 use Rattle.sentence.proofs.compose.Goals as goal
 
 pub write_opening-first-requires : goal.write_opening-first-requires

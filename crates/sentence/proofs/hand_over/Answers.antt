@@ -1,6 +1,5 @@
 -- `hand_over` meets its contract: 39, or the text.
 use Rattle.answer.specs.AnsweredLaws.{file-stretch}
-use borrow.Author.Rules.{rules}
 use Rattle.sentence.proofs.hand_over.Goals as goal
 
 pub returns : goal.returns

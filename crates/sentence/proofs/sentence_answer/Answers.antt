@@ -6,7 +6,6 @@ use native.Mathlib.Omega.{arith}
 use Rattle.sentences.proofs.argument.LongestSentence.{longest-sentence}
 use Rattle.sentence.specs.Sentence.{told}
 use Rattle.sentence.specs.SentenceLaws.{sentence-handed}
-use borrow.Author.Rules.{rules}
 use Rattle.sentence.proofs.sentence_answer.Goals as goal
 
 pub compose-size-requires : goal.compose-size-requires

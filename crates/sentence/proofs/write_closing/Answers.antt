@@ -7,7 +7,6 @@ use Rattle.sentences.specs.definitions.Sentence.{signed_decimal}
 use Rattle.writer.specs.AppendsLaws.{appended-as, append-more}
 use Rattle.sentence.specs.Parts.{closing}
 use Rattle.sentence.specs.PartsLaws.{closing-length}
-use borrow.Author.Rules.{rules}
 use Rattle.sentence.proofs.write_closing.Goals as goal
 
 pub part-sign-requires : goal.part-sign-requires

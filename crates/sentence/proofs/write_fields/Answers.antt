@@ -4,7 +4,6 @@ use Rattle.sentences.specs.definitions.Phrases.{bytes_of}
 use Rattle.writer.specs.AppendsLaws.{append-more}
 use Rattle.sentence.specs.Parts.{fields}
 use Rattle.sentence.specs.PartsLaws.{fields-length}
-use borrow.Author.Rules.{rules}
 use Rattle.sentence.proofs.write_fields.Goals as goal
 
 pub write_named-second-requires : goal.write_named-second-requires

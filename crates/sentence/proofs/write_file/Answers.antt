@@ -3,7 +3,6 @@ use mathlib.Core.Path.{refl}
 use native.Mathlib.Omega.{arith}
 use Rattle.writer.specs.AppendsLaws.{file-filled}
 use Rattle.answer.specs.AnsweredLaws.{written-short, written-whole}
-use borrow.Author.Rules.{rules}
 use Rattle.sentence.proofs.write_file.Goals as goal
 
 pub returns-then-size-out : goal.returns-then-size-out

@@ -1,6 +1,5 @@
 -- `write_named` meets its contract: the number stands behind the text.
 use Rattle.writer.specs.AppendsLaws.{append-more}
-use borrow.Author.Rules.{rules}
 use Rattle.sentence.proofs.write_named.Goals as goal
 
 pub returns : goal.returns

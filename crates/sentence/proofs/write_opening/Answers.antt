@@ -4,7 +4,6 @@ use Rattle.sentences.specs.definitions.Phrases.{bytes_of}
 use Rattle.writer.specs.AppendsLaws.{append-more}
 use Rattle.sentence.specs.Parts.{opening}
 use Rattle.sentence.specs.PartsLaws.{opening-length}
-use borrow.Author.Rules.{rules}
 use Rattle.sentence.proofs.write_opening.Goals as goal
 
 pub write_named-colon-requires : goal.write_named-colon-requires

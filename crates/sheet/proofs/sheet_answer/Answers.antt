@@ -4,7 +4,6 @@ use Rattle.rules.specs.definitions.Bytes.{byte_at}
 use Rattle.rules.specs.definitions.SoundModel.{Bytes}
 use Rattle.judgement.specs.VerdictLaws.{found-accepted, found-refused}
 use Rattle.sheet.specs.SheetLaws.{pair-refused, blocks-ready, sheet-written}
-use borrow.Author.Rules.{rules}
 use Rattle.sheet.proofs.sheet_answer.Goals as goal
 
 pub returns-then-head-ne0 : goal.returns-then-head-ne0

@@ -2,7 +2,6 @@
 use native.Mathlib.Omega.{arith}
 use Rattle.answer.specs.AnsweredLaws.{gives-file}
 use Rattle.sheet_blocks.specs.BlocksLaws.{small-blocks}
-use borrow.Author.Rules.{rules}
 use Rattle.sheet.proofs.write_sheet.Goals as goal
 
 pub start-requires : goal.start-requires

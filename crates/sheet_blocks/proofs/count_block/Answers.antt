@@ -1,12 +1,10 @@
 -- `count_block` meets its contract: the block is new, or it was counted.
 use native.Mathlib.Omega.{arith}
 use Prim.Native.Nat.{ℕ, ◌*◌}
-use mathlib.Core.Path.{◌≡◌, sym, ◌∙◌, ap}
-use lib.ListN.{get_or}
-use borrow.Author.Tests.{not-true, not-false, eqb-true, eqb-false}
+use mathlib.Core.Path.{sym, ◌∙◌, ap}
+use borrow.Author.Tests.{eqb-true, eqb-false}
 use Rattle.block_sheet.specs.definitions.Sheet.{line_count}
 use Rattle.sheet_blocks.specs.BlocksLaws.{counted_none, counted-new, new-size, new-few}
-use borrow.Author.Rules.{rules}
 use Rattle.sheet_blocks.proofs.count_block.Goals as goal
 
 pub returns-then-not-is_first : goal.returns-then-not-is_first

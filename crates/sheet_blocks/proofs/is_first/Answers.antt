@@ -1,6 +1,5 @@
 -- `is_first` meets its contract.
 use native.Mathlib.Omega.{arith}
-use borrow.Author.Rules.{rules}
 use Rattle.sheet_blocks.proofs.is_first.Goals as goal
 
 pub overflow_cast-result : goal.overflow_cast-result

@@ -1,8 +1,7 @@
 -- `sheet_length` meets its contract. The invariant is `Counting`.
 use Prim.Native.Nat.{◌-◌}
 use lib.ListN.{length}
-use native.Mathlib.Omega.{arith}
-use Rattle.sheet_blocks.specs.BlocksLaws.{Counting, counting-start, counting-turn, counting-end}
+use Rattle.sheet_blocks.specs.BlocksLaws.{Counting}
 use Rattle.sheet_blocks.proofs.sheet_length.Given as goal
 
 abbrev pub invariant-loop-v : goal.invariant-loop-v

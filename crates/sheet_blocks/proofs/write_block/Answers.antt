@@ -1,9 +1,8 @@
 -- `write_block` meets its contract: the block is new, or it was written.
 use native.Mathlib.Omega.{arith}
 use mathlib.Core.Path.{sym, ◌∙◌}
-use borrow.Author.Tests.{not-true, not-false, eqb-true, eqb-false}
+use borrow.Author.Tests.{eqb-true, eqb-false}
 use Rattle.sheet_blocks.specs.BlocksLaws.{put-none, put-new, new-size, new-few, new-room}
-use borrow.Author.Rules.{rules}
 use Rattle.sheet_blocks.proofs.write_block.Goals as goal
 
 pub returns-then-not-is_first : goal.returns-then-not-is_first

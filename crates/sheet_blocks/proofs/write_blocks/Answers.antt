@@ -1,8 +1,7 @@
 -- `write_blocks` meets its contract. The invariant is `Writing`.
 use Prim.Native.Nat.{◌-◌}
-use lib.ListN.{length}
 use native.Mathlib.Omega.{arith}
-use Rattle.sheet_blocks.specs.BlocksLaws.{Writing, writing_start, writing-turn, writing-end}
+use Rattle.sheet_blocks.specs.BlocksLaws.{writing_start, writing-turn, writing-end}
 use Rattle.sheet_blocks.proofs.write_blocks.Goals as goal
 
 pub loop-v-init : goal.loop-v-init

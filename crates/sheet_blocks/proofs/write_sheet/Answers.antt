@@ -2,7 +2,6 @@
 use native.Mathlib.Omega.{arith}
 use Rattle.answer.specs.AnsweredLaws.{written-short, written-whole}
 use Rattle.writer.specs.AppendsLaws.{file-filled}
-use borrow.Author.Rules.{rules}
 use Rattle.sheet_blocks.proofs.write_sheet.Goals as goal
 
 pub returns-then-size-out : goal.returns-then-size-out

@@ -1,7 +1,6 @@
 -- `blank` meets its contract: four spaces.
 use mathlib.Core.Path.{refl}
 use Rattle.sheet_lines.specs.LinesLaws.{blank-written}
-use borrow.Author.Rules.{rules}
 use Rattle.sheet_lines.proofs.blank.Goals as goal
 
 pub returns : goal.returns

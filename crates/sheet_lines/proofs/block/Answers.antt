@@ -3,7 +3,6 @@ use native.Mathlib.Omega.{arith}
 use Rattle.block_sheet.specs.definitions.Sheet.{line_count}
 use Rattle.block_sheet.proofs.argument.SheetLaws.{cell-length}
 use Rattle.sheet_lines.specs.LinesLaws.{further-room, block_written}
-use borrow.Author.Rules.{rules}
 use Rattle.sheet_lines.proofs.block.Goals as goal
 
 pub cell-front-requires : goal.cell-front-requires

@@ -1,7 +1,6 @@
 -- `cell` meets its contract: each column stands behind the one before it.
 use mathlib.Core.Path.{refl}
 use Rattle.sheet_lines.specs.LinesLaws.{cell-written}
-use borrow.Author.Rules.{rules}
 use Rattle.sheet_lines.proofs.cell.Goals as goal
 
 pub returns : goal.returns

@@ -3,7 +3,6 @@ use native.Mathlib.Omega.{arith}
 use mathlib.Core.Path.{refl}
 use Rattle.bisimulation.proofs.argument.ChoiceLaws.{less, not_less}
 use Rattle.block_sheet.specs.definitions.Sheet.{column}
-use borrow.Author.Rules.{rules}
 use Rattle.sheet_lines.proofs.column.Goals as goal
 
 pub returns-then-x-p : goal.returns-then-x-p

@@ -1,11 +1,9 @@
 -- `further_lines` meets its contract. The invariant is `Going`.
-use native.Mathlib.Omega.{arith}
 use mathlib.Core.List.{◌++◌}
 use Rattle.pairs.specs.Rows.{row_bit}
 use Rattle.block_sheet.specs.definitions.Sheet.{blank, lines}
-use Rattle.block_sheet.proofs.argument.SheetLaws.{blank-length}
 use Rattle.sheet_lines.specs.Lines.{members_from}
-use Rattle.sheet_lines.specs.LinesLaws.{Going, going_start, going-turn, going_end}
+use Rattle.sheet_lines.specs.LinesLaws.{Going}
 use Rattle.sheet_lines.proofs.further_lines.Given as goal
 
 abbrev pub invariant-loop-left : goal.invariant-loop-left

@@ -1,7 +1,6 @@
 -- `next_cell` meets its contract: the next member, or none.
 use native.Mathlib.Omega.{arith}
 use Rattle.sheet_lines.specs.LinesLaws.{cell-taken, none-taken}
-use borrow.Author.Rules.{rules}
 use Rattle.sheet_lines.proofs.next_cell.Goals as goal
 
 pub returns-then-member-lt-STATES : goal.returns-then-member-lt-STATES

@@ -1,8 +1,7 @@
 -- `rest_of_line` meets its contract. The invariant is `Filling`.
 use native.Mathlib.Omega.{arith}
 use mathlib.Core.Path.{refl}
-use Rattle.pairs.specs.Rows.{row_bit}
-use Rattle.sheet_lines.specs.LinesLaws.{Filling, filling-start, filling-turn, filling-end}
+use Rattle.sheet_lines.specs.LinesLaws.{filling-start, filling-turn, filling-end}
 use Rattle.sheet_lines.proofs.rest_of_line.Goals as goal
 
 pub loop-left-init : goal.loop-left-init

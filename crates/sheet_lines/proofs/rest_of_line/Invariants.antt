@@ -1,8 +1,6 @@
 -- `rest_of_line` meets its contract. The invariant is `Filling`.
-use native.Mathlib.Omega.{arith}
-use mathlib.Core.Path.{refl}
 use Rattle.pairs.specs.Rows.{row_bit}
-use Rattle.sheet_lines.specs.LinesLaws.{Filling, filling-start, filling-turn, filling-end}
+use Rattle.sheet_lines.specs.LinesLaws.{Filling}
 use Rattle.sheet_lines.proofs.rest_of_line.Given as goal
 
 abbrev pub invariant-loop-left : goal.invariant-loop-left

@@ -1,7 +1,6 @@
 -- `minus` meets its contract: the number fits.
 use Rattle.signed.specs.TermsLaws.{difference-fits, minus_is, minus-back}
 use native.Mathlib.Omega.{arith}
-use borrow.Author.Rules.{rules}
 use Rattle.signed.proofs.minus.Goals as goal
 
 pub overflow_sub-result : goal.overflow_sub-result

@@ -1,6 +1,5 @@
 -- `with_term` meets its contract: the term and the sum fit.
 use mir.Facts.{to_z-of_z}
-use borrow.Author.Rules.{rules}
 use Rattle.signed.specs.TermsLaws.{term_is, term_fits, with-term-fits, with-term}
 use Rattle.signed.proofs.with_term.Goals as goal
 

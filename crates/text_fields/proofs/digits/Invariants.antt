@@ -1,9 +1,7 @@
 -- `digits` meets its contract. The invariant: v is the value up to here, and those behind are read with it.
 use Prim.Native.Nat.{◌-◌}
-use native.Mathlib.Omega.{arith}
-use borrow.Author.Rules.{rules}
 use lib.ListN.{length}
-use Rattle.text_fields.specs.FieldLaws.{DigitsTo, digits-start, digits-next, digits-stop, digits-end}
+use Rattle.text_fields.specs.FieldLaws.{DigitsTo}
 use Rattle.text_fields.proofs.digits.Given as goal
 
 abbrev pub invariant-loop-at : goal.invariant-loop-at

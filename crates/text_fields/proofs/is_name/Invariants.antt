@@ -1,8 +1,7 @@
 -- `is_name` meets its contract. The invariant: whether all bytes are shown is told by those from here on.
 use Prim.Native.Nat.{◌-◌}
-use native.Mathlib.Omega.{arith}
 use lib.ListN.{length}
-use Rattle.text_fields.specs.FieldLaws.{ShownFrom, shown-all, shown-next, shown-low, shown-high, shown-end}
+use Rattle.text_fields.specs.FieldLaws.{ShownFrom}
 use Rattle.text_fields.proofs.is_name.Given as goal
 
 abbrev pub invariant-loop-at : goal.invariant-loop-at

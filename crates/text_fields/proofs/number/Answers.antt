@@ -2,7 +2,6 @@
 use native.Mathlib.Omega.{arith}
 use mathlib.Core.Path.{◌∙◌}
 use Rattle.text_fields.specs.FieldLaws.{number-none, number_short, number-zero, number_more}
-use borrow.Author.Rules.{rules}
 use Rattle.text_fields.proofs.number.Goals as goal
 
 pub returns-then-s-eq0 : goal.returns-then-s-eq0

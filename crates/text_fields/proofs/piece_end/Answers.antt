@@ -1,8 +1,7 @@
 -- `piece_end` meets its contract. The invariant: no byte that parts lies between the beginning and here.
 use Prim.Native.Nat.{◌-◌}
 use native.Mathlib.Omega.{arith}
-use lib.ListN.{length}
-use Rattle.text_fields.specs.FieldLaws.{NoneParts, none_yet, parts-not, parts-here}
+use Rattle.text_fields.specs.FieldLaws.{none_yet, parts-not, parts-here}
 use Rattle.text_fields.proofs.piece_end.Goals as goal
 
 pub loop-at-init : goal.loop-at-init

@@ -1,7 +1,6 @@
 -- `probability` meets its contract.
 use native.Mathlib.Omega.{arith}
 use Rattle.text_fields.specs.FieldLaws.{digits-most, parts-one, parts-other, parts-short, parts-long, parts_first, parts-second, parts-scaled}
-use borrow.Author.Rules.{rules}
 use Rattle.text_fields.proofs.probability.Goals as goal
 
 pub returns-then-s-eq49 : goal.returns-then-s-eq49

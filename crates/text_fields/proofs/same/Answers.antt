@@ -1,8 +1,7 @@
 -- `same` meets its contract. The invariant: whether the runs are the same is told by their bytes from here on.
 use Prim.Native.Nat.{◌-◌}
 use native.Mathlib.Omega.{arith}
-use lib.ListN.{length}
-use Rattle.text_fields.specs.FieldLaws.{SameFrom, same_start, same_next, same_not, same_end, same-sizes}
+use Rattle.text_fields.specs.FieldLaws.{same_start, same_next, same_not, same_end, same-sizes}
 use Rattle.text_fields.proofs.same.Goals as goal
 
 pub returns-then-a-b : goal.returns-then-a-b

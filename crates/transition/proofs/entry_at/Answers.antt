@@ -1,7 +1,6 @@
 -- `entry_at` meets its contract: the weight stands one byte after the state.
 use native.Mathlib.Omega.{arith}
 use Rattle.field.specs.Taken.{taken_at}
-use borrow.Author.Rules.{rules}
 use Rattle.transition.proofs.entry_at.Goals as goal
 
 pub returns : goal.returns

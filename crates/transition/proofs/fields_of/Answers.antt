@@ -1,7 +1,5 @@
 -- `fields_of` meets its contract: the table has the transition's place.
 use native.Mathlib.Omega.{arith}
-use mathlib.Core.Path.{◌≡◌}
-use Prim.Native.Nat.{◌<◌}
 use Rattle.transition.specs.KnownLaws.{place-known, place-in-table, fixed-inside, fields-known}
 use Rattle.transition.proofs.fields_of.Goals as goal
 

@@ -1,17 +1,12 @@
 -- `places_of` meets its contract: each record begins where the one before it ends.
 -- the places of the first r transitions stand in the table, and the next one begins here
-use Prim.Native.Nat.{ℕ, ◌+◌, ◌-◌, ◌≤◌}
+use Prim.Native.Nat.{ℕ, ◌-◌, ◌≤◌}
 use mathlib.Core.List.{List}
-use mathlib.Core.Path.{◌≡◌, sym, ◌∙◌, ap, subst}
-use lib.ListN.{length, length-set}
-use native.Mathlib.Omega.{arith}
+use mathlib.Core.Path.{◌≡◌}
+use lib.ListN.{length}
 use Rattle.limits.specs.Sizes as sizes
-use Rattle.rules.specs.definitions.Reading.{place_of, after_transition}
-use Rattle.rules.proofs.argument.ReadingLaws.{place_of-next}
+use Rattle.rules.specs.definitions.Reading.{place_of}
 use Rattle.model.specs.Scanned.{PlacesHeld}
-use Rattle.model.specs.Places.{none-held, one-more-held}
-use Rattle.transition.specs.KnownLaws.{few-transitions, few-states, with-table}
-use borrow.Author.Rules.{rules}
 use Rattle.transition.proofs.places_of.Given as goal
 
 pub record Walked (s : List ℕ) (count : ℕ) (places : List ℕ) (place r : ℕ) : Type 0 where

@@ -4,11 +4,10 @@ use Rattle.rules.proofs.argument.ReadingLaws.{EntriesSoFar, entry-descends, entr
 use Rattle.rules.specs.definitions.Faults.{Fault}
 use Rattle.rules.specs.definitions.Reading.{entries_fault}
 use Rattle.bisimulation.proofs.argument.ChoiceLaws.{same, not_same}
-use borrow.Author.Rules.{rules}
 use Rattle.fault.specs.Faults.{fault_of}
 use Rattle.transition_entries.specs.declared.Entries.{Entries}
 use Rattle.transition_entries.specs.EntriesRead.{EntriesRead}
-use Prim.Native.Nat.{ℕ, ◌+◌, ◌*◌, ◌≤◌}
+use Prim.Native.Nat.{ℕ, ◌+◌}
 use mathlib.Core.List.{List}
 use mathlib.Core.Path.{◌≡◌, refl, ◌∙◌, ap}
 use Rattle.field.specs.Taken.{taken_at}

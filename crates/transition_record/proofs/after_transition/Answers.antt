@@ -3,7 +3,6 @@ use Prim.Native.Nat.{◌+◌}
 use native.Mathlib.Omega.{arith}
 use Rattle.field.specs.Taken.{taken_at}
 use Rattle.rules.specs.definitions.Reading.{entry_count_at, after_transition}
-use borrow.Author.Rules.{rules}
 use Rattle.transition_record.proofs.after_transition.Goals as goal
 
 pub overflow_add-at : goal.overflow_add-at

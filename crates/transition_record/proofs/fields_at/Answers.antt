@@ -2,7 +2,6 @@
 use Rattle.field.specs.Taken.{taken_at}
 use native.Mathlib.Omega.{arith}
 use Rattle.rules.specs.definitions.Reading.{source_at, action_at, denominator_at, entry_count_at}
-use borrow.Author.Rules.{rules}
 use Rattle.transition_record.proofs.fields_at.Goals as goal
 
 pub returns : goal.returns

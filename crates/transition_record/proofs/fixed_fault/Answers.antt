@@ -1,7 +1,6 @@
 -- `fixed_fault` meets its contract: each return is one way out of `fixed_fault`, of the fields read so far.
 use Rattle.transition_record.specs.FixedLaws.{descends, source-absent, action-absent, d-zero, no-entries, too_many, limit-passed, stand}
 use native.Mathlib.Omega.{arith}
-use borrow.Author.Rules.{rules}
 use Rattle.transition_record.proofs.fixed_fault.Goals as goal
 
 pub returns-then-source-last : goal.returns-then-source-last

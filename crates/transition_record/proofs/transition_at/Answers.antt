@@ -1,7 +1,6 @@
 -- `transition_at` meets its contract: each return is one way out of `transition_fault`.
 use native.Mathlib.Omega.{arith}
 use Rattle.transition_record.specs.TransitionLaws.{not_opened, fixed-whole, not-fixed, cut, stands}
-use borrow.Author.Rules.{rules}
 use Rattle.transition_record.proofs.transition_at.Goals as goal
 
 pub returns-then-opened-ne0 : goal.returns-then-opened-ne0

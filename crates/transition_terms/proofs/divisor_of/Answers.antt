@@ -1,12 +1,8 @@
 -- `divisor_of` meets its contract. The invariant: the divisor so far with the weights left is that of all.
 use native.Mathlib.Omega.{arith}
-use borrow.Author.Rules.{rules}
-use Prim.Native.Nat.{ℕ, ◌+◌, ◌*◌}
-use mathlib.Core.List.{List}
-use mathlib.Core.Path.{◌≡◌, refl, sym, ◌∙◌, ap}
-use Rattle.numbers.specs.definitions.Divisor.{divisor, divisor_of}
+use Prim.Native.Nat.{◌+◌}
+use mathlib.Core.Path.{refl, sym, ◌∙◌}
 use Rattle.field.specs.Taken.{taken_at}
-use Rattle.transition_terms.specs.Divisors.{weights_at, divisor_at}
 use Rattle.transition_terms.specs.DivisorsLaws.{weights-end, goes_on, settled}
 use Rattle.transition_terms.proofs.divisor_of.Goals as goal
 

@@ -1,13 +1,8 @@
 -- `divisor_of` meets its contract. The invariant: the divisor so far with the weights left is that of all.
-use native.Mathlib.Omega.{arith}
-use borrow.Author.Rules.{rules}
-use Prim.Native.Nat.{ℕ, ◌+◌, ◌*◌}
-use mathlib.Core.List.{List}
-use mathlib.Core.Path.{◌≡◌, refl, sym, ◌∙◌, ap}
-use Rattle.numbers.specs.definitions.Divisor.{divisor, divisor_of}
-use Rattle.field.specs.Taken.{taken_at}
+use Prim.Native.Nat.{◌+◌, ◌*◌}
+use mathlib.Core.Path.{◌≡◌}
+use Rattle.numbers.specs.definitions.Divisor.{divisor_of}
 use Rattle.transition_terms.specs.Divisors.{weights_at, divisor_at}
-use Rattle.transition_terms.specs.DivisorsLaws.{weights-end, goes_on, settled}
 use Rattle.transition_terms.proofs.divisor_of.Given as goal
 
 abbrev pub invariant-loop-left : goal.invariant-loop-left

@@ -1,5 +1,4 @@
 -- `lowest_fault` meets its contract.
-use borrow.Author.Rules.{rules}
 use native.Mathlib.Omega.{arith}
 use Rattle.transition_terms.specs.DivisorsLaws.{above-one, is_one}
 use Rattle.transition_terms.proofs.lowest_fault.Goals as goal

@@ -1,5 +1,4 @@
 -- `terms_fault` meets its contract.
-use borrow.Author.Rules.{rules}
 use Rattle.transition_terms.specs.DivisorsLaws.{any-judged, lowest-judged}
 use Rattle.transition_terms.proofs.terms_fault.Goals as goal
 

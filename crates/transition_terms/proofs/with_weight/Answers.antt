@@ -1,9 +1,8 @@
 -- `with_weight` meets its contract.
 -- a weight of 1, and the first weight
-use borrow.Author.Rules.{rules}
 use native.Mathlib.Omega.{arith}
 use Prim.Native.Nat.{ℕ}
-use mathlib.Core.Path.{◌≡◌, refl, sym, ◌∙◌, ap}
+use mathlib.Core.Path.{◌≡◌, sym, ◌∙◌, ap}
 use Rattle.numbers.specs.definitions.Divisor.{divisor}
 use Rattle.numbers.proofs.argument.DivisorLaws.{divisor-first, divisor-one-last}
 use Rattle.transition_terms.proofs.with_weight.Goals as goal

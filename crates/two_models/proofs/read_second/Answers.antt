@@ -6,7 +6,6 @@ use Rattle.limits.specs.TermsBy.{current_terms}
 use Rattle.transition.specs.ModelRead.{refused-told}
 use Rattle.answer.specs.AnsweredLaws.{refusal-as}
 use Rattle.two_models.specs.TwoModelsLaws.{both-sound, refused-second}
-use borrow.Author.Rules.{rules}
 use Rattle.two_models.proofs.read_second.Goals as goal
 
 pub refusal_in-requires : goal.refusal_in-requires

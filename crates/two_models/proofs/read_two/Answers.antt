@@ -6,7 +6,6 @@ use Rattle.limits.specs.TermsBy.{current_terms}
 use Rattle.transition.specs.ModelRead.{refused-told}
 use Rattle.answer.specs.AnsweredLaws.{refusal-as}
 use Rattle.two_models.specs.TwoModelsLaws.{sound-file, refused-first}
-use borrow.Author.Rules.{rules}
 use Rattle.two_models.proofs.read_two.Goals as goal
 
 pub read_second-requires : goal.read_second-requires

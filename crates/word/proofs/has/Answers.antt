@@ -1,7 +1,6 @@
 -- `has` meets its contract: the shift and the mask tell the bit.
 use native.Mathlib.Omega.{arith}
 use Rattle.word.specs.BitsLaws.{bit_of-tested}
-use borrow.Author.Rules.{rules}
 use Rattle.word.proofs.has.Goals as goal
 
 pub returns : goal.returns

@@ -1,7 +1,6 @@
 -- `next_bit` meets its contract: the zeros below the lowest bit are counted.
 use native.Mathlib.Omega.{arith}
 use Rattle.word.specs.BitsLaws.{zeros-fit, bit-fits, next_bit, bit-near}
-use borrow.Author.Rules.{rules}
 use Rattle.word.proofs.next_bit.Goals as goal
 
 pub overflow_cast-result : goal.overflow_cast-result

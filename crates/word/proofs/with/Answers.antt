@@ -2,7 +2,6 @@
 use native.Mathlib.Omega.{arith}
 use Rattle.word.specs.Bits.{word_bits}
 use Rattle.word.specs.BitsLaws.{set_bit-or}
-use borrow.Author.Rules.{rules}
 use Rattle.word.proofs.with.Goals as goal
 
 pub returns : goal.returns

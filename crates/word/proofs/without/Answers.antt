@@ -2,7 +2,6 @@
 use native.Mathlib.Omega.{arith}
 use Rattle.word.specs.Bits.{word_bits}
 use Rattle.word.specs.BitsLaws.{clear_bit-and}
-use borrow.Author.Rules.{rules}
 use Rattle.word.proofs.without.Goals as goal
 
 pub returns : goal.returns

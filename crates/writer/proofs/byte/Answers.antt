@@ -1,7 +1,6 @@
 -- `byte` meets its contract.
 use native.Mathlib.Omega.{arith}
 use Rattle.writer.specs.AppendsLaws.{append-byte}
-use borrow.Author.Rules.{rules}
 use Rattle.writer.proofs.byte.Goals as goal
 
 pub returns : goal.returns

@@ -1,7 +1,5 @@
 -- `entry` meets its contract.
-use native.Mathlib.Omega.{arith}
 use Rattle.writer.specs.AppendsLaws.{append-more}
-use borrow.Author.Rules.{rules}
 use Rattle.writer.proofs.entry.Goals as goal
 
 pub returns : goal.returns

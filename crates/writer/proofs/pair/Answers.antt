@@ -2,7 +2,6 @@
 use native.Mathlib.Omega.{arith}
 use mathlib.Core.Path.{refl}
 use Rattle.writer.specs.AppendsLaws.{append-pair}
-use borrow.Author.Rules.{rules}
 use Rattle.writer.proofs.pair.Goals as goal
 
 pub returns : goal.returns

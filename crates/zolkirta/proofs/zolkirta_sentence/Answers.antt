@@ -3,7 +3,6 @@ use mathlib.Core.Path.{ap}
 use mir.Facts.{to_z-of_z}
 use Rattle.sentence.specs.Sentence.{told}
 use Rattle.sentence.specs.SentenceLaws.{sentence-as}
-use borrow.Author.Rules.{rules}
 use Rattle.zolkirta.proofs.zolkirta_sentence.Goals as goal
 
 pub returns : goal.returns

@@ -1,7 +1,6 @@
 -- `Cursor::byte` meets its contract: the element of the slice is the field.
 use native.Mathlib.Omega.{arith}
 use Rattle.rules.specs.definitions.Bytes.{byte_at}
-use borrow.Author.Rules.{rules}
 use Rattle.field.proofs.Cursor.byte.Goals as goal
 
 pub returns : goal.returns

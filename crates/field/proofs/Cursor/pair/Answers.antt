@@ -1,7 +1,6 @@
 -- `Cursor::pair` meets its contract: the two elements are below 256, so the sum fits and is the field.
 use native.Mathlib.Omega.{arith}
 use Rattle.rules.specs.definitions.Bytes.{byte_at, two_at}
-use borrow.Author.Rules.{rules}
 use Rattle.field.proofs.Cursor.pair.Goals as goal
 
 pub returns : goal.returns

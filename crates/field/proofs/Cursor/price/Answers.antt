@@ -2,7 +2,6 @@
 use native.Mathlib.Omega.{arith}
 use mir.Syntax.{w64}
 use mir.Facts.{to_z-of_z}
-use borrow.Author.Rules.{rules}
 use Rattle.field.specs.TakenLaws.{signed-four}
 use Rattle.field.proofs.Cursor.price.Goals as goal
 

@@ -2,7 +2,6 @@
 use native.Mathlib.Omega.{arith}
 use Rattle.rules.specs.definitions.Bytes.{four_at}
 use Rattle.field.specs.Taken.{taken_at}
-use borrow.Author.Rules.{rules}
 use Rattle.field.proofs.Cursor.quad.Goals as goal
 
 pub returns : goal.returns

@@ -6,7 +6,8 @@
 use answer::Answer;
 use field::Cursor;
 use judging_program::{CERTIFICATE, MODEL};
-use libc::STDOUT_FILENO;
+use std::fs::File;
+use std::{fs, io};
 
 const HEAD: usize = 21;
 
@@ -24,29 +25,29 @@ const SHEET: usize = 5;
 
 const JUDGE_COSTS: usize = 6;
 
-fn print_byte(b: u8) {
-    io::print_hex(STDOUT_FILENO, b as u64, 2);
+fn print_byte(rt: &impl Print, b: u8) -> io::Result<()> {
+    print!(rt; "{b:02x}")
 }
 
 // Two hexadecimal digits for each of the bytes, in one line.
-fn print_bytes(bytes: &[u8]) {
-    for i in 0..bytes.len() {
-        print_byte(bytes[i]);
+fn print_bytes(rt: &impl Print, bytes: &[u8]) -> io::Result<()> {
+    for byte in bytes {
+        print_byte(rt, *byte)?;
     }
-    judging_program::print(b"\n");
+    judging_program::print(rt, b"\n")
 }
 
-fn print_answer(answer: Answer) {
-    judging_program::print_result(answer.number, answer.file, answer.place);
+fn print_answer(rt: &impl Print, answer: Answer) -> io::Result<()> {
+    judging_program::print_result(rt, answer.number, answer.file, answer.place)
 }
 
 // What was written into a buffer, in hexadecimal, or a sheet as it is, or blocks by their states.
-fn print_written(kind: usize, out: &[u8], written: usize) {
+fn print_written(rt: &impl Print, kind: usize, out: &[u8], written: usize) -> io::Result<()> {
     let end = judging_program::at_most(written, out);
     match kind {
-        SHEET => judging_program::print(&out[..end]),
-        JUDGE_COSTS => judging_program::print_blocks(&out[..end]),
-        _ => print_bytes(&out[..end]),
+        SHEET => judging_program::print(rt, &out[..end]),
+        JUDGE_COSTS => judging_program::print_blocks(rt, &out[..end]),
+        _ => print_bytes(rt, &out[..end]),
     }
 }
 
@@ -60,18 +61,19 @@ fn write(kind: usize, first: &[u8], second: &[u8], out: &mut [u8]) -> Answer {
     }
 }
 
-fn write_and_print(kind: usize, first: &[u8], second: &[u8]) {
+fn write_and_print(rt: &impl Print, kind: usize, first: &[u8], second: &[u8]) -> io::Result<()> {
     // long enough: blocks and merged models are no longer than their model, a joined one is a model, a sheet has at most 73 bytes a state
     let mut out = [0u8; MODEL];
     let answer = write(kind, first, second, &mut out);
-    print_answer(answer);
+    print_answer(rt, answer)?;
     if answer.number == 0 {
-        print_written(kind, &out, answer.written);
+        print_written(rt, kind, &out, answer.written)?;
     }
+    Ok(())
 }
 
 // Prints the run or the stretch too: its length, a colon, its bytes.
-fn fetch_and_print(model: &[u8], fetched: u32) {
+fn fetch_and_print(rt: &impl Print, model: &[u8], fetched: u32) -> io::Result<()> {
     let mut number = 0;
     let mut file = 0;
     let mut place = 0;
@@ -86,27 +88,27 @@ fn fetch_and_print(model: &[u8], fetched: u32) {
         &mut state,
         &mut remainder,
     );
-    judging_program::print_result(number, file, place);
-    judging_program::print_number(part.len());
-    judging_program::print(b":");
-    print_bytes(part);
+    judging_program::print_result(rt, number, file, place)?;
+    judging_program::print_number(rt, part.len())?;
+    judging_program::print(rt, b":")?;
+    print_bytes(rt, part)
 }
 
 // Prints yes or no too.
 fn alike_and_print(
+    rt: &impl Print,
     model: &[u8],
     first_count: u32,
     certificate: &[u8],
     first_state: u32,
     second_state: u32,
-) {
+) -> io::Result<()> {
     let found = alike::alike_answer(model, first_count, certificate, first_state, second_state);
-    let answer = found.answer;
-    print_answer(answer);
+    print_answer(rt, found.answer)?;
     if found.alike == 1 {
-        judging_program::print(b"yes\n");
+        judging_program::print(rt, b"yes\n")
     } else {
-        judging_program::print(b"no\n");
+        judging_program::print(rt, b"no\n")
     }
 }
 
@@ -118,36 +120,63 @@ struct Numbers {
     third: u32,
 }
 
-fn answer_case(kind: usize, numbers: Numbers, first: &[u8], second: &[u8]) {
+fn answer_case(
+    rt: &impl Print,
+    kind: usize,
+    numbers: Numbers,
+    first: &[u8],
+    second: &[u8],
+) -> io::Result<()> {
     match kind {
-        FETCH => fetch_and_print(first, numbers.first),
-        ALIKE => alike_and_print(first, numbers.first, second, numbers.second, numbers.third),
-        _ => write_and_print(kind, first, second),
+        FETCH => fetch_and_print(rt, first, numbers.first),
+        ALIKE => alike_and_print(
+            rt,
+            first,
+            numbers.first,
+            second,
+            numbers.second,
+            numbers.third,
+        ),
+        _ => write_and_print(rt, kind, first, second),
     }
 }
 
 // Reads two files, each as far as its slice has room, and answers.
-fn read_and_answer(kind: usize, numbers: Numbers, fd: i32, first: &mut [u8], second: &mut [u8]) {
-    let m = io::read_full(fd, first);
-    let c = io::read_full(fd, second);
-    answer_case(kind, numbers, &first[..m], &second[..c]);
+fn read_and_answer(
+    rt: &impl Print,
+    kind: usize,
+    numbers: Numbers,
+    file: &File,
+    first: &mut [u8],
+    second: &mut [u8],
+) -> io::Result<()> {
+    let m = judging_program::read_full(Some(file), first);
+    let c = judging_program::read_full(Some(file), second);
+    answer_case(rt, kind, numbers, &first[..m], &second[..c])
 }
 
 // A call other than the judging program, for two files of so many bytes.
-fn answer_streams(kind: usize, numbers: Numbers, fd: i32, first_bytes: usize, second_bytes: usize) {
+fn answer_streams(
+    rt: &impl Print,
+    kind: usize,
+    numbers: Numbers,
+    file: &File,
+    first_bytes: usize,
+    second_bytes: usize,
+) -> io::Result<()> {
     let mut first = [0u8; MODEL];
     let mut second = [0u8; CERTIFICATE];
     let m = judging_program::at_most(first_bytes, &first);
     let c = judging_program::at_most(second_bytes, &second);
-    read_and_answer(kind, numbers, fd, &mut first[..m], &mut second[..c]);
+    read_and_answer(rt, kind, numbers, file, &mut first[..m], &mut second[..c])
 }
 
 // Answers the next case, and whether there was one. A tag that is none of these ends the cases.
-fn one_case(fd: i32) -> bool {
+fn one_case(rt: &(impl Print + Eprint), file: &File) -> io::Result<bool> {
     let mut head = [0u8; HEAD];
-    let got = io::read_full(fd, &mut head);
+    let got = judging_program::read_full(Some(file), &mut head);
     if got < HEAD {
-        return false;
+        return Ok(false);
     }
     let tag = Cursor::new(0).byte(&head);
     let number = tag.next.quad(&head);
@@ -157,36 +186,34 @@ fn one_case(fd: i32) -> bool {
     let certificate = model.next.quad(&head);
     let kind = tag.value;
     if JUDGE_COSTS < kind {
-        return false;
+        return Ok(false);
     }
     if kind == JUDGE {
-        judging_program::judge_streams(fd, model.value, fd, certificate.value);
-        return true;
+        judging_program::judge_streams(rt, Some(file), model.value, Some(file), certificate.value)?;
+        return Ok(true);
     }
     let numbers = Numbers {
         first: number.value as u32,
         second: first.value as u32,
         third: second.value as u32,
     };
-    answer_streams(kind, numbers, fd, model.value, certificate.value);
-    true
+    answer_streams(rt, kind, numbers, file, model.value, certificate.value)?;
+    Ok(true)
 }
 
-// A loop has to end, and nothing says that a file does: the turns count down from a number that no run uses up.
-fn all_cases(fd: i32) {
-    let mut turns = u64::MAX;
-    while turns > 0 && one_case(fd) {
-        turns -= 1;
+// A loop has to end, and nothing says that a file does: the turns are more than any run uses up.
+fn all_cases(rt: &(impl Print + Eprint), file: &File) -> io::Result<()> {
+    for _ in 0..u64::MAX {
+        if !one_case(rt, file)? {
+            break;
+        }
     }
+    Ok(())
 }
 
-fn main() {
-    let path = b"cases";
-    let fd = os::open_read(path);
-    if fd < 0 {
-        os::fail(path);
-        return;
+fn main(rt: HostRuntime) -> io::Result<()> {
+    match fs::open(&rt, "cases") {
+        Ok(file) => all_cases(&rt, &file),
+        Err(error) => eprintln!(rt; "cases: {error}"),
     }
-    all_cases(fd);
-    libc::close(fd);
 }

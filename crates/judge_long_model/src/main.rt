@@ -1,6 +1,8 @@
 // Judges pa.bin and ct.bin.
 #![tactic(auto)]
 
-fn main() {
-    judging_program::judge_files();
+use std::io;
+
+fn main(rt: HostRuntime) -> io::Result<()> {
+    judging_program::judge_files(&rt)
 }

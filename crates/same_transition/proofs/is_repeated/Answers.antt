@@ -1,6 +1,7 @@
 -- `is_repeated` meets its contract. The invariant: none of the records before `place` is the same as the last. The measure is what is left
 -- before `at`.
 use Prim.Native.Nat.{◌+◌, ◌-◌}
+use mathlib.Core.Path.{subst⁻¹}
 use native.Mathlib.Omega.{arith}
 use Rattle.rules.specs.definitions.Reading.{after_transition, entry_count_at}
 use Rattle.field.specs.Taken.{taken_at}

@@ -4,10 +4,10 @@
 ghost use Rattle.std.specs.Prelude.{◌<◌, ◌≡◌, length, get_or};
 ghost use Rattle.bisimulation.specs.definitions.Choice.{if_same};
 ghost use Rattle.joined.specs.definitions.AlikeAnswer.{parts_number};
-ghost use Rattle.alike.specs.Alike.{named, Compares, AlikeAnswered};
+ghost use Rattle.alike.specs.Alike.{named, says_no, number_in, Compares, AlikeAnswered};
 
 use answer::Answer;
-use judgement::Verdict;
+use fault::Refusal;
 use limits::{STATES, Terms};
 use rule_kind::Kind;
 
@@ -19,23 +19,28 @@ pub struct AlikeAnswer {
     pub alike: u32,
 }
 
-// 27 where the first's count is above n or a state is not in its part, else 0.
-fn parts_number(n: usize, first_count: usize, first_state: usize, second_state: usize) -> u32
-    ensures { result ≡ parts_number n (named first_count first_state second_state) }
+// 27 where the first's count is above n or a state is not in its part.
+fn test_parts(
+    n: usize,
+    first_count: usize,
+    first_state: usize,
+    second_state: usize,
+) -> Result<(), Refusal>
+    ensures { number_in result ≡ parts_number n (named first_count first_state second_state) }
 {
     if n < first_count {
-        return 27;
+        return Err(Refusal::NotInPart);
     }
     if first_count <= first_state {
-        return 27;
+        return Err(Refusal::NotInPart);
     }
     if second_state < first_count {
-        return 27;
+        return Err(Refusal::NotInPart);
     }
     if n <= second_state {
-        return 27;
+        return Err(Refusal::NotInPart);
     }
-    0
+    Ok(())
 }
 
 fn same_block(blocks: &[u8], v: usize, u: usize) -> u32
@@ -48,18 +53,23 @@ fn same_block(blocks: &[u8], v: usize, u: usize) -> u32
     0
 }
 
+// A refusal says nothing of the states.
+fn unsaid(answer: Answer) -> AlikeAnswer
+    ensures { result ≡ says_no answer }
+{
+    AlikeAnswer { answer, alike: 0 }
+}
+
 // What is said of two states by accepted blocks.
 fn compare(blocks: &[u8], first_count: usize, first: usize, second: usize) -> AlikeAnswer
     ensures { Compares blocks.now (named first_count first second) result }
 {
-    let parts = parts_number(blocks.len(), first_count, first, second);
-    let answer = answer::without_place(parts, 0);
-    if parts != 0 {
-        return AlikeAnswer { answer, alike: 0 };
-    }
-    AlikeAnswer {
-        answer,
-        alike: same_block(blocks, first, second),
+    match test_parts(blocks.len(), first_count, first, second) {
+        Ok(()) => AlikeAnswer {
+            answer: Answer::written(0),
+            alike: same_block(blocks, first, second),
+        },
+        Err(refusal) => unsaid(Answer::refused(refusal)),
     }
 }
 
@@ -73,25 +83,20 @@ pub fn alike_answer(
 ) -> AlikeAnswer
     ensures { AlikeAnswered model.now certificate.now (named first_count first_state second_state) result }
 {
-    let head = judgement::head_answer(model);
-    if head.number != 0 {
-        return AlikeAnswer {
-            answer: head,
-            alike: 0,
-        };
+    if let Err(refused) = judgement::head_answer(model) {
+        return unsaid(refused);
     }
-    let found = judgement::judge_files(Kind::Plain, Terms::Lowest, model, certificate, STATES);
-    match found {
-        Verdict::Accepted {
-            states,
-            transitions,
-            blocks: at,
-        } => compare(
-            &certificate[at..at + states],
-            first_count as usize,
-            first_state as usize,
-            second_state as usize,
-        ),
-        Verdict::Refused(answer) => AlikeAnswer { answer, alike: 0 },
+    match judgement::judge_files(Kind::Plain, Terms::Lowest, model, certificate, STATES) {
+        Ok(found) => {
+            let at = found.blocks;
+            let blocks = &certificate[at..at + found.states];
+            compare(
+                blocks,
+                first_count as usize,
+                first_state as usize,
+                second_state as usize,
+            )
+        }
+        Err(refused) => unsaid(refused),
     }
 }

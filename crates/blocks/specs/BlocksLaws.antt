@@ -1,19 +1,19 @@
 -- Laws of the blocks record.
-use Rattle.std.specs.Prelude.{ℕ, zero, suc, ◌+◌, ◌-◌, ◌≤◌, ◌<◌, ◌≡◌, refl, Bool, true, false, List, length, take, drop, get_or}
+use Rattle.std.specs.Prelude.{ℕ, zero, suc, ◌+◌, ◌-◌, ◌≤◌, ◌<◌, ◌≡◌, refl, Bool, List, length, take, drop, Err}
 use Rattle.std.proofs.Common.{sym, ◌∙◌, ap, subst, get_or-take, get_or-drop, arith}
-use Rattle.bisimulation.specs.definitions.Choice.{if_less, if_same, if_true, all_below}
+use Rattle.bisimulation.specs.definitions.Choice.{if_less, if_same, if_true}
 use Rattle.bisimulation.proofs.argument.ChoiceLaws.{either_same, via}
 use Rattle.bisimulation.specs.definitions.Automaton.{Automaton}
 use Rattle.bisimulation.specs.definitions.Pairs.{Pairs}
 use Rattle.rules.specs.definitions.Limits.{limits}
-use Rattle.rules.specs.definitions.Bytes.{byte_at, two_at}
+use Rattle.rules.specs.definitions.Bytes.{byte_at}
 use Rattle.rules.specs.definitions.Certificate.{numbered_fault, pairs_fault, blocks_at, blocks_fault}
 use Rattle.rules.specs.definitions.Faults as rules
 use Rattle.rules.specs.definitions.Faults.{fault, no_fault, Passes, certificate_record, open_fault}
-use Rattle.rules.proofs.argument.FaultLaws.{first_stops, first_passes, certificate-refuses, opened, pass-if_less}
+use Rattle.rules.proofs.argument.FaultLaws.{pass_on, first_stops, first_passes, certificate-refuses, opened, pass-if_less}
 use Rattle.fault.specs.declared.Fault.{Fault}
-use Rattle.fault.specs.Faults.{fault_of, Placed}
-use Rattle.fault.specs.FaultsLaws.{none_is, placed-some}
+use Rattle.fault.specs.Faults.{Placed}
+use Rattle.fault.specs.FaultsLaws.{refuses}
 use Rattle.pairs.specs.Rows.{HoldsPairs}
 use Rattle.classes.specs.Classes.{SmallBytes, shared_as_related, Agrees}
 use Rattle.blocks.specs.Blocks.{BlocksJudged}
@@ -69,40 +69,34 @@ pairs-fault A R C at n k m rows answer states e all held agrees =
     (sym ((subst (λ (x : ℕ). Agrees (take k (drop (at + 2) C)) x rows answer) all agrees).tells R held ∙ subst (λ (x : ℕ). shared_as_related n (take k (drop (at + 2) C)) R ≡ shared_as_related x (take x (drop (at + 2) C)) R) same
     (ap (λ (x : ℕ). shared_as_related x (take k (drop (at + 2) C)) R) (sym e))))
 
+-- the record opened, of an automaton with so many states
+opens_of : {x : rules.Fault} (A : Automaton) (C : List ℕ) (n at : ℕ) → A.states ≡ n → x ≡ open_fault certificate_record 0x424B (2 + n) C at → x ≡ open_fault certificate_record 0x424B (2 + A.states) C at
+opens_of A C n at e h = h ∙ ap (λ (k : ℕ). open_fault certificate_record 0x424B (2 + k) C at) (sym e)
+
 -- the record's ways out
-module _ (C : List ℕ) (at n : ℕ) (o : Fault) (opens : fault_of o ≡ open_fault certificate_record 0x424B (2 + n) C at) where
-  opens_of : (A : Automaton) → A.states ≡ n → fault_of o ≡ open_fault certificate_record 0x424B (2 + A.states) C at
-  opens_of A e = opens ∙ ap (λ (k : ℕ). open_fault certificate_record 0x424B (2 + k) C at) (sym e)
-
-  pub not_opened : {rows : List ℕ} {r : Fault} → (o.number ≡ 0 → ⊥) → Placed (fault_of o) at r → BlocksJudged C at n rows r
+module _ (C : List ℕ) (at n : ℕ) where
+  pub not_opened : {T U : Type 0} {rows : List ℕ} {f : Fault} → Placed {T = T} (open_fault certificate_record 0x424B (2 + n) C at) at (Err f) → BlocksJudged {T = U} C at n rows (Err f)
   unfolding blocks_fault
-  not_opened some p =
-      record { is = λ A e R h. p.is ∙ first_stops _ _ (opens_of A e) some; place = p.at; inside = λ z. absurd (placed-some o p some z) }
+  not_opened {f = f} p =
+      record { is = λ A e R h. first_stops _ _ (opens_of A C n at e p.is) (refuses f.refusal); place = p.at; inside = tt }
 
-  module _ (z : o.number ≡ 0) where
+  module _ (opens : no_fault ≡ open_fault certificate_record 0x424B (2 + n) C at) where
     pub whole : at + 2 + n ≤ length C
-    whole = omega (arith, (opened certificate_record 0x424B (2 + n) C at certificate-refuses (none_is o opens z)).whole)
+    whole = omega (arith, (opened certificate_record 0x424B (2 + n) C at certificate-refuses (pass_on opens refl)).whole)
 
-    module _ (x : Fault) (numbered : fault_of x ≡ numbered_fault C n (at + 2) 0) where
-      pub not-numbered : {rows : List ℕ} {r : Fault} → (x.number ≡ 0 → ⊥) → Placed (fault_of x) at r → BlocksJudged C at n rows r
-      unfolding blocks_fault
-      not-numbered some p =
-          record {
-            is = λ A e R h. p.is ∙ first_passes _ _ (opens_of A e) z (first_stops _ _ (numbered_of A C n (at + 2) e numbered) some);
-            place = p.at;
-            inside = λ none. absurd (placed-some x p some none);
-          }
+    pub not-numbered : {U V : Type 0} {rows : List ℕ} {f : Fault} → Placed {T = U} (numbered_fault C n (at + 2) 0) at (Err f) → BlocksJudged {T = V} C at n rows (Err f)
+    unfolding blocks_fault
+    not-numbered {f = f} p =
+        record {
+          is = λ A e R h. first_passes _ _ (opens_of A C n at e opens) refl (first_stops _ _ (numbered_of A C n (at + 2) e p.is) (refuses f.refusal));
+          place = p.at;
+          inside = tt;
+        }
 
-      -- 18 or none, as the comparison says
-      pub compared : {rows : List ℕ} {r : Fault} → x.number ≡ 0 → {k m : ℕ} {answer : Bool} → Agrees (take k (drop (at + 2) C)) m rows answer → k ≡ n → m ≡ n → (f : Fault) → fault_of f ≡ if_true answer no_fault (fault 18) → Placed (fault_of f) at r → BlocksJudged C at n rows r
-      unfolding blocks_fault
-      compared {rows} y {k} {m} {answer} agrees part all f found p =
-          record {
-            is = λ A e R h.
-                p.is
-                ∙ first_passes _ _ (opens_of A e) z
-                (first_passes _ _ (numbered_of A C n (at + 2) e numbered) y
-                (via (pairs-fault A R C at n k m rows answer e part all h agrees) found));
-            place = p.at;
-            inside = λ _. whole;
-          }
+    -- 18 or none, as the comparison says
+    pub compared : no_fault ≡ numbered_fault C n (at + 2) 0 → {rows : List ℕ} {k m : ℕ} {answer : Bool} → Agrees (take k (drop (at + 2) C)) m rows answer → k ≡ n → m ≡ n → {f : rules.Fault} → f ≡ if_true answer no_fault (fault 18) → (A : Automaton) → A.states ≡ n → (R : Pairs) → HoldsPairs n R rows → f ≡ blocks_fault A C R at
+    unfolding blocks_fault
+    compared numbered {rows} {k} {m} {answer} agrees part all found A e R h =
+        first_passes _ _ (opens_of A C n at e opens) refl
+        (first_passes _ _ (numbered_of A C n (at + 2) e numbered) refl
+        (via (pairs-fault A R C at n k m rows answer e part all h agrees) found))

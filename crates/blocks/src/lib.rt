@@ -5,11 +5,10 @@ ghost use Rattle.std.specs.Prelude.{◌+◌, ◌≤◌, length, ◌≡◌};
 ghost use Rattle.bisimulation.specs.definitions.Choice.{if_same};
 ghost use Rattle.rules.specs.definitions.Limits.{limits};
 ghost use Rattle.rules.specs.definitions.Certificate.{numbered_fault};
-ghost use Rattle.fault.specs.Faults.{fault_of};
+ghost use Rattle.fault.specs.Faults.{fault_in};
 ghost use Rattle.blocks.specs.Blocks.{BlocksJudged};
 
-use fault::Fault;
-use field::Cursor;
+use fault::{Fault, Refusal};
 use pairs::Rows;
 
 const MARK: usize = 0x424B;
@@ -26,42 +25,31 @@ fn seen_after(seen: usize, block: usize) -> usize
 }
 
 // 17, of the n blocks from a place on.
-fn numbered_fault(cert: &[u8], at: usize, n: usize) -> Fault
+fn numbered_fault(cert: &[u8], at: usize, n: usize) -> Result<(), Fault>
     requires { (at + n ≤ length cert.now) × (n ≤ limits.states) }
-    ensures { fault_of result ≡ numbered_fault cert.now n at 0 }
+    ensures { fault_in result ≡ numbered_fault cert.now n at 0 }
 {
-    let mut left = n;
-    let mut place = Cursor::new(at);
     let mut seen = 0;
-    while 0 < left {
-        let field = place.byte(cert);
-        let block = field.value;
+    for byte in &cert[at..at + n] {
+        let block = *byte as usize;
         if seen < block {
-            return fault::refusal(17);
+            return Err(Refusal::BlockNumbers.fault());
         }
         seen = seen_after(seen, block);
-        place = field.next;
-        left -= 1;
     }
-    fault::none()
+    Ok(())
 }
 
 // Refusals 11, 12, 17 and 18 of the blocks record at a place, for n states and the pairs left.
-pub fn blocks_fault(cert: &[u8], at: usize, n: usize, rows: &Rows) -> Fault
+pub fn blocks_fault(cert: &[u8], at: usize, n: usize, rows: &Rows) -> Result<(), Fault>
     requires { (at ≤ length cert.now) × (n ≤ limits.states) }
     ensures { BlocksJudged cert.now at n rows.now result }
 {
-    let opened = record::open_certificate(cert, at, MARK, 2 + n);
-    if opened.number != 0 {
-        return opened.at(at);
-    }
+    record::open_certificate(cert, at, MARK, 2 + n)?;
     let start = at + 2;
-    let numbered = numbered_fault(cert, start, n);
-    if numbered.number != 0 {
-        return numbered.at(at);
-    }
+    fault::at_place(numbered_fault(cert, start, n), at)?;
     if !classes::agrees(&cert[start..start + n], n, rows) {
-        return fault::refusal(18).at(at);
+        return Err(Refusal::BlockPairs.fault().at(at));
     }
-    fault::none().at(at)
+    Ok(())
 }

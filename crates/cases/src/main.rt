@@ -11,19 +11,46 @@ use std::{fs, io};
 
 const HEAD: usize = 21;
 
-const JUDGE: usize = 0;
+// The calls of two files that write into a lent buffer.
+#[derive(Clone, Copy)]
+enum Writing {
+    Reduce,
+    Join,
+    Sheet,
+    JudgeCosts,
+}
 
-const REDUCE: usize = 1;
+// The calls other than the judging program.
+#[derive(Clone, Copy)]
+enum Call {
+    Fetch,
+    Alike,
+    Write(Writing),
+}
 
-const FETCH: usize = 2;
+// What a case asks for, by its tag.
+#[derive(Clone, Copy)]
+enum Asked {
+    Judge,
+    Call(Call),
+}
 
-const JOIN: usize = 3;
+impl TryFrom<usize> for Asked {
+    type Error = usize;
 
-const ALIKE: usize = 4;
-
-const SHEET: usize = 5;
-
-const JUDGE_COSTS: usize = 6;
+    fn try_from(tag: usize) -> Result<Self, usize> {
+        match tag {
+            0 => Ok(Asked::Judge),
+            1 => Ok(Asked::Call(Call::Write(Writing::Reduce))),
+            2 => Ok(Asked::Call(Call::Fetch)),
+            3 => Ok(Asked::Call(Call::Write(Writing::Join))),
+            4 => Ok(Asked::Call(Call::Alike)),
+            5 => Ok(Asked::Call(Call::Write(Writing::Sheet))),
+            6 => Ok(Asked::Call(Call::Write(Writing::JudgeCosts))),
+            _ => Err(tag),
+        }
+    }
+}
 
 fn print_byte(rt: &impl Print, b: u8) -> io::Result<()> {
     print!(rt; "{b:02x}")
@@ -42,32 +69,32 @@ fn print_answer(rt: &impl Print, answer: Answer) -> io::Result<()> {
 }
 
 // What was written into a buffer, in hexadecimal, or a sheet as it is, or blocks by their states.
-fn print_written(rt: &impl Print, kind: usize, out: &[u8], written: usize) -> io::Result<()> {
+fn print_written(rt: &impl Print, call: Writing, out: &[u8], written: usize) -> io::Result<()> {
     let end = judging_program::at_most(written, out);
-    match kind {
-        SHEET => judging_program::print(rt, &out[..end]),
-        JUDGE_COSTS => judging_program::print_blocks(rt, &out[..end]),
-        _ => print_bytes(rt, &out[..end]),
+    match call {
+        Writing::Sheet => judging_program::print(rt, &out[..end]),
+        Writing::JudgeCosts => judging_program::print_blocks(rt, &out[..end]),
+        Writing::Reduce | Writing::Join => print_bytes(rt, &out[..end]),
     }
 }
 
 // The call of two files that writes into a lent buffer.
-fn write(kind: usize, first: &[u8], second: &[u8], out: &mut [u8]) -> Answer {
-    match kind {
-        REDUCE => reduce::reduce_answer(first, second, out),
-        SHEET => sheet::sheet_answer(first, second, out),
-        JOIN => join::join_answer(first, second, out),
-        _ => judge::judge_costs_answer(first, second, out),
+fn write(call: Writing, first: &[u8], second: &[u8], out: &mut [u8]) -> Answer {
+    match call {
+        Writing::Reduce => reduce::reduce_answer(first, second, out),
+        Writing::Sheet => sheet::sheet_answer(first, second, out),
+        Writing::Join => join::join_answer(first, second, out),
+        Writing::JudgeCosts => judge::judge_costs_answer(first, second, out),
     }
 }
 
-fn write_and_print(rt: &impl Print, kind: usize, first: &[u8], second: &[u8]) -> io::Result<()> {
+fn write_and_print(rt: &impl Print, call: Writing, first: &[u8], second: &[u8]) -> io::Result<()> {
     // long enough: blocks and merged models are no longer than their model, a joined one is a model, a sheet has at most 73 bytes a state
     let mut out = [0u8; MODEL];
-    let answer = write(kind, first, second, &mut out);
+    let answer = write(call, first, second, &mut out);
     print_answer(rt, answer)?;
     if answer.number == 0 {
-        print_written(rt, kind, &out, answer.written)?;
+        print_written(rt, call, &out, answer.written)?;
     }
     Ok(())
 }
@@ -122,14 +149,14 @@ struct Numbers {
 
 fn answer_case(
     rt: &impl Print,
-    kind: usize,
+    call: Call,
     numbers: Numbers,
     first: &[u8],
     second: &[u8],
 ) -> io::Result<()> {
-    match kind {
-        FETCH => fetch_and_print(rt, first, numbers.first),
-        ALIKE => alike_and_print(
+    match call {
+        Call::Fetch => fetch_and_print(rt, first, numbers.first),
+        Call::Alike => alike_and_print(
             rt,
             first,
             numbers.first,
@@ -137,14 +164,14 @@ fn answer_case(
             numbers.second,
             numbers.third,
         ),
-        _ => write_and_print(rt, kind, first, second),
+        Call::Write(writing) => write_and_print(rt, writing, first, second),
     }
 }
 
 // Reads two files, each as far as its slice has room, and answers.
 fn read_and_answer(
     rt: &impl Print,
-    kind: usize,
+    call: Call,
     numbers: Numbers,
     file: &File,
     first: &mut [u8],
@@ -152,13 +179,13 @@ fn read_and_answer(
 ) -> io::Result<()> {
     let m = judging_program::read_full(Some(file), first);
     let c = judging_program::read_full(Some(file), second);
-    answer_case(rt, kind, numbers, &first[..m], &second[..c])
+    answer_case(rt, call, numbers, &first[..m], &second[..c])
 }
 
 // A call other than the judging program, for two files of so many bytes.
 fn answer_streams(
     rt: &impl Print,
-    kind: usize,
+    call: Call,
     numbers: Numbers,
     file: &File,
     first_bytes: usize,
@@ -168,7 +195,7 @@ fn answer_streams(
     let mut second = [0u8; CERTIFICATE];
     let m = judging_program::at_most(first_bytes, &first);
     let c = judging_program::at_most(second_bytes, &second);
-    read_and_answer(rt, kind, numbers, file, &mut first[..m], &mut second[..c])
+    read_and_answer(rt, call, numbers, file, &mut first[..m], &mut second[..c])
 }
 
 // Answers the next case, and whether there was one. A tag that is none of these ends the cases.
@@ -184,20 +211,28 @@ fn one_case(rt: &(impl Print + Eprint), file: &File) -> io::Result<bool> {
     let second = first.next.quad(&head);
     let model = second.next.quad(&head);
     let certificate = model.next.quad(&head);
-    let kind = tag.value;
-    if JUDGE_COSTS < kind {
+    let Ok(asked) = Asked::try_from(tag.value) else {
         return Ok(false);
-    }
-    if kind == JUDGE {
-        judging_program::judge_streams(rt, Some(file), model.value, Some(file), certificate.value)?;
-        return Ok(true);
-    }
+    };
     let numbers = Numbers {
         first: number.value as u32,
         second: first.value as u32,
         third: second.value as u32,
     };
-    answer_streams(rt, kind, numbers, file, model.value, certificate.value)?;
+    match asked {
+        Asked::Judge => {
+            judging_program::judge_streams(
+                rt,
+                Some(file),
+                model.value,
+                Some(file),
+                certificate.value,
+            )?
+        }
+        Asked::Call(call) => {
+            answer_streams(rt, call, numbers, file, model.value, certificate.value)?
+        }
+    }
     Ok(true)
 }
 

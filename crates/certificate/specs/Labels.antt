@@ -1,6 +1,6 @@
 -- The labels in a model file: the first related pairs.
 use Rattle.std.specs.Prelude.{ℕ, ◌≤◌, ◌≡◌, drop}
-use Rattle.std.proofs.Common.{sym, ◌∙◌, arith}
+use Rattle.std.proofs.Common.{◌∙◌, arith}
 use Rattle.std.proofs.Math.Path.{ap}
 use mathlib.Core.List.{List}
 use Rattle.std.proofs.Math.ListN.{take, get_or}

@@ -1,7 +1,9 @@
 -- Laws of the rows by classes.
 use Rattle.std.specs.Prelude.{ℕ, ◌+◌, ◌<◌, ◌≡◌, Bool, true, false, not, List, eqb, length, get_or}
 use Rattle.std.proofs.Math.Path.{refl, sym}
-use Rattle.std.proofs.Common.{ap, ap₂, ◌∙◌, arith, below_more, eq-eqb, ne_eqb}
+use Rattle.std.proofs.Common.{ap, ap₂, ◌∙◌, subst, zero-add, arith, below_more, MatchBool, eq-eqb, ne_eqb}
+use Rattle.std.specs.List.{range_with_len, AllWithin, HoldsAt}
+use Rattle.std.proofs.lemmas.List.FromFn.{get_or-range_with_len, length-range_with_len}
 use Rattle.std.proofs.Math.Decide.{ℕ_discrete, dec_lt}
 use Rattle.bisimulation.proofs.argument.ChoiceLaws.{false-not, all-below, below_all}
 use Rattle.bisimulation.specs.definitions.Automaton.{Automaton}
@@ -9,7 +11,8 @@ use Rattle.bisimulation.specs.definitions.Pairs.{Pairs, equal_labels}
 use Rattle.rules.specs.definitions.Certificate.{agree, same_block}
 use Rattle.rules.specs.definitions.Limits.{limits}
 use Rattle.limits.specs.Sizes.{row_words}
-use Rattle.pairs.specs.Rows.{row_bit, NoRows, HoldsRows, HoldsPairs, related_rows, copied_rows}
+use Rattle.word.specs.Bits.{AreSame}
+use Rattle.pairs.specs.Rows.{row_bits, row_bit, NoRows, HoldsRows, HoldsPairs, related_rows, copied_rows}
 use Rattle.pairs.specs.RowsLaws.{related-here, related-other, related-length, copied-length, copied-here, copied-other}
 use Rattle.classes.specs.Classes.{same_labels, IsRow, SmallBytes, AreClasses, Agrees, shared_as_related}
 
@@ -90,32 +93,32 @@ unfolding agree
 same-agree true b e = sym e
 same-agree false b e = ap not (sym e)
 
--- the row of a state has the bits of its block's, and so have the rows up to v
-pub record Alike (blocks members rows : List ℕ) (w : ℕ) : Type 0 where
-  pub bits : (u : ℕ) → row_bit rows w u ≡ row_bit members (get_or blocks w 0) u
+-- what is said of item v of `0..n` is said of v
+from-range : (P : ℕ → Type 0) {n : ℕ} (v : ℕ) → v < n → P (get_or (range_with_len 0 n) v 0) → P v
+from-range P {n} v less = subst P (get_or-range_with_len 0 n v 0 less ∙ zero-add v)
 
-pub same_more : {blocks members : List ℕ} {n : ℕ} → AreClasses blocks n members → (rows : List ℕ) (v byte : ℕ) → ((w : ℕ) → w < v → Alike blocks members rows w) → byte ≡ get_or blocks v 0 → ((u : ℕ) → row_bit rows v u ≡ row_bit members byte u) → (w : ℕ) → w < v + 1 → Alike blocks members rows w
-same_more {blocks} {members} c rows v byte all e f =
-    below_more (Alike blocks members rows) v all (record { bits = λ u. f u ∙ ap (λ (b : ℕ). row_bit members b u) e })
+-- whether the row of a state has the bits of its block's
+abbrev pub RowTold : (blocks members rows : List ℕ) → Bool → ℕ → Type 0
+RowTold blocks members rows told v = AreSame row_bits (row_bit rows v) (row_bit members (get_or blocks v 0)) told
 
 -- the rows are compared: every row is that of its state's block, or one is not
 module _ {blocks members rows : List ℕ} {n : ℕ} (c : AreClasses blocks n members) (k : SmallBytes n blocks) where
-  pub agrees-all : ((v : ℕ) → v < n → Alike blocks members rows v) → Agrees blocks n rows true
+  agrees-all : ((v : ℕ) → v < n → (u : ℕ) → row_bit rows v u ≡ row_bit members (get_or blocks v 0) u) → Agrees blocks n rows true
   unfolding same_block
   agrees-all e =
       record {
         tells = λ R h. sym (below_all n _ (λ v less. below_all n _ (λ u below.
-            same-agree _ _ (sym ((c.row (get_or blocks v 0) (k.small v less)).bits u below) ∙ sym ((e v less).bits u) ∙ h.bits v u less below))));
+            same-agree _ _ (sym ((c.row (get_or blocks v 0) (k.small v less)).bits u below) ∙ sym (e v less u) ∙ h.bits v u less below))));
       }
 
-  pub agrees-not : (v byte : ℕ) → v < n → byte ≡ get_or blocks v 0 → (((u : ℕ) → row_bit rows v u ≡ row_bit members byte u) → ⊥) → Agrees blocks n rows false
+  agrees-not : (v : ℕ) → v < n → (((u : ℕ) → row_bit rows v u ≡ row_bit members (get_or blocks v 0) u) → ⊥) → Agrees blocks n rows false
   unfolding same_block
-  agrees-not v byte less e o = record { tells = λ R h. go R h (shared_as_related n blocks R) refl }
+  agrees-not v less o = record { tells = λ R h. go R h (shared_as_related n blocks R) refl }
     where
-      row : IsRow blocks (get_or blocks v 0) n (row_bit members byte)
-      row = rw e (c.row (get_or blocks v 0) (k.small v less))
+      row : IsRow blocks (get_or blocks v 0) n (row_bit members (get_or blocks v 0))
+      row = c.row (get_or blocks v 0) (k.small v less)
 
-      bit : (R : Pairs) → HoldsPairs n R rows → shared_as_related n blocks R ≡ true → (u : ℕ) → Dec (u < n) → row_bit rows v u ≡ row_bit members byte u
+      bit : (R : Pairs) → HoldsPairs n R rows → shared_as_related n blocks R ≡ true → (u : ℕ) → Dec (u < n) → row_bit rows v u ≡ row_bit members (get_or blocks v 0) u
       bit R h a u (yes below) =
           h.bits v u less below ∙ sym (agree_same _ _ (all-below n _ (all-below n _ a v less) u below)) ∙ sym (row.bits u below)
       bit R h a u (no above) = h.rest v u less (omega arith) ∙ sym (row.rest u (omega arith))
@@ -123,3 +126,10 @@ module _ {blocks members rows : List ℕ} {n : ℕ} (c : AreClasses blocks n mem
       go : (R : Pairs) → HoldsPairs n R rows → (t : Bool) → shared_as_related n blocks R ≡ t → false ≡ t
       go R h true a = absurd (o (λ u. bit R h a u (dec_lt u n)))
       go R h false a = refl
+
+  pub agrees-told : {r : Bool} → MatchBool r (AllWithin (RowTold blocks members rows true) (range_with_len 0 n) 0 (length (range_with_len 0 n))) ((i : ℕ) × (i < length (range_with_len 0 n)) × HoldsAt (RowTold blocks members rows false) (range_with_len 0 n) i) → Agrees blocks n rows r
+  agrees-told {r = true} all =
+      agrees-all (λ v less. (from-range (RowTold blocks members rows true) v less (all v 0 (omega arith) (omega (arith, length-range_with_len 0 n)))).alike refl)
+  agrees-told {r = false} (v, small, told) =
+      let less : v < n = omega (arith, length-range_with_len 0 n) in
+      agrees-not v less (λ all. (from-range (RowTold blocks members rows false) v less (told 0)).differ refl (λ i l. all i))

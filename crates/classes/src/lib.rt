@@ -4,7 +4,8 @@
 ghost use Rattle.std.specs.Prelude.{◌≤◌, ◌<◌, length, get_or, ◌≡◌};
 ghost use Rattle.rules.specs.definitions.Limits.{limits};
 ghost use Rattle.limits.specs.Sizes.{row_words};
-ghost use Rattle.pairs.specs.Rows.{NoRows, HoldsPairs};
+ghost use Rattle.word.specs.Bits.{AreSame};
+ghost use Rattle.pairs.specs.Rows.{row_bits, row_bit, NoRows, HoldsPairs};
 ghost use Rattle.classes.specs.Classes.{same_labels, SmallBytes, AreClasses, Agrees};
 
 use pairs::Rows;
@@ -22,11 +23,9 @@ fn classes(bytes: &[u8], n: usize, rows: &mut Rows)
     requires { (n ≤ limits.states) × (n ≤ length bytes.now) × SmallBytes n bytes.now × NoRows rows.old }
     ensures { AreClasses bytes.now n rows.new }
 {
-    let mut u = 0;
-    while u < n {
+    for u in 0..n {
         let byte = byte_of(bytes, n, u);
         pairs::relate(rows, byte, u);
-        u += 1;
     }
 }
 
@@ -37,12 +36,18 @@ pub fn start(labels: &[u8], n: usize, rows: &mut Rows)
 {
     let mut members = pairs::no_rows();
     classes(labels, n, &mut members);
-    let mut v = 0;
-    while v < n {
+    for v in 0..n {
         let byte = byte_of(labels, n, v);
         pairs::copy_row(rows, v, &members, byte);
-        v += 1;
     }
+}
+
+// Row v has the bits of that of its state's block.
+fn row_agrees(rows: &Rows, members: &Rows, blocks: &[u8], n: usize, v: usize) -> bool
+    requires { (v < n) × (n ≤ limits.states) × (n ≤ length blocks.now) × SmallBytes n blocks.now }
+    ensures { AreSame row_bits (row_bit rows.now v) (row_bit members.now (get_or blocks.now v 0)) result }
+{
+    pairs::same_in(rows, v, members, byte_of(blocks, n, v))
 }
 
 // Two states share a block exactly when they are related.
@@ -52,12 +57,5 @@ pub fn agrees(blocks: &[u8], n: usize, rows: &Rows) -> bool
 {
     let mut members = pairs::no_rows();
     classes(blocks, n, &mut members);
-    let mut v = 0;
-    while v < n {
-        if !pairs::same_in(rows, v, &members, byte_of(blocks, n, v)) {
-            return false;
-        }
-        v += 1;
-    }
-    true
+    (0..n).all(|v| row_agrees(rows, &members, blocks, n, v))
 }

@@ -14,7 +14,9 @@ use Rattle.two_models.specs.TwoModels.{BothSound}
 use Rattle.answer.specs.declared.Answer.{Answer}
 use Rattle.answer.specs.Answered.{OutcomeIs, CallAnswered}
 use Rattle.composed_size.specs.declared.Sizes.{Sizes}
-use Rattle.composed_size.specs.Sides.{composed_in, CanCompose}
+use Rattle.composed_size.specs.Sides.{composed_in}
+use Rattle.composed_size.specs.Composable.{CanCompose}
+use Rattle.composed_size.specs.declared.Side.{Side}
 use Rattle.composed_size.specs.Counted.{MovesCounted}
 
 -- the call that composes answers and leaves in the lent buffer what the request says, and keeps its demands
@@ -45,7 +47,7 @@ pub record StatesWithin (left : List ℕ) (m : Found) (right : List ℕ) (k : Fo
   pub labels : highest_label (automaton_of (composed_in left right)) ≤ current.label
 
 -- two models whose composition passes no limit, one more than the right's highest label, and the sizes
-pub record CanWriteFile (left : List ℕ) (m : Found) (left_table right : List ℕ) (k : Found) (right_table : List ℕ) (factor : ℕ) (sizes : Sizes) : Type 0 where
-  pub models : CanCompose left m left_table right k right_table
-  pub label : factor ≡ highest_label (automaton_in right) + 1
-  pub counted : MovesCounted left right sizes
+pub record CanWriteFile (left right : Side) (factor : ℕ) (sizes : Sizes) : Type 0 where
+  pub models : CanCompose left right
+  pub label : factor ≡ highest_label (automaton_in right.file.now) + 1
+  pub counted : MovesCounted left.file.now right.file.now sizes

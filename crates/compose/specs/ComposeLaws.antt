@@ -10,7 +10,7 @@ use Rattle.bisimulation.specs.definitions.Composed.{highest_label}
 use Rattle.rules.specs.definitions.Limits.{limits, current}
 use Rattle.rules.specs.definitions.Model.{Transition, Model, automaton_of}
 use Rattle.rules.specs.definitions.Reading.{model_at, read_whole}
-use Rattle.rules.specs.definitions.SoundModel.{Bytes, sum_over, entry_count}
+use Rattle.rules.specs.definitions.SoundModel.{SoundModel, Bytes, sum_over, entry_count}
 use Rattle.rules.specs.definitions.Answers as rules
 use Rattle.rules.specs.definitions.Answers.{Outcome, answer_without_place}
 use Rattle.rules.specs.definitions.Made.{made_outcome, OfTwo, two_files}
@@ -32,7 +32,8 @@ use Rattle.answer.specs.declared.Answer.{Answer}
 use Rattle.answer.specs.Answered.{Says, FileAnswered, FileWritten, OutcomeIs}
 use Rattle.answer.specs.AnsweredLaws.{gives-unwritten, without-stretch, file-stretch}
 use Rattle.composed_size.specs.declared.Sizes.{Sizes}
-use Rattle.composed_size.specs.Sides.{Sides, composed_in}
+use Rattle.composed_size.specs.Sides.{Sides, composed_in, two-sides}
+use Rattle.composed_size.specs.declared.Side.{Side}
 use Rattle.composed_size.specs.Counted.{MovesCounted}
 use Rattle.composed_file.specs.ComposedFile.{CanWriteComposed}
 use Rattle.compose.specs.Compose.{ComposeAnswered, ComposesSound, passes_states, passes_moves, StatesWithin, CanWriteFile}
@@ -131,32 +132,28 @@ module _ {left right table : List ℕ} {m k : Found} {factor : ℕ} {sizes : Siz
   pub moves-within : passes_composed current (model_at left) (model_at right) ≡ false
   moves-within = none_over (model_at left) (model_at right) c.transitions c.entries c.long w.states w.labels p
 
-  pub can_write : {left_table : List ℕ} → Known left m.states m.transitions left_table → CanWriteFile left m left_table right k table factor sizes
-  can_write known =
+  pub sound-within : SoundModel limits (composed_in left right)
+  sound-within =
       let j = w.models in
-      let sound = composed-sound current (model_at left) (model_at right) j.one.sound j.other.sound moves-within in
-      record {
-        models = record { sides = sides j known; sound = sound-any current (composed_in left right) sound };
-        label = w.label;
-        counted = c;
-      }
+      sound-any current (composed_in left right)
+      (composed-sound current (model_at left) (model_at right) j.one.sound j.other.sound moves-within)
 
 -- the length of the file, and room for it
-module _ {left left_table right right_table : List ℕ} {m k : Found} {factor : ℕ} {sizes : Sizes} (w : CanWriteFile left m left_table right k right_table factor sizes) where
-  pub few-sizes : (m.states * k.states ≤ limits.states) × (sizes.transitions ≤ limits.transitions) × (sizes.entries ≤ limits.entries)
+module _ {left right : Side} {factor : ℕ} {sizes : Sizes} (w : CanWriteFile left right factor sizes) where
+  pub few-sizes : (left.model.states * right.model.states ≤ limits.states) × (sizes.transitions ≤ limits.transitions) × (sizes.entries ≤ limits.entries)
   few-sizes =
       let J = w.models.sound in (
-        omega (arith, states-product w.models.sides, J.states),
+        omega (arith, states-product (two-sides left.known right.known), J.states),
         omega (arith, w.counted.transitions, J.count),
         omega (arith, w.counted.entries, J.entries),
       )
 
-  module _ {size : ℕ} (e : size ≡ 8 + m.states * k.states + 7 * sizes.transitions + 3 * sizes.entries) where
-    pub composed-size : size ≡ length (composed_file (model_at left) (model_at right))
+  module _ {size : ℕ} (e : size ≡ 8 + left.model.states * right.model.states + 7 * sizes.transitions + 3 * sizes.entries) where
+    pub composed-size : size ≡ length (composed_file (model_at left.file.now) (model_at right.file.now))
     composed-size =
-        omega (arith, e, file-length (composed_in left right), states-product w.models.sides, w.counted.transitions, w.counted.entries)
+        omega (arith, e, file-length (composed_in left.file.now right.file.now), states-product (two-sides left.known right.known), w.counted.transitions, w.counted.entries)
 
-    pub composed-room : {out : List ℕ} → size ≤ length out → CanWriteComposed left m left_table right k right_table factor sizes.transitions out
+    pub composed-room : {out : List ℕ} → size ≤ length out → CanWriteComposed left right factor sizes.transitions out
     composed-room h = record { models = w.models; label = w.label; count = w.counted.transitions; room = omega (arith, h, composed-size) }
 
 -- each way out for two sound models

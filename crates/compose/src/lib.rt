@@ -9,10 +9,10 @@ ghost use Rattle.two_models.specs.TwoModels.{BothSound};
 ghost use Rattle.compose.specs.Compose.{ComposeAnswered, ComposesSound, passes_states, passes_moves, StatesWithin, CanWriteFile};
 
 use answer::Answer;
-use composed_size::Sizes;
+use composed_size::{Side, Sizes};
+use fault::Refusal;
 use limits::{ENTRIES, LABEL, STATES, TRANSITIONS};
 use model::{Model, Places};
-use two_models::TwoRead;
 
 // Whether a limit is passed by so many states, or by a highest label.
 fn passes_states(states: usize, label: usize) -> bool
@@ -44,33 +44,14 @@ fn passes_moves(transitions: usize, entries: usize, long: usize) -> bool
 }
 
 // The file of the composition, written if there is room for it, and its length.
-fn write_file(
-    left: &[u8],
-    m: Model,
-    left_places: &Places,
-    right: &[u8],
-    k: Model,
-    right_places: &Places,
-    factor: usize,
-    sizes: Sizes,
-    out: &mut [u8],
-) -> usize
-    requires { CanWriteFile left.now m left_places.now right.now k right_places.now factor sizes }
-    ensures { FileWritten (composed_file (model_at left.now) (model_at right.now)) out.old out.new result }
+fn write_file(left: Side, right: Side, factor: usize, sizes: Sizes, out: &mut [u8]) -> usize
+    requires { CanWriteFile left right factor sizes }
+    ensures { FileWritten (composed_file (model_at left.entry.file.now) (model_at right.entry.file.now)) out.old out.new result }
 {
-    let size = 8 + m.states * k.states + 7 * sizes.transitions + 3 * sizes.entries;
+    let states = left.model.states * right.model.states;
+    let size = 8 + states + 7 * sizes.transitions + 3 * sizes.entries;
     if size <= out.len() {
-        composed_file::write_composed(
-            left,
-            m,
-            left_places,
-            right,
-            k,
-            right_places,
-            factor,
-            sizes.transitions,
-            out,
-        );
+        composed_file::write_composed(left, right, factor, sizes.transitions, out);
     }
     size
 }
@@ -89,23 +70,23 @@ fn compose_moves(
     ensures { ComposesSound left.now right.now out.old out.new result }
 {
     let left_places = transition::places_of(left, m.states, m.transitions);
-    let sizes = composed_size::count_moves(left, m, &left_places, right, k, right_places);
+    let first = Side {
+        file: left,
+        model: m,
+        places: &left_places,
+    };
+    let second = Side {
+        file: right,
+        model: k,
+        places: right_places,
+    };
+    let sizes = composed_size::count_moves(first, second);
     if passes_moves(sizes.transitions, sizes.entries, sizes.long) {
-        return answer::without_place(37, 0);
+        return Answer::refused(Refusal::ComposedLimits);
     }
     let room = out.len();
-    let size = write_file(
-        left,
-        m,
-        &left_places,
-        right,
-        k,
-        right_places,
-        factor,
-        sizes,
-        out,
-    );
-    answer::file_answer(38, size, room)
+    let size = write_file(first, second, factor, sizes, out);
+    Answer::of_file(Refusal::ComposedRoom, size, room)
 }
 
 // Two sound models. Where so many states or labels pass a limit, nothing is counted.
@@ -123,7 +104,7 @@ fn compose_sound(
     let own = composed_size::highest_label(left, m.states);
     let highest = composed_size::highest_label(right, k.states);
     if passes_states(m.states * k.states, own * (highest + 1) + highest) {
-        return answer::without_place(37, 0);
+        return Answer::refused(Refusal::ComposedLimits);
     }
     compose_moves(left, m, right, k, right_places, highest + 1, out)
 }
@@ -133,12 +114,8 @@ pub fn compose_answer(left: &[u8], right: &[u8], out: &mut [u8]) -> Answer
     ensures { ComposeAnswered left.now right.now out.old out.new result }
 {
     let mut places = model::no_places();
-    let read = two_models::read_two(left, right, &mut places);
-    match read {
-        TwoRead::Sound {
-            first: m,
-            second: k,
-        } => compose_sound(left, m, right, k, &places, out),
-        TwoRead::Refused(answer) => answer,
+    match two_models::read_two(left, right, &mut places) {
+        Ok((m, k)) => compose_sound(left, m, right, k, &places, out),
+        Err(refused) => refused,
     }
 }

@@ -8,7 +8,7 @@ use Rattle.rules.specs.definitions.Bytes.{two_bytes}
 use Rattle.rules.specs.definitions.Model.{head_bytes, labels_bytes, model_bytes}
 use Rattle.rules.specs.definitions.Reading.{model_at}
 use Rattle.rules.proofs.argument.SoundModelLaws.{each_map}
-use Rattle.model.specs.declared.Model.{Model as Found}
+use Rattle.composed_size.specs.declared.Side.{Side}
 use Rattle.writer.specs.Appends.{Appends, head_bytes_of}
 use Rattle.writer.specs.AppendsLaws.{append-model}
 use Rattle.composition.specs.definitions.Composition.{composed, composed_file}
@@ -18,24 +18,24 @@ use Rattle.composed_states.specs.ModelsLaws.{left-known, right-known, states-tim
 use Rattle.composed_file.specs.ComposedFile.{all_records, CanWriteComposed}
 use Rattle.composed_file.specs.Labels.{CanWriteLabels}
 
-module _ {left : List ℕ} {m : Found} {left_table right : List ℕ} {k : Found} {right_table : List ℕ} {factor transitions : ℕ} {out : List ℕ} (p : CanWriteComposed left m left_table right k right_table factor transitions out) where
+module _ {left right : Side} {factor transitions : ℕ} {out : List ℕ} (p : CanWriteComposed left right factor transitions out) where
   abbrev labels : List ℕ
-  labels = (composed_in left right).labels
+  labels = (composed_in left.file.now right.file.now).labels
 
   -- so many bytes
-  size : length (composed_file (model_at left) (model_at right)) ≡ 8 + length labels + length (all_records left right)
+  size : length (composed_file (model_at left.file.now) (model_at right.file.now)) ≡ 8 + length labels + length (all_records left.file.now right.file.now)
   unfolding model_bytes head_bytes labels_bytes two_bytes composed
-  size = omega (arith, length-append labels (all_records left right))
+  size = omega (arith, length-append labels (all_records left.file.now right.file.now))
 
-  pub states-fit : m.states * k.states < 256
+  pub states-fit : left.model.states * right.model.states < 256
   states-fit = omega (arith, states-times p.models, p.models.sound.states)
 
-  module _ {actions : ℕ} (e : actions ≡ larger m.actions k.actions) where
-    is-larger : actions ≡ (composed_in left right).actions
+  module _ {actions : ℕ} (e : actions ≡ larger left.model.actions right.model.actions) where
+    is-larger : actions ≡ (composed_in left.file.now right.file.now).actions
     unfolding composed
-    is-larger = e ∙ ap₂ larger p.models.sides.first.actions p.models.sides.second.actions
+    is-larger = e ∙ ap₂ larger left.known.actions right.known.actions
 
-    pub head-fits : (8 ≤ length out) × (m.states * k.states < 256) × (actions < 256) × (transitions < 65536)
+    pub head-fits : (8 ≤ length out) × (left.model.states * right.model.states < 256) × (actions < 256) × (transitions < 65536)
     head-fits = (
       omega (arith, p.room, size),
       states-fit,
@@ -43,12 +43,12 @@ module _ {left : List ℕ} {m : Found} {left_table right : List ℕ} {k : Found}
       omega (arith, p.count, p.models.sound.count),
     )
 
-    module _ {at : ℕ} {a : List ℕ} (h : Appends (head_bytes_of (m.states * k.states) actions transitions) 0 out a at) where
+    module _ {at : ℕ} {a : List ℕ} (h : Appends (head_bytes_of (left.model.states * right.model.states) actions transitions) 0 out a at) where
       past_head : at ≡ 8
       unfolding two_bytes
       past_head = h.place
 
-      pub labels-fit : CanWriteLabels left m.states factor right k.states a at
+      pub labels-fit : CanWriteLabels left.file.now left.model.states factor right.file.now right.model.states a at
       labels-fit =
           record {
             first = ((left-known p.models).states, (left-known p.models).labels);
@@ -59,12 +59,12 @@ module _ {left : List ℕ} {m : Found} {left_table right : List ℕ} {k : Found}
           }
 
       module _ {next : ℕ} {b : List ℕ} (l : Appends labels at a b next) where
-        pub records-fit : CanWriteMoves left m left_table right k right_table (all_records left right) b next
+        pub records-fit : CanWriteMoves left right (all_records left.file.now right.file.now) b next
         records-fit = record { models = p.models; room = omega (arith, l.place, l.size, past_head, h.size, p.room, size) }
 
-        pub file-written : {end : ℕ} {after : List ℕ} → Appends (all_records left right) next b after end → Appends (composed_file (model_at left) (model_at right)) 0 out after end
+        pub file-written : {end : ℕ} {after : List ℕ} → Appends (all_records left.file.now right.file.now) next b after end → Appends (composed_file (model_at left.file.now) (model_at right.file.now)) 0 out after end
         unfolding composed
         file-written {end} {after} r =
-            let C = composed_in left right in
+            let C = composed_in left.file.now right.file.now in
             subst (λ (x : ℕ). Appends (model_bytes (record { actions = x; labels = labels; transitions = C.transitions })) 0 out after end) is-larger
             ((append-model (sym (states-times p.models)) h l r).file C.transitions refl p.count)

@@ -10,155 +10,91 @@ ghost use Rattle.composed_states.specs.Needs.{IsRun, CanWriteMoves};
 ghost use Rattle.composed_file.specs.ComposedFile.{row_records, all_records, CanWriteComposed};
 ghost use Rattle.composed_file.specs.Labels.{label_row, CanWriteLabelRow, CanWriteLabels};
 
+use composed_size::Side;
 use composed_states::Run;
-use model::{Model, Places};
 
 // The moves from each state (s,e) of one s.
-fn write_row(
-    left: &[u8],
-    m: Model,
-    left_places: &Places,
-    from: Run,
-    right: &[u8],
-    k: Model,
-    right_places: &Places,
-    out: &mut [u8],
-    at: usize,
-) -> usize
-    requires { CanWriteMoves left.now m left_places.now right.now k right_places.now (row_records left.now right.now from.state) out.old at × IsRun (automaton_in left.now) from }
-    ensures { Appends (row_records left.now right.now from.state) at out.old out.new result }
+fn write_row(left: Side, from: Run, right: Side, out: &mut [u8], at: usize) -> usize
+    requires { CanWriteMoves left right (row_records left.file.now right.file.now from.state) out.old at × IsRun (automaton_in left.file.now) from }
+    ensures { Appends (row_records left.entry.file.now right.entry.file.now from.state) at out.old out.new result }
 {
-    let n = k.states;
     let mut first = 0;
-    let mut e = 0;
     let mut next = at;
-    while e < n {
-        let past = runs::run_past(right, k.transitions, right_places, e, first);
+    for e in 0..right.model.states {
+        let past = runs::run_past(right.file, right.model.transitions, right.places, e, first);
         let run = Run {
             state: e,
             first,
             past,
         };
-        next = composed_states::write_state(
-            left,
-            m,
-            left_places,
-            from,
-            right,
-            k,
-            right_places,
-            run,
-            out,
-            next,
-        );
+        next = composed_states::write_state(left, from, right, run, out, next);
         first = past;
-        e += 1;
     }
     next
 }
 
 // The moves from all states.
-fn write_moves(
-    left: &[u8],
-    m: Model,
-    left_places: &Places,
-    right: &[u8],
-    k: Model,
-    right_places: &Places,
-    out: &mut [u8],
-    at: usize,
-) -> usize
-    requires { CanWriteMoves left.now m left_places.now right.now k right_places.now (all_records left.now right.now) out.old at }
-    ensures { Appends (all_records left.now right.now) at out.old out.new result }
+fn write_moves(left: Side, right: Side, out: &mut [u8], at: usize) -> usize
+    requires { CanWriteMoves left right (all_records left.file.now right.file.now) out.old at }
+    ensures { Appends (all_records left.entry.file.now right.entry.file.now) at out.old out.new result }
 {
-    let n = m.states;
     let mut first = 0;
-    let mut s = 0;
     let mut next = at;
-    while s < n {
-        let past = runs::run_past(left, m.transitions, left_places, s, first);
+    for s in 0..left.model.states {
+        let past = runs::run_past(left.file, left.model.transitions, left.places, s, first);
         let from = Run {
             state: s,
             first,
             past,
         };
-        next = write_row(
-            left,
-            m,
-            left_places,
-            from,
-            right,
-            k,
-            right_places,
-            out,
-            next,
-        );
+        next = write_row(left, from, right, out, next);
         first = past;
-        s += 1;
     }
     next
 }
 
 // The labels of the states (s,e) of an s with this label; `factor` is one more than the right's highest.
-fn write_label_row(
-    label: usize,
-    factor: usize,
-    right: &[u8],
-    n: usize,
-    out: &mut [u8],
-    at: usize,
-) -> usize
-    requires { CanWriteLabelRow label factor right.now n out.old at }
-    ensures { Appends (label_row label factor right.now n) at out.old out.new result }
+fn write_label_row(label: usize, factor: usize, right: Side, out: &mut [u8], at: usize) -> usize
+    requires { CanWriteLabelRow label factor right.file.now right.model.states out.old at }
+    ensures { Appends (label_row label factor right.entry.file.now right.entry.model.states) at out.old out.new result }
 {
-    let mut e = 0;
     let mut next = at;
-    while e < n {
-        next = writer::byte(out, next, label * factor + right[8 + e] as usize);
-        e += 1;
+    for &own in &right.file[8..8 + right.model.states] {
+        next = writer::byte(out, next, label * factor + own as usize);
     }
     next
 }
 
 // The labels of all states.
-fn write_labels(
-    left: &[u8],
-    left_states: usize,
-    factor: usize,
-    right: &[u8],
-    right_states: usize,
-    out: &mut [u8],
-    at: usize,
-) -> usize
-    requires { CanWriteLabels left.now left_states factor right.now right_states out.old at }
-    ensures { Appends (composed_in left.now right.now).labels at out.old out.new result }
+fn write_labels(left: Side, factor: usize, right: Side, out: &mut [u8], at: usize) -> usize
+    requires { CanWriteLabels left.file.now left.model.states factor right.file.now right.model.states out.old at }
+    ensures { Appends (composed_in left.entry.file.now right.entry.file.now).labels at out.old out.new result }
 {
-    let mut s = 0;
     let mut next = at;
-    while s < left_states {
-        next = write_label_row(left[8 + s] as usize, factor, right, right_states, out, next);
-        s += 1;
+    for &label in &left.file[8..8 + left.model.states] {
+        next = write_label_row(label as usize, factor, right, out, next);
     }
     next
 }
 
 // The file of the composition, of so many transitions; `factor` is one more than the right's highest label.
 pub fn write_composed(
-    left: &[u8],
-    m: Model,
-    left_places: &Places,
-    right: &[u8],
-    k: Model,
-    right_places: &Places,
+    left: Side,
+    right: Side,
     factor: usize,
     transitions: usize,
     out: &mut [u8],
 ) -> usize
-    requires { CanWriteComposed left.now m left_places.now right.now k right_places.now factor transitions out.old }
-    ensures { Appends (composed_file (model_at left.now) (model_at right.now)) 0 out.old out.new result }
+    requires { CanWriteComposed left right factor transitions out.old }
+    ensures { Appends (composed_file (model_at left.entry.file.now) (model_at right.entry.file.now)) 0 out.old out.new result }
 {
-    let actions = two_models::larger(m.actions, k.actions);
-    let labels = writer::head(out, m.states * k.states, actions, transitions);
-    let records = write_labels(left, m.states, factor, right, k.states, out, labels);
-    write_moves(left, m, left_places, right, k, right_places, out, records)
+    let actions = two_models::larger(left.model.actions, right.model.actions);
+    let labels = writer::head(
+        out,
+        left.model.states * right.model.states,
+        actions,
+        transitions,
+    );
+    let records = write_labels(left, factor, right, out, labels);
+    write_moves(left, right, out, records)
 }

@@ -1,9 +1,9 @@
 -- Laws of the records of moves, as they are appended.
-use Prim.Native.Nat.{ℕ, zero, suc, ◌+◌, ◌*◌, ◌-◌, ◌≤◌, ◌<◌}
+use Prim.Native.Nat.{ℕ, ◌+◌, ◌*◌, ◌≤◌, ◌<◌}
 use Rattle.std.specs.Prelude.{◌≡◌, length}
 use Rattle.std.proofs.Math.Path.{refl, sym, ap, ap₂}
 use Rattle.std.proofs.Common.{◌∙◌, subst, mul-le-mul, mul-le-mul_right}
-use mathlib.Core.List.{List, [], ◌∷◌, map, append-nil}
+use mathlib.Core.List.{List, [], ◌∷◌, ◌++◌, map, append-nil}
 use Rattle.std.proofs.Math.ListN.{length-map}
 use native.Mathlib.Omega.{arith}
 use Rattle.bisimulation.specs.definitions.Composed.{state_at}
@@ -17,14 +17,12 @@ use Rattle.rules.proofs.argument.AnswerLaws.{labels_length}
 use Rattle.rules.proofs.argument.SoundModelLaws.{each_map}
 use Rattle.rules.proofs.argument.MappedLists.{each_both, each-most}
 use Rattle.transition_record.specs.declared.Fields.{Fields}
-use Rattle.transition.specs.declared.Entry as read
-use Rattle.transition.specs.Entries.{EntryTaken}
 use Rattle.transition.specs.Known.{KnownTransition, FieldsOf, entries_of}
 use Rattle.transition.specs.KnownLaws.{rules-of, entries-known}
 use Rattle.writer.specs.Appends.{Appends, fixed_bytes}
 use Rattle.writer.specs.AppendsLaws.{append-more, record-bytes, entries-append, Ahead, ahead-start, ahead-turn, ahead-end}
-use Rattle.writer.specs.ChangedRecords.{entry_at, EntryFits}
-use Rattle.placed_entries.specs.Placed.{placed_entry, CanPlaceEntries}
+use Rattle.writer.specs.ChangedRecords.{EntryFits}
+use Rattle.placed_entries.specs.Placed.{placed_entry, placed_record, CanPlaceEntries}
 use Rattle.placed_entries.specs.PlacedLaws.{placed-fit}
 use Rattle.composition.specs.definitions.Composition.{transition_of, pair_entry, pair_entries, pair_transition, still}
 use Rattle.composition.proofs.argument.PairEntriesLaws.{pair-length}
@@ -52,9 +50,9 @@ unfolding pair_entries still
 right-placed n a s fs = pair-placed n (record { state = s; weight = 1 }) fs ∙ sym (append-nil _)
 
 -- the fixed fields and then the entries, appended, are the record
-record-appended : {source action denominator count at next end : ℕ} {out head after : List ℕ} {es : List Entry} (x : Transition) → Appends (fixed_bytes source action denominator count) at out head next → source ≡ x.source → action ≡ x.action → denominator ≡ x.denominator → count ≡ length es → es ≡ x.entries → Appends (entries_bytes es) next head after end → Appends (transition_bytes x) at out after end
-record-appended {at = at} {end = end} {out = out} {after = after} x fixed from by over many e a =
-    subst (λ (l : List ℕ). Appends l at out after end) (record-bytes x from by over many e) (append-more fixed a)
+record-appended : {source action denominator count at end : ℕ} {out after : List ℕ} {es : List Entry} (x : Transition) → source ≡ x.source → action ≡ x.action → denominator ≡ x.denominator → count ≡ length es → es ≡ x.entries → Appends (fixed_bytes source action denominator count ++ entries_bytes es) at out after end → Appends (transition_bytes x) at out after end
+record-appended {at = at} {end = end} {out = out} {after = after} x from by over many e =
+    subst (λ (l : List ℕ). Appends l at out after end) (record-bytes x from by over many e)
 
 -- a source and a state beside it fit their byte
 source_fits : (most n s e : ℕ) → most * n < 256 → s < most → e < n → s * n + e < 256
@@ -106,19 +104,18 @@ module _ {left table : List ℕ} {q n e : ℕ} {out : List ℕ} {at : ℕ} (m : 
         entries-count m.transition h,
       )
 
-  pub left-record : {source action denominator count : ℕ} {head : List ℕ} {next : ℕ} {after : List ℕ} {end : ℕ} → Appends (fixed_bytes source action denominator count) at out head next → source ≡ f.source * n + e → action ≡ f.action → denominator ≡ f.denominator → count ≡ f.count → Appends (entries_bytes (map (placed_entry n e 1) (entries_at left f.count f.entries.at))) next head after end → Appends (left_record left n q e) at out after end
+  pub left-record : {after : List ℕ} {end : ℕ} → Appends (placed_record (f.source * n + e) n e left f) at out after end → Appends (left_record left n q e) at out after end
   unfolding pair_transition still automaton_of state_at
-  left-record fixed from by over many a =
+  left-record =
       let t = transition_of (model_at left) q in
       let es = entries_at left f.count f.entries.at in
       let whole : f.denominator ≡ f.denominator * 1 = omega arith in
-      record-appended (pair_transition n t (still t.action e)) fixed
-      (from ∙ ap (λ (x : ℕ). x * n + e) h.source)
-      (by ∙ h.action)
-      (over ∙ whole ∙ ap (λ (x : ℕ). x * 1) h.denominator)
-      (many ∙ sym (length-map es (placed_entry n e 1) ∙ length-entries_at left f.count f.entries.at))
+      record-appended (pair_transition n t (still t.action e))
+      (ap (λ (x : ℕ). x * n + e) h.source)
+      h.action
+      (whole ∙ ap (λ (x : ℕ). x * 1) h.denominator)
+      (sym (length-map es (placed_entry n e 1) ∙ length-entries_at left f.count f.entries.at))
       (left-placed n t.action e es ∙ ap (λ (l : List Entry). pair_entries n l (still t.action e).entries) (entries-read m.transition h))
-      a
 
 -- the right's alone
 module _ {right table : List ℕ} {r n s : ℕ} {out : List ℕ} {at : ℕ} (m : CanWriteRight right table r n s out at) {f : Fields} (h : FieldsOf right r f) where
@@ -134,19 +131,18 @@ module _ {right table : List ℕ} {r n s : ℕ} {out : List ℕ} {at : ℕ} (m :
         entries-count m.transition h,
       )
 
-  pub right-record : {source action denominator count : ℕ} {head : List ℕ} {next : ℕ} {after : List ℕ} {end : ℕ} → Appends (fixed_bytes source action denominator count) at out head next → source ≡ s * n + f.source → action ≡ f.action → denominator ≡ f.denominator → count ≡ f.count → Appends (entries_bytes (map (placed_entry 1 (s * n) 1) (entries_at right f.count f.entries.at))) next head after end → Appends (right_record right n s r) at out after end
+  pub right-record : {after : List ℕ} {end : ℕ} → Appends (placed_record (s * n + f.source) 1 (s * n) right f) at out after end → Appends (right_record right n s r) at out after end
   unfolding pair_transition still automaton_of state_at
-  right-record fixed from by over many a =
+  right-record =
       let u = transition_of (model_at right) r in
       let fs = entries_at right f.count f.entries.at in
       let whole : f.denominator ≡ 1 * f.denominator = omega arith in
-      record-appended (pair_transition n (still u.action s) u) fixed
-      (from ∙ ap (λ (x : ℕ). s * n + x) h.source)
-      (by ∙ h.action)
-      (over ∙ whole ∙ ap (λ (x : ℕ). 1 * x) h.denominator)
-      (many ∙ sym (length-map fs (placed_entry 1 (s * n) 1) ∙ length-entries_at right f.count f.entries.at))
+      record-appended (pair_transition n (still u.action s) u)
+      (ap (λ (x : ℕ). s * n + x) h.source)
+      h.action
+      (whole ∙ ap (λ (x : ℕ). 1 * x) h.denominator)
+      (sym (length-map fs (placed_entry 1 (s * n) 1) ∙ length-entries_at right f.count f.entries.at))
       (right-placed n u.action s fs ∙ ap (pair_entries n (still u.action s).entries) (entries-read m.transition h))
-      a
 
 -- both together
 rows_fit : (most n d d' : ℕ) → most * n < 256 → d * d' < 65536 → (es fs : List Entry) → Each (λ (e : Entry). e.state < most) es → Each (λ (e : Entry). e.weight ≤ d) es → Each (λ (f : Entry). f.state < n) fs → Each (λ (f : Entry). f.weight ≤ d') fs → Each (RowFits n fs) es
@@ -208,84 +204,62 @@ module _ {left left_table : List ℕ} {q : ℕ} {right right_table : List ℕ} {
       let u = transition_of (model_at right) r in
       let es = entries_at left f.count f.entries.at in
       let fs = entries_at right g.count g.entries.at in
-      record-appended (pair_transition n t u) fixed
+      record-appended (pair_transition n t u)
       (from ∙ ap₂ (λ (x y : ℕ). x * n + y) h.source k.source)
       (by ∙ h.action)
       (over ∙ ap₂ (λ (x y : ℕ). x * y) h.denominator k.denominator)
       (many ∙ sym (pair-length n es fs ∙ ap₂ (λ (x y : ℕ). x * y) (length-entries_at left f.count f.entries.at) (length-entries_at right g.count g.entries.at)))
       (ap₂ (pair_entries n) (entries-read m.first h) (entries-read m.second k))
-      a
+      (append-more fixed a)
 
--- what is known before each entry of the left that is written with all of the right's
-pub record Pairing (n : ℕ) (left right : List ℕ) (right_count right_place : ℕ) (all : List ℕ) (at : ℕ) (before : List ℕ) (count place : ℕ) (out : List ℕ) (next : ℕ) : Type 0 where
-  pub asked : CanWritePairs n left count place right right_count right_place out next
-  pub ahead : Ahead all at before (pairs_at n left count place right right_count right_place) next out
+-- what is known before each entry of the left that is written with all of the right's, with the left's entries that are left
+pub record Pairing (n : ℕ) (fs : List Entry) (all : List ℕ) (at : ℕ) (before : List ℕ) (es : List Entry) (out : List ℕ) (next : ℕ) : Type 0 where
+  pub fit : Each (RowFits n fs) es
+  pub room : next + 3 * (length es * length fs) ≤ length out
+  pub ahead : Ahead all at before (entries_bytes (pair_entries n es fs)) next out
 
-pub pairing-start : {n : ℕ} {left : List ℕ} {count place : ℕ} {right : List ℕ} {right_count right_place : ℕ} {out : List ℕ} {at : ℕ} → CanWritePairs n left count place right right_count right_place out at → Pairing n left right right_count right_place (pairs_at n left count place right right_count right_place) at out count place out at
-pairing-start a = record { asked = a; ahead = ahead-start (omega (arith, a.room)) }
+pub pairing-start : {n : ℕ} {left : List ℕ} {count place : ℕ} {right : List ℕ} {right_count right_place : ℕ} {out : List ℕ} {at : ℕ} {es : List Entry} → es ≡ entries_at left count place → CanWritePairs n left count place right right_count right_place out at → Pairing n (entries_at right right_count right_place) (pairs_at n left count place right right_count right_place) at out es out at
+pairing-start {n} {left} {count} {place} {right} {right_count} {right_place} {out} {at} e a =
+    let fs = entries_at right right_count right_place in
+    subst (λ (l : List Entry). Pairing n fs (pairs_at n left count place right right_count right_place) at out l out at) (sym e)
+    (record {
+      fit = a.fit;
+      room = omega (arith, a.room, ap₂ (λ (x y : ℕ). x * y) (length-entries_at left count place) (length-entries_at right right_count right_place));
+      ahead = ahead-start (omega (arith, a.room));
+    })
 
-row_room : (count others next size : ℕ) → next + 3 * (count * others) ≤ size → 0 < count → next + 3 * others ≤ size
-row_room zero others next size h some = absurd (omega arith)
-row_room (suc count) others next size h some = omega (arith, h)
+module _ {n : ℕ} {fs : List Entry} {all : List ℕ} {at : ℕ} {before : List ℕ} {es : List Entry} {out : List ℕ} {next : ℕ} (h : Pairing n fs all at before es out next) where
+  module _ {e : Entry} {others : List Entry} (first : es ≡ e ∷ others) where
+    here : Pairing n fs all at before (e ∷ others) out next
+    here = subst (λ (l : List Entry). Pairing n fs all at before l out next) first h
 
-module _ {n : ℕ} {left right : List ℕ} {right_count right_place : ℕ} {all : List ℕ} {at : ℕ} {before : List ℕ} where
-  row_here : (count : ℕ) {place next : ℕ} {out : List ℕ} → Pairing n left right right_count right_place all at before count place out next → 0 < count → RowFits n (entries_at right right_count right_place) (entry_at left place)
-  unfolding Each entries_at
-  row_here zero h some = absurd (omega arith)
-  row_here (suc count) h some = h.asked.fit.0
+    row-fits : RowFits n fs e
+    unfolding Each
+    row-fits = here.fit.0
 
-  module _ (count : ℕ) {place next : ℕ} {out : List ℕ} {e : read.Entry} (h : Pairing n left right right_count right_place all at before count place out next) (some : 0 < count) (t : EntryTaken left place e) where
     -- the right's entries can be placed
     pub row-state : e.state * n < 256
-    row-state = omega (arith, (row_here count h some).first, ap (λ (x : ℕ). x * n) t.state)
+    row-state = row-fits.first
 
-    pub row-asks : CanPlaceEntries 1 (e.state * n) e.weight right right_count right_place out next
-    row-asks =
+    pub row-asks : {right : List ℕ} {right_count right_place : ℕ} → fs ≡ entries_at right right_count right_place → right_place + 3 * right_count ≤ length right → CanPlaceEntries 1 (e.state * n) e.weight right right_count right_place out next
+    row-asks {right} {right_count} {right_place} all-right inside =
         record {
-          inside = h.asked.right_inside;
-          fit =
-              subst (λ (w : ℕ). Each (λ (f : Entry). EntryFits (placed_entry 1 (e.state * n) w f)) (entries_at right right_count right_place)) (sym t.weight)
-              (subst (λ (v : ℕ). Each (λ (f : Entry). EntryFits (placed_entry 1 (v * n) (entry_at left place).weight f)) (entries_at right right_count right_place)) (sym t.state)
-              (row_here count h some).each);
-          room = row_room count right_count next (length out) h.asked.room some;
+          inside = inside;
+          fit = subst (λ (l : List Entry). Each (λ (f : Entry). EntryFits (placed_entry 1 (e.state * n) e.weight f)) l) all-right row-fits.each;
+          room = omega (arith, here.room, ap length all-right, length-entries_at right right_count right_place);
         }
 
-  one-row : (count place next past : ℕ) (out more : List ℕ) → Pairing n left right right_count right_place all at before (suc count) place out next → Appends (entries_bytes (map (pair_entry n (entry_at left place)) (entries_at right right_count right_place))) next out more past → Pairing n left right right_count right_place all at before count (place + 3) more past
-  unfolding Each entries_at pair_entries
-  one-row count place next past out more h a =
-      let fs = entries_at right right_count right_place in
-      let row = map (pair_entry n (entry_at left place)) fs in
-      record {
-        asked =
-            record {
-              inside = omega (arith, h.asked.inside);
-              right_inside = h.asked.right_inside;
-              fit = h.asked.fit.1;
-              room =
-                  omega (
-                    arith,
-                    h.asked.room,
-                    a.place,
-                    a.size,
-                    entries_bytes-length row,
-                    length-map fs (pair_entry n (entry_at left place)),
-                    length-entries_at right right_count right_place,
-                  );
-            };
-        ahead = ahead-turn h.ahead (entries-append row (pair_entries n (entries_at left count (place + 3)) fs)) a;
-      }
+    pub pairing-turn : {past : ℕ} {more : List ℕ} → Appends (entries_bytes (map (placed_entry 1 (e.state * n) e.weight) fs)) next out more past → Pairing n fs all at before others more past
+    unfolding Each pair_entries
+    pairing-turn {past} {more} a =
+        let row = map (pair_entry n e) fs in
+        let b = subst (λ (l : List Entry). Appends (entries_bytes l) next out more past) (pair-placed n e fs) a in
+        record {
+          fit = here.fit.1;
+          room = omega (arith, here.room, b.place, b.size, entries_bytes-length row, length-map fs (pair_entry n e));
+          ahead = ahead-turn here.ahead (entries-append row (pair_entries n others fs)) b;
+        }
 
-  pub pairing-turn : (count : ℕ) {place next past : ℕ} {out more : List ℕ} {e : read.Entry} → Pairing n left right right_count right_place all at before count place out next → 0 < count → EntryTaken left place e → Appends (entries_bytes (map (placed_entry 1 (e.state * n) e.weight) (entries_at right right_count right_place))) next out more past → Pairing n left right right_count right_place all at before (count - 1) e.next.at more past
-  pairing-turn zero h some t a = absurd (omega arith)
-  pairing-turn (suc count) {place} {next} {past} {out} {more} {e} h some t a =
-      let one : count ≡ suc count - 1 = omega arith in
-      let fs = entries_at right right_count right_place in
-      let row = ap₂ (λ (v w : ℕ). map (placed_entry 1 (v * n) w) fs) t.state t.weight ∙ pair-placed n (entry_at left place) fs in
-      subst (λ (x : ℕ). Pairing n left right right_count right_place all at before x e.next.at more past) one
-      (subst (λ (p : ℕ). Pairing n left right right_count right_place all at before count p more past) (sym t.next)
-      (one-row count place next past out more h (subst (λ (es : List Entry). Appends (entries_bytes es) next out more past) row a)))
-
-  pub pairing-end : (count : ℕ) {place next : ℕ} {out : List ℕ} → Pairing n left right right_count right_place all at before count place out next → count ≤ 0 → Appends all at before out next
-  unfolding entries_at pair_entries entries_bytes
-  pairing-end zero h none = ahead-end h.ahead refl
-  pairing-end (suc count) h none = absurd (omega arith)
+  pub pairing-end : es ≡ [] → Appends all at before out next
+  unfolding pair_entries entries_bytes
+  pairing-end none = ahead-end h.ahead (ap (λ (l : List Entry). entries_bytes (pair_entries n l fs)) none)

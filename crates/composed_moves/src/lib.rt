@@ -22,8 +22,7 @@ pub fn write_left(
     ensures { Appends (left_record left.now n q e) at out.old out.new result }
 {
     let t = transition::fields_of(left, places, q);
-    let next = writer::fixed(out, at, t.source * n + e, t.action, t.denominator, t.count);
-    placed_entries::write_entries(left, t.count, t.entries, n, e, 1, out, next)
+    placed_entries::write_record(left, t, t.source * n + e, n, e, out, at)
 }
 
 // The right's transition r alone, while the left stands still at s.
@@ -40,8 +39,7 @@ pub fn write_right(
     ensures { Appends (right_record right.now n s r) at out.old out.new result }
 {
     let u = transition::fields_of(right, places, r);
-    let next = writer::fixed(out, at, s * n + u.source, u.action, u.denominator, u.count);
-    placed_entries::write_entries(right, u.count, u.entries, 1, s * n, 1, out, next)
+    placed_entries::write_record(right, u, s * n + u.source, 1, s * n, out, at)
 }
 
 // For each of so many entries of the left all of the right's.
@@ -59,11 +57,8 @@ fn write_pairs(
     requires { CanWritePairs n left.now count first.at right.now right_count right_first.at out.old at }
     ensures { Appends (pairs_at n left.now count first.at right.now right_count right_first.at) at out.old out.new result }
 {
-    let mut ahead = count;
-    let mut place = first;
     let mut next = at;
-    while 0 < ahead {
-        let entry = transition::entry_at(left, place);
+    for entry in transition::entries(left, first, count) {
         next = placed_entries::write_entries(
             right,
             right_count,
@@ -74,8 +69,6 @@ fn write_pairs(
             out,
             next,
         );
-        place = entry.next;
-        ahead -= 1;
     }
     next
 }

@@ -1,10 +1,11 @@
 -- Laws of what is counted.
-use Rattle.std.specs.Prelude.{ℕ, suc, ◌+◌, ◌*◌, ◌≤◌, ◌<◌, ◌≡◌, refl, Bool, true, false, List}
+use Rattle.std.specs.Prelude.{◌-◌, get_or, take, drop, cond, max, ◌⊎◌, nat_lt, ℕ, ◌+◌, ◌*◌, ◌≤◌, ◌<◌, ◌≡◌, refl, Bool, true, false, List}
 use Rattle.std.proofs.Math.Path.{sym, ap, ap₂, subst}
-use Rattle.std.proofs.Common.{◌∙◌, mul-le-mul, add-one, arith}
+use Rattle.std.proofs.Common.{get_or-take, get_or-drop, ◌∙◌, inl, inr, mul-le-mul, add-one, arith}
+use Rattle.std.proofs.Math.Decide.{dec_lt}
 use Rattle.std.proofs.Math.ListN.{length}
-use Rattle.bisimulation.specs.definitions.Choice.{if_same, if_true}
-use Rattle.bisimulation.proofs.argument.ChoiceLaws.{same, not_same, is_true, is_false, either_less}
+use Rattle.bisimulation.specs.definitions.Choice.{if_less, if_same, if_true}
+use Rattle.bisimulation.proofs.argument.ChoiceLaws.{less, not_less, same, not_same, is_true, is_false, either_less}
 use Rattle.bisimulation.specs.definitions.Sum.{sum}
 use Rattle.bisimulation.proofs.argument.SumLaws.{sum_cong}
 use Rattle.bisimulation.specs.definitions.Automaton.{Automaton}
@@ -28,6 +29,21 @@ use Rattle.composed_size.specs.Sides.{Side, Sides}
 use Rattle.composed_size.specs.Counted.{SizesAre, Added, AtMost, pair_most, move_most, all_most, Counted, CountedAt, SumsCounted}
 use Rattle.composed_size.specs.Counted.{SmallFields, PairCounted, entry_count_of, of_partner, PartnersCounted}
 use Rattle.composed_size.specs.Counted.{LeftCounted, of_own, RightCounted, MovesCounted}
+
+-- what is chosen by an order, of either answer of its test
+pub chosen {ℓ} : {X : Type ℓ} (f : Bool → X) (a b : ℕ) → f (nat_lt a b) ≡ if_less a b (f true) (f false)
+unfolding if_less
+chosen f a b = go (nat_lt a b)
+  where
+    go : (t : Bool) → f t ≡ cond t (f true) (f false)
+    go true = refl
+    go false = refl
+
+-- the internal action, or one past the left's, is not shared
+pub not-shared : {l a : ℕ} (r : ℕ) {b : Bool} → b ≡ false → ((a ≡ 0 → ⊥) × l ≤ a) ⊎ (a ≡ 0) → b ≡ shared_below l r a
+unfolding shared_below
+not-shared r e (inl p) = less _ (omega (arith, p.0)) (not_less _ p.1 e)
+not-shared r e (inr z) = not_less _ (omega (arith, z)) e
 
 -- nothing, and one number more
 pub none-counted : {most : ℕ} {f g h : ℕ → ℕ} {x : Sizes} → Counted 0 0 0 0 x → SumsCounted 0 most f g h x
@@ -198,9 +214,9 @@ module _ {left left_table right right_table : List ℕ} {m k : Found} (s : Sides
   unfolding automaton_of
   own-test a = ap (λ (x : ℕ). shared_below x (model_at right).actions a) s.first.actions ∙ shared-below L R a
 
-  both_sums : (alone : ℕ → ℕ) (pair : ℕ → ℕ → ℕ) (mine own : ℕ → ℕ) → ((r : ℕ) → mine r ≡ own r) → {x y z : ℕ} → z ≡ x + y → x ≡ sum m.transitions (left_count L R alone pair) → y ≡ sum k.transitions (of_own m.actions right mine) → z ≡ pair_count L R alone pair own
+  both_sums : (alone : ℕ → ℕ) (pair : ℕ → ℕ → ℕ) (mine theirs : ℕ → ℕ) → ((r : ℕ) → mine r ≡ theirs r) → {x y z : ℕ} → z ≡ x + y → x ≡ sum m.transitions (left_count L R alone pair) → y ≡ sum k.transitions (of_own m.actions right mine) → z ≡ pair_count L R alone pair theirs
   unfolding pair_count right_count
-  both_sums alone pair mine own p e f g =
+  both_sums alone pair mine theirs p e f g =
       e
       ∙ ap₂ (λ (i j : ℕ). i + j)
       (f ∙ ap (λ (n : ℕ). sum n (left_count L R alone pair)) (sym (known-transitions s.first.known)))
@@ -229,8 +245,21 @@ module _ {left left_table right right_table : List ℕ} {m k : Found} (s : Sides
         long = both_sums _ _ _ _ (λ r. refl) a.long c.are.long d.are.long ∙ sym (composed-long M N f g);
       }
 
+-- the labels are the bytes of a file from its eighth on
+pub label-item : (s : List ℕ) (n i : ℕ) → i < n → get_or (take (8 + n - 8) (drop 8 s)) i 0 ≡ byte_at s (8 + i)
+unfolding byte_at
+label-item s n i l = get_or-take (8 + n - 8) (drop 8 s) i 0 (omega arith) ∙ get_or-drop 8 s i 0
+
 -- the highest label, with one label more
-pub highest-more : (s : List ℕ) (v : ℕ) {most byte r : ℕ} → v < states_of s → most ≡ highest v (automaton_in s).label → byte ≡ byte_at s (8 + v) → r ≡ larger most byte → r ≡ highest (v + 1) (automaton_in s).label
+larger-max : (a b : ℕ) → max a b ≡ larger a b
+unfolding larger
+larger-max a b = go (dec_lt a b)
+  where
+    go : Dec (a < b) → max a b ≡ if_less a b b a
+    go (yes l) = less a l (omega arith)
+    go (no n) = not_less b (omega arith) (omega arith)
+
+pub highest-more : (s : List ℕ) (v : ℕ) {most byte r : ℕ} → v < states_of s → most ≡ highest v (automaton_in s).label → byte ≡ byte_at s (8 + v) → r ≡ max most byte → r ≡ highest (v + 1) (automaton_in s).label
 unfolding highest
-highest-more s v l e b h =
-    h ∙ ap₂ larger e (b ∙ sym (automaton-label s v l)) ∙ ap (λ (k : ℕ). highest k (automaton_in s).label) (sym (add-one v))
+highest-more s v {most} {byte} l e b h =
+    h ∙ larger-max most byte ∙ ap₂ larger e (b ∙ sym (automaton-label s v l)) ∙ ap (λ (k : ℕ). highest k (automaton_in s).label) (sym (add-one v))

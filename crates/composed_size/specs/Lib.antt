@@ -1,3 +1,5 @@
 pub mod Sides
+pub mod SideProps
+pub mod Composable
 pub mod Counted
 pub mod CountedLaws

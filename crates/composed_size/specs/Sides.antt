@@ -1,9 +1,7 @@
 -- Two sound models, as those who count and write their composition have them.
 use Rattle.std.specs.Prelude.{ℕ, ◌≡◌, List}
-use Rattle.rules.specs.definitions.Limits.{limits}
 use Rattle.rules.specs.definitions.Model.{Model}
 use Rattle.rules.specs.definitions.Reading.{model_at}
-use Rattle.rules.specs.definitions.SoundModel.{SoundModel}
 use Rattle.model.specs.declared.Model.{Model as Found}
 use Rattle.transition.specs.Known.{Known}
 use Rattle.composition.specs.definitions.Composition.{composed}
@@ -17,11 +15,10 @@ pub record Sides (left : List ℕ) (m : Found) (left_table right : List ℕ) (k 
   pub first : Side left m left_table
   pub second : Side right k right_table
 
+-- each said of its own
+pub two-sides : {left : List ℕ} {m : Found} {left_table right : List ℕ} {k : Found} {right_table : List ℕ} → Side left m left_table → Side right k right_table → Sides left m left_table right k right_table
+two-sides x y = record { first = x; second = y }
+
 -- the composition of two files
 abbrev pub composed_in : (left right : List ℕ) → Model
 composed_in left right = composed (model_at left) (model_at right)
-
--- two sound models whose composition is sound too
-pub record CanCompose (left : List ℕ) (m : Found) (left_table right : List ℕ) (k : Found) (right_table : List ℕ) : Type 0 where
-  pub sides : Sides left m left_table right k right_table
-  pub sound : SoundModel limits (composed_in left right)

@@ -1,6 +1,6 @@
 -- A loop that appends the bytes of one number after the other: what stands there after k of them, and how the next ones come behind it.
 use Rattle.std.specs.Prelude.{ℕ, zero, suc, ◌+◌, ◌≤◌, ◌<◌, ◌≡◌, refl, List, [], ◌++◌, length}
-use Rattle.std.proofs.Common.{sym, ◌∙◌, ap, subst, length-append, arith}
+use Rattle.std.proofs.Common.{◌∙◌, ap, length-append, arith}
 use Rattle.std.proofs.Math.Decide.{ℕ_discrete}
 use Rattle.writer.specs.Appends.{Appends}
 use Rattle.writer.specs.AppendsLaws.{appended-as, append-none, append-more}

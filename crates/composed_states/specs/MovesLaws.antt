@@ -3,7 +3,8 @@ use Rattle.std.specs.Prelude.{ℕ, ◌<◌, ◌≡◌, refl, Bool, true, false, 
 use Rattle.std.proofs.Common.{sym, ◌∙◌, arith}
 use Rattle.std.proofs.Math.Path.{ap}
 use Rattle.transition_record.specs.declared.Fields.{Fields}
-use Rattle.model.specs.declared.Model.{Model as Found}
+use Rattle.composed_size.specs.declared.Side.{Side}
+use Rattle.composed_size.specs.Sides.{two-sides}
 use Rattle.transition.specs.Known.{automaton_in, KnownTransition, FieldsOf}
 use Rattle.transition.specs.KnownLaws.{known-states, known-transitions, known-transition}
 use Rattle.writer.specs.Appends.{Appends}
@@ -19,70 +20,70 @@ use Rattle.composed_states.specs.RecordsLaws.{partner-none, partner-one, partner
 use Rattle.composed_states.specs.ModelsLaws.{left-known, right-known, right-states, states-fit, together-fits}
 
 -- one partner
-module _ {left left_table : List ℕ} {q action : ℕ} {right right_table : List ℕ} {r n : ℕ} {out : List ℕ} {at : ℕ} (p : CanWritePartner left left_table q action right right_table r n out at) where
-  pub partner-known : KnownTransition right right_table r
+module _ {left : Side} {q action : ℕ} {right : Side} {r : ℕ} {out : List ℕ} {at : ℕ} (p : CanWritePartner left q action right r out at) where
+  pub partner-known : KnownTransition right.file.now right.places.now r
   partner-known = let k = right-known p.of.models in known-transition k (omega (arith, p.transition, known-transitions k))
 
-  module _ {f : Fields} (t : FieldsOf right r f) where
-    pub partner-other : (f.action ≡ action → ⊥) → Appends (partner_record left right q ((automaton_in right).source r) r) at out out at
+  module _ {f : Fields} (t : FieldsOf right.file.now r f) where
+    pub partner-other : (f.action ≡ action → ⊥) → Appends (partner_record left.file.now right.file.now q ((automaton_in right.file.now).source r) r) at out out at
     partner-other other =
-        appended-as (partner-none left right q r (λ e. other (t.action ∙ e ∙ sym p.of.by))) (append-none out at (omega (arith, p.room)))
+        appended-as (partner-none left.file.now right.file.now q r (λ e. other (t.action ∙ e ∙ sym p.of.by))) (append-none out at (omega (arith, p.room)))
 
-    is-together : f.action ≡ action → partner_record left right q ((automaton_in right).source r) r ≡ together_record left right n q r
+    is-together : f.action ≡ action → partner_record left.file.now right.file.now q ((automaton_in right.file.now).source r) r ≡ together_record left.file.now right.file.now right.model.states q r
     unfolding moved
     is-together e =
-        partner-one left right q r (sym t.action ∙ e ∙ p.of.by)
-        ∙ ap (λ (x : ℕ). together_record left right x q r) (sym (p.of.states ∙ right-states p.of.models))
+        partner-one left.file.now right.file.now q r (sym t.action ∙ e ∙ p.of.by)
+        ∙ ap (λ (x : ℕ). together_record left.file.now right.file.now x q r) (sym (right-states p.of.models))
 
-    pub together-asks : f.action ≡ action → CanWriteTogether left left_table q right right_table r n out at
+    pub together-asks : f.action ≡ action → CanWriteTogether left.file.now left.places.now q right.file.now right.places.now r right.model.states out at
     together-asks e =
         let c = p.of.models in
         record {
           first = known-transition (left-known c) p.of.transition;
           second = partner-known;
-          all = p.of.states ∙ (right-known c).states;
-          states = states-fit c p.of.states;
+          all = (right-known c).states;
+          states = states-fit c refl;
           denominator =
               together-fits c (omega (arith, p.of.transition, known-transitions (left-known c))) p.transition p.of.shared
               (sym t.action ∙ e ∙ p.of.by);
           room = omega (arith, p.room, ap length (is-together e));
         }
 
-    pub partner-written : {after : List ℕ} {end : ℕ} → f.action ≡ action → Appends (together_record left right n q r) at out after end → Appends (partner_record left right q ((automaton_in right).source r) r) at out after end
+    pub partner-written : {after : List ℕ} {end : ℕ} → f.action ≡ action → Appends (together_record left.file.now right.file.now right.model.states q r) at out after end → Appends (partner_record left.file.now right.file.now q ((automaton_in right.file.now).source r) r) at out after end
     partner-written e = appended-as (is-together e)
 
 -- the next partner that leaves a state
-pub partners-ask : {left left_table : List ℕ} {q action : ℕ} {right right_table : List ℕ} {run : Run} {n : ℕ} {before : List ℕ} {at : ℕ} → CanWritePartners left left_table q action right right_table run n before at → {r : ℕ} {out : List ℕ} {next : ℕ} → RunLoop (automaton_in right) run (partner_record left right q run.state) at before r out next → r < run.past → CanWritePartner left left_table q action right right_table r n out next
+pub partners-ask : {left : Side} {q action : ℕ} {right : Side} {run : Run} {before : List ℕ} {at : ℕ} → CanWritePartners left q action right run before at → {r : ℕ} {out : List ℕ} {next : ℕ} → RunLoop (automaton_in right.file.now) run (partner_record left.file.now right.file.now q run.state) at before r out next → r < run.past → CanWritePartner left q action right r out next
 partners-ask {left} {q = q} {right = right} p l less =
-    record { of = p.of; transition = omega (arith, less, p.leaving.most); room = run_room (partners-of-run left right q p.leaving) l less }
+    record { of = p.of; transition = omega (arith, less, p.leaving.most); room = run_room (partners-of-run left.file.now right.file.now q p.leaving) l less }
 
 -- one transition of the left
-module _ {left : List ℕ} {m : Found} {left_table right : List ℕ} {k : Found} {right_table out : List ℕ} {at q : ℕ} {run : Run} (p : CanWriteMoves left m left_table right k right_table (left_move_records left right ((automaton_in left).source q) run.state q) out at) (less : q < m.transitions) (is : IsRun (automaton_in right) run) {f : Fields} {shared : Bool} (t : FieldsOf left q f) (tested : shared ≡ shared_below m.actions k.actions f.action) where
-  test : is_shared (automaton_in left) (automaton_in right) ((automaton_in left).action q) ≡ shared
-  test = sym (tested ∙ shared-sides p.models.sides f.action ∙ ap (is_shared (automaton_in left) (automaton_in right)) t.action)
+module _ {left right : Side} {out : List ℕ} {at q : ℕ} {run : Run} (p : CanWriteMoves left right (left_move_records left.file.now right.file.now ((automaton_in left.file.now).source q) run.state q) out at) (less : q < left.model.transitions) (is : IsRun (automaton_in right.file.now) run) {f : Fields} {shared : Bool} (t : FieldsOf left.file.now q f) (tested : shared ≡ shared_below left.model.actions right.model.actions f.action) where
+  test : is_shared (automaton_in left.file.now) (automaton_in right.file.now) ((automaton_in left.file.now).action q) ≡ shared
+  test = sym (tested ∙ shared-sides (two-sides left.known right.known) f.action ∙ ap (is_shared (automaton_in left.file.now) (automaton_in right.file.now)) t.action)
 
   module _ (e : shared ≡ true) where
-    is-partners : left_move_records left right ((automaton_in left).source q) run.state q ≡ partner_records left right q run.state
-    is-partners = left-together left right q run.state (test ∙ e)
+    is-partners : left_move_records left.file.now right.file.now ((automaton_in left.file.now).source q) run.state q ≡ partner_records left.file.now right.file.now q run.state
+    is-partners = left-together left.file.now right.file.now q run.state (test ∙ e)
 
-    pub partners-called : CanWritePartners left left_table q f.action right right_table run k.states out at
+    pub partners-called : CanWritePartners left q f.action right run out at
     partners-called =
         record {
-          of = record { m = m; k = k; models = p.models; transition = less; by = t.action; shared = test ∙ e; states = refl };
+          of = record { models = p.models; transition = less; by = t.action; shared = test ∙ e };
           leaving = is;
           room = omega (arith, p.room, ap length is-partners);
         }
 
-    pub partners-written : {after : List ℕ} {end : ℕ} → Appends (partner_records left right q run.state) at out after end → Appends (left_move_records left right ((automaton_in left).source q) run.state q) at out after end
+    pub partners-written : {after : List ℕ} {end : ℕ} → Appends (partner_records left.file.now right.file.now q run.state) at out after end → Appends (left_move_records left.file.now right.file.now ((automaton_in left.file.now).source q) run.state q) at out after end
     partners-written = appended-as is-partners
 
   module _ (e : shared ≡ false) where
-    is-alone : left_move_records left right ((automaton_in left).source q) run.state q ≡ left_record left k.states q run.state
+    is-alone : left_move_records left.file.now right.file.now ((automaton_in left.file.now).source q) run.state q ≡ left_record left.file.now right.model.states q run.state
     unfolding moved
     is-alone =
-        left_alone_lem left right q run.state (test ∙ e) ∙ ap (λ (x : ℕ). left_record left x q run.state) (sym (right-states p.models))
+        left_alone_lem left.file.now right.file.now q run.state (test ∙ e) ∙ ap (λ (x : ℕ). left_record left.file.now x q run.state) (sym (right-states p.models))
 
-    pub alone-called : CanWriteLeft left left_table q k.states run.state out at
+    pub alone-called : CanWriteLeft left.file.now left.places.now q right.model.states run.state out at
     alone-called =
         record {
           transition = known-transition (left-known p.models) less;
@@ -91,13 +92,13 @@ module _ {left : List ℕ} {m : Found} {left_table right : List ℕ} {k : Found}
           room = omega (arith, p.room, ap length is-alone);
         }
 
-    pub alone-written : {after : List ℕ} {end : ℕ} → Appends (left_record left k.states q run.state) at out after end → Appends (left_move_records left right ((automaton_in left).source q) run.state q) at out after end
+    pub alone-written : {after : List ℕ} {end : ℕ} → Appends (left_record left.file.now right.model.states q run.state) at out after end → Appends (left_move_records left.file.now right.file.now ((automaton_in left.file.now).source q) run.state q) at out after end
     alone-written = appended-as is-alone
 
 -- the next of the left that leaves a state
-pub left-ask : {left : List ℕ} {m : Found} {left_table right : List ℕ} {k : Found} {right_table before : List ℕ} {at : ℕ} {from run : Run} → CanWriteMoves left m left_table right k right_table (left_records left right from.state run.state) before at × IsRun (automaton_in left) from × IsRun (automaton_in right) run → {q : ℕ} {out : List ℕ} {next : ℕ} → RunLoop (automaton_in left) from (left_move_records left right from.state run.state) at before q out next → q < from.past → CanWriteMoves left m left_table right k right_table (left_move_records left right ((automaton_in left).source q) run.state q) out next × (q < m.transitions) × IsRun (automaton_in right) run
+pub left-ask : {left right : Side} {before : List ℕ} {at : ℕ} {from run : Run} → CanWriteMoves left right (left_records left.file.now right.file.now from.state run.state) before at × IsRun (automaton_in left.file.now) from × IsRun (automaton_in right.file.now) run → {q : ℕ} {out : List ℕ} {next : ℕ} → RunLoop (automaton_in left.file.now) from (left_move_records left.file.now right.file.now from.state run.state) at before q out next → q < from.past → CanWriteMoves left right (left_move_records left.file.now right.file.now ((automaton_in left.file.now).source q) run.state q) out next × (q < left.model.transitions) × IsRun (automaton_in right.file.now) run
 left-ask {left} {right = right} {run = run} p l less = (
-  record { models = p.0.models; room = run_room (left-of-run left right run.state p.1) l less },
+  record { models = p.0.models; room = run_room (left-of-run left.file.now right.file.now run.state p.1) l less },
   omega (arith, less, p.1.most, known-transitions (left-known p.0.models)),
   p.2,
 )

@@ -1,10 +1,10 @@
 -- What the writers of the moves from a state need.
 use Rattle.std.specs.Prelude.{ℕ, ◌+◌, ◌≤◌, ◌<◌, ◌≡◌, true, List, length}
 use Rattle.bisimulation.specs.definitions.Automaton.{Automaton}
-use Rattle.model.specs.declared.Model.{Model as Found}
 use Rattle.transition.specs.Known.{automaton_in}
 use Rattle.composition.specs.definitions.Composition.{is_shared}
-use Rattle.composed_size.specs.Sides.{CanCompose}
+use Rattle.composed_size.specs.declared.Side.{Side}
+use Rattle.composed_size.specs.Composable.{CanCompose}
 use Rattle.composed_states.specs.declared.Run.{Run}
 use Rattle.composed_states.specs.Records.{partner_record, partner_records}
 
@@ -18,28 +18,25 @@ pub record IsRun (A : Automaton) (run : Run) : Type 0 where
   pub after : (i : ℕ) → run.past ≤ i → i < A.transitions → A.source i ≡ run.state → ⊥
 
 -- two models that can be composed, and room for records of theirs
-pub record CanWriteMoves (left : List ℕ) (m : Found) (left_table right : List ℕ) (k : Found) (right_table records out : List ℕ) (at : ℕ) : Type 0 where
-  pub models : CanCompose left m left_table right k right_table
+pub record CanWriteMoves (left right : Side) (records out : List ℕ) (at : ℕ) : Type 0 where
+  pub models : CanCompose left right
   pub room : at + length records ≤ length out
 
 -- a transition of the left with a shared action
-pub record SharedTransition (left left_table : List ℕ) (q action : ℕ) (right right_table : List ℕ) (n : ℕ) : Type 0 where
-  pub m : Found
-  pub k : Found
-  pub models : CanCompose left m left_table right k right_table
-  pub transition : q < m.transitions
-  pub by : action ≡ (automaton_in left).action q
-  pub shared : is_shared (automaton_in left) (automaton_in right) ((automaton_in left).action q) ≡ true
-  pub states : n ≡ k.states
+pub record SharedTransition (left : Side) (q action : ℕ) (right : Side) : Type 0 where
+  pub models : CanCompose left right
+  pub transition : q < left.model.transitions
+  pub by : action ≡ (automaton_in left.file.now).action q
+  pub shared : is_shared (automaton_in left.file.now) (automaton_in right.file.now) ((automaton_in left.file.now).action q) ≡ true
 
 -- one of the right, and room for the two together
-pub record CanWritePartner (left left_table : List ℕ) (q action : ℕ) (right right_table : List ℕ) (r n : ℕ) (out : List ℕ) (at : ℕ) : Type 0 where
-  pub of : SharedTransition left left_table q action right right_table n
-  pub transition : r < (automaton_in right).transitions
-  pub room : at + length (partner_record left right q ((automaton_in right).source r) r) ≤ length out
+pub record CanWritePartner (left : Side) (q action : ℕ) (right : Side) (r : ℕ) (out : List ℕ) (at : ℕ) : Type 0 where
+  pub of : SharedTransition left q action right
+  pub transition : r < (automaton_in right.file.now).transitions
+  pub room : at + length (partner_record left.file.now right.file.now q ((automaton_in right.file.now).source r) r) ≤ length out
 
 -- all that leave a state
-pub record CanWritePartners (left left_table : List ℕ) (q action : ℕ) (right right_table : List ℕ) (run : Run) (n : ℕ) (out : List ℕ) (at : ℕ) : Type 0 where
-  pub of : SharedTransition left left_table q action right right_table n
-  pub leaving : IsRun (automaton_in right) run
-  pub room : at + length (partner_records left right q run.state) ≤ length out
+pub record CanWritePartners (left : Side) (q action : ℕ) (right : Side) (run : Run) (out : List ℕ) (at : ℕ) : Type 0 where
+  pub of : SharedTransition left q action right
+  pub leaving : IsRun (automaton_in right.file.now) run
+  pub room : at + length (partner_records left.file.now right.file.now q run.state) ≤ length out

@@ -2,10 +2,9 @@
 use Rattle.std.specs.Prelude.{ℕ, ◌+◌, ◌*◌, ◌≤◌, ◌<◌, List, [], length}
 use Rattle.bisimulation.specs.definitions.Choice.{if_same, if_true}
 use Rattle.rules.specs.definitions.Reading.{states_of, model_at}
-use Rattle.model.specs.declared.Model.{Model as Found}
 use Rattle.transition.specs.Known.{automaton_in}
 use Rattle.composition.specs.definitions.Composition.{shared_below, gathered}
-use Rattle.composed_size.specs.Sides.{Side}
+use Rattle.composed_size.specs.declared.Side.{Side}
 use Rattle.composed_moves.specs.MoveRecords.{right_record}
 use Rattle.composed_states.specs.declared.Run.{Run}
 use Rattle.composed_states.specs.Needs.{IsRun}
@@ -22,15 +21,13 @@ own_record_from actions right s e r = if_same ((automaton_in right).source r) e 
 abbrev pub own_records : (actions : ℕ) (right : List ℕ) (s e : ℕ) → List ℕ
 own_records actions right s e = gathered (automaton_in right).transitions (own_record_from actions right s e)
 
--- a sound right model, a composition whose states (s,e) fit a byte, and room
-pub record CanWriteOwn (actions s : ℕ) (right : List ℕ) (k : Found) (right_table : List ℕ) (r : ℕ) (out : List ℕ) (at : ℕ) : Type 0 where
-  pub side : Side right k right_table
-  pub states : s * k.states + k.states < 256
-  pub transition : r < k.transitions
-  pub room : at + length (own_record actions right s r) ≤ length out
+-- a composition whose states (s,e) fit a byte, and room
+pub record CanWriteOwn (actions s : ℕ) (right : Side) (r : ℕ) (out : List ℕ) (at : ℕ) : Type 0 where
+  pub states : s * right.model.states + right.model.states < 256
+  pub transition : r < right.model.transitions
+  pub room : at + length (own_record actions right.file.now s r) ≤ length out
 
-pub record CanWriteOwns (actions s : ℕ) (right : List ℕ) (k : Found) (right_table : List ℕ) (run : Run) (out : List ℕ) (at : ℕ) : Type 0 where
-  pub side : Side right k right_table
-  pub states : s * k.states + k.states < 256
-  pub leaving : IsRun (automaton_in right) run
-  pub room : at + length (own_records actions right s run.state) ≤ length out
+pub record CanWriteOwns (actions s : ℕ) (right : Side) (run : Run) (out : List ℕ) (at : ℕ) : Type 0 where
+  pub states : s * right.model.states + right.model.states < 256
+  pub leaving : IsRun (automaton_in right.file.now) run
+  pub room : at + length (own_records actions right.file.now s run.state) ≤ length out

@@ -9,7 +9,7 @@ ghost use Rattle.composed_states.specs.Records.{partner_record, partner_records,
 ghost use Rattle.composed_states.specs.Needs.{IsRun, CanWriteMoves, CanWritePartner, CanWritePartners};
 ghost use Rattle.composed_states.specs.Own.{own_record, own_records, CanWriteOwn, CanWriteOwns};
 
-use model::{Model, Places};
+use composed_size::Side;
 
 // The transitions that leave a state: from `first` on, and `past` is the one after them.
 #[derive(Clone, Copy)]
@@ -21,128 +21,88 @@ pub struct Run {
 
 // The left's transition q, of a shared action, together with the right's r, where that has its action.
 fn write_partner(
-    left: &[u8],
-    left_places: &Places,
+    left: Side,
     q: usize,
     action: usize,
-    right: &[u8],
-    right_places: &Places,
+    right: Side,
     r: usize,
-    n: usize,
     out: &mut [u8],
     at: usize,
 ) -> usize
-    requires { CanWritePartner left.now left_places.now q action right.now right_places.now r n out.old at }
-    ensures { Appends (partner_record left.now right.now q ((automaton_in right.now).source r) r) at out.old out.new result }
+    requires { CanWritePartner left q action right r out.old at }
+    ensures { Appends (partner_record left.entry.file.now right.entry.file.now q ((automaton_in right.entry.file.now).source r) r) at out.old out.new result }
 {
-    if transition::fields_of(right, right_places, r).action != action {
+    if transition::fields_of(right.file, right.places, r).action != action {
         return at;
     }
-    composed_moves::write_together(left, left_places, q, right, right_places, r, n, out, at)
+    composed_moves::write_together(
+        left.file,
+        left.places,
+        q,
+        right.file,
+        right.places,
+        r,
+        right.model.states,
+        out,
+        at,
+    )
 }
 
 // It with each partner that leaves a state.
 fn write_partners(
-    left: &[u8],
-    left_places: &Places,
+    left: Side,
     q: usize,
     action: usize,
-    right: &[u8],
-    right_places: &Places,
+    right: Side,
     run: Run,
-    n: usize,
     out: &mut [u8],
     at: usize,
 ) -> usize
-    requires { CanWritePartners left.now left_places.now q action right.now right_places.now run n out.old at }
-    ensures { Appends (partner_records left.now right.now q run.state) at out.old out.new result }
+    requires { CanWritePartners left q action right run out.old at }
+    ensures { Appends (partner_records left.entry.file.now right.entry.file.now q run.state) at out.old out.new result }
 {
-    let mut partner = run.first;
     let mut next = at;
-    while partner < run.past {
-        next = write_partner(
-            left,
-            left_places,
-            q,
-            action,
-            right,
-            right_places,
-            partner,
-            n,
-            out,
-            next,
-        );
-        partner += 1;
+    for partner in run.first..run.past {
+        next = write_partner(left, q, action, right, partner, out, next);
     }
     next
 }
 
 // The left's transition q at a state of the right: with its partners, or alone.
-fn write_left_move(
-    left: &[u8],
-    m: Model,
-    left_places: &Places,
-    q: usize,
-    right: &[u8],
-    k: Model,
-    right_places: &Places,
-    run: Run,
-    out: &mut [u8],
-    at: usize,
-) -> usize
-    requires { CanWriteMoves left.now m left_places.now right.now k right_places.now (left_move_records left.now right.now ((automaton_in left.now).source q) run.state q) out.old at × (q < m.transitions) × IsRun (automaton_in right.now) run }
-    ensures { Appends (left_move_records left.now right.now ((automaton_in left.now).source q) run.state q) at out.old out.new result }
+fn write_left_move(left: Side, q: usize, right: Side, run: Run, out: &mut [u8], at: usize) -> usize
+    requires { CanWriteMoves left right (left_move_records left.file.now right.file.now ((automaton_in left.file.now).source q) run.state q) out.old at × (q < left.model.transitions) × IsRun (automaton_in right.file.now) run }
+    ensures { Appends (left_move_records left.entry.file.now right.entry.file.now ((automaton_in left.entry.file.now).source q) run.state q) at out.old out.new result }
 {
-    let action = transition::fields_of(left, left_places, q).action;
-    if composed_size::is_shared(m.actions, k.actions, action) {
-        return write_partners(
-            left,
-            left_places,
-            q,
-            action,
-            right,
-            right_places,
-            run,
-            k.states,
-            out,
-            at,
-        );
+    let action = transition::fields_of(left.file, left.places, q).action;
+    if composed_size::is_shared(left.model.actions, right.model.actions, action) {
+        return write_partners(left, q, action, right, run, out, at);
     }
-    composed_moves::write_left(left, left_places, q, k.states, run.state, out, at)
+    composed_moves::write_left(
+        left.file,
+        left.places,
+        q,
+        right.model.states,
+        run.state,
+        out,
+        at,
+    )
 }
 
 // The left's moves from a state of each.
 fn write_left_moves(
-    left: &[u8],
-    m: Model,
-    left_places: &Places,
+    left: Side,
     from: Run,
-    right: &[u8],
-    k: Model,
-    right_places: &Places,
+    right: Side,
     run: Run,
     out: &mut [u8],
     at: usize,
 ) -> usize
-    requires { CanWriteMoves left.now m left_places.now right.now k right_places.now (left_records left.now right.now from.state run.state) out.old at × IsRun (automaton_in left.now) from × IsRun (automaton_in right.now) run }
-    ensures { Appends (left_records left.now right.now from.state run.state) at out.old out.new result }
+    requires { CanWriteMoves left right (left_records left.file.now right.file.now from.state run.state) out.old at × IsRun (automaton_in left.file.now) from × IsRun (automaton_in right.file.now) run }
+    ensures { Appends (left_records left.entry.file.now right.entry.file.now from.state run.state) at out.old out.new result }
 {
-    let mut q = from.first;
     let mut next = at;
-    while q < from.past {
-        next = write_left_move(
-            left,
-            m,
-            left_places,
-            q,
-            right,
-            k,
-            right_places,
-            run,
-            out,
-            next,
-        );
-        q += 1;
+    for q in from.first..from.past {
+        next = write_left_move(left, q, right, run, out, next);
     }
     next
 }
@@ -151,73 +111,45 @@ fn write_left_moves(
 fn write_own_move(
     actions: usize,
     s: usize,
-    right: &[u8],
-    k: Model,
-    right_places: &Places,
+    right: Side,
     r: usize,
     out: &mut [u8],
     at: usize,
 ) -> usize
-    requires { CanWriteOwn actions s right.now k right_places.now r out.old at }
-    ensures { Appends (own_record actions right.now s r) at out.old out.new result }
+    requires { CanWriteOwn actions s right r out.old at }
+    ensures { Appends (own_record actions right.entry.file.now s r) at out.old out.new result }
 {
-    let action = transition::fields_of(right, right_places, r).action;
-    if composed_size::is_shared(actions, k.actions, action) {
+    let action = transition::fields_of(right.file, right.places, r).action;
+    if composed_size::is_shared(actions, right.model.actions, action) {
         return at;
     }
-    composed_moves::write_right(right, right_places, r, k.states, s, out, at)
+    composed_moves::write_right(right.file, right.places, r, right.model.states, s, out, at)
 }
 
 // The right's own moves from a state.
 fn write_own_moves(
     actions: usize,
     s: usize,
-    right: &[u8],
-    k: Model,
-    right_places: &Places,
+    right: Side,
     run: Run,
     out: &mut [u8],
     at: usize,
 ) -> usize
-    requires { CanWriteOwns actions s right.now k right_places.now run out.old at }
-    ensures { Appends (own_records actions right.now s run.state) at out.old out.new result }
+    requires { CanWriteOwns actions s right run out.old at }
+    ensures { Appends (own_records actions right.entry.file.now s run.state) at out.old out.new result }
 {
-    let mut r = run.first;
     let mut next = at;
-    while r < run.past {
-        next = write_own_move(actions, s, right, k, right_places, r, out, next);
-        r += 1;
+    for r in run.first..run.past {
+        next = write_own_move(actions, s, right, r, out, next);
     }
     next
 }
 
 // The moves from a state (s,e): the left's, and then the right's own.
-pub fn write_state(
-    left: &[u8],
-    m: Model,
-    left_places: &Places,
-    from: Run,
-    right: &[u8],
-    k: Model,
-    right_places: &Places,
-    run: Run,
-    out: &mut [u8],
-    at: usize,
-) -> usize
-    requires { CanWriteMoves left.now m left_places.now right.now k right_places.now (state_records left.now right.now from.state run.state) out.old at × IsRun (automaton_in left.now) from × IsRun (automaton_in right.now) run }
-    ensures { Appends (state_records left.now right.now from.state run.state) at out.old out.new result }
+pub fn write_state(left: Side, from: Run, right: Side, run: Run, out: &mut [u8], at: usize) -> usize
+    requires { CanWriteMoves left right (state_records left.file.now right.file.now from.state run.state) out.old at × IsRun (automaton_in left.file.now) from × IsRun (automaton_in right.file.now) run }
+    ensures { Appends (state_records left.entry.file.now right.entry.file.now from.state run.state) at out.old out.new result }
 {
-    let own = write_left_moves(
-        left,
-        m,
-        left_places,
-        from,
-        right,
-        k,
-        right_places,
-        run,
-        out,
-        at,
-    );
-    write_own_moves(m.actions, from.state, right, k, right_places, run, out, own)
+    let own = write_left_moves(left, from, right, run, out, at);
+    write_own_moves(left.model.actions, from.state, right, run, out, own)
 }

@@ -13,9 +13,8 @@ use Rattle.cost_files.specs.definitions.CostFile.{cost_condition, last_cost_faul
 use Rattle.rule_kind.specs.declared.Kind.{Kind}
 use Rattle.rule_kind.specs.declared.Condition.{Condition}
 use Rattle.rule_kind.specs.declared.Condition.TheVariants.{Across, Within, Unasked}
-use Rattle.rule_kind.specs.Kinds.{KindStands, CostAsked}
+use Rattle.rule_kind.specs.Kinds.{KindStands}
 use Rattle.rule_kind.specs.Steps.{condition_by}
-use Rattle.transition.specs.Known.{Known}
 use Rattle.prices.specs.Prices.{SmallPrices}
 
 -- for the cost of each transition and the price L; a rule without costs has the cost 0
@@ -53,27 +52,28 @@ module _ (cost : ℕ → ℕ) (A : Automaton) (L : ℤ) where
   abbrev pub last_off : (X G : ℕ → ℤ) → (q t : ℕ) → ℤ
   last_off X G q t = price_at A X q t -ℤ price_with_cost cost A L G q
 
--- the costs of all transitions may be asked for, and L is a number of four bytes
-pub record AllPriced (kind : Kind) (s : List ℕ) (count : ℕ) (places : List ℕ) (l : ℤ) : Type 0 where
-  pub known : Known s (states_of s) count places
+-- the costs of all transitions of a sound model may be asked for, and L is a number of four bytes
+pub record AllPriced (kind : Kind) (s : List ℕ) (l : ℤ) : Type 0 where
   pub stands : KindStands kind s
   pub price : mag l < 2 ^ 31
 
--- that of the transition r
-pub record CostPriced (kind : Kind) (s : List ℕ) (count : ℕ) (places : List ℕ) (r : ℕ) (l : ℤ) : Type 0 where
-  pub cost : CostAsked kind s count places r
+-- that of the transition r, one of so many
+pub record CostPriced (kind : Kind) (s : List ℕ) (count r : ℕ) (l : ℤ) : Type 0 where
+  pub stands : KindStands kind s
+  pub below : r < count
   pub price : mag l < 2 ^ 31
 
 -- the term of that cost can be added to a sum over its targets, for the denominator d
-pub record CostAddable (kind : Kind) (s : List ℕ) (count : ℕ) (places : List ℕ) (r d : ℕ) (l sum : ℤ) : Type 0 where
-  pub asked : CostAsked kind s count places r
+pub record CostAddable (kind : Kind) (s : List ℕ) (count r d : ℕ) (l sum : ℤ) : Type 0 where
+  pub stands : KindStands kind s
+  pub below : r < count
   pub light : d < 65536
   pub price : mag l < 2 ^ 31
   pub small : nat_abs sum ≤ 2 ^ 31 * 65535
 
 -- the last condition is asked of the challenger q against t, for the price L and the prices x and g
-pub record LastAsked (kind : Kind) (s : List ℕ) (count : ℕ) (places : List ℕ) (q t : ℕ) (l : ℤ) (x g : List ℤ) : Type 0 where
-  pub challenger : CostPriced kind s count places q l
+pub record LastAsked (kind : Kind) (s : List ℕ) (count q t : ℕ) (l : ℤ) (x g : List ℤ) : Type 0 where
+  pub challenger : CostPriced kind s count q l
   pub defender : t < states_of s
   pub first : SmallPrices (states_of s) x
   pub third : SmallPrices (states_of s) g

@@ -1,7 +1,9 @@
 -- Laws of the price conditions as they are tested.
-use Rattle.std.specs.Prelude.{ℕ, zero, suc, ◌+◌, ◌*◌, ◌-◌, ◌^◌, ◌≤◌, ◌<◌, ◌≡◌, false, not, List, ltb, negsuc, nat_abs, ◌+ℤ◌, ◌-ℤ◌, ◌*ℤ◌}
+use Rattle.std.specs.Prelude.{ℕ, zero, suc, ◌+◌, ◌*◌, ◌-◌, ◌^◌, ◌≤◌, ◌<◌, ◌≡◌, false, not, List, length, get_or, ltb, negsuc, nat_abs, ◌+ℤ◌, ◌-ℤ◌, ◌*ℤ◌}
 use Rattle.std.proofs.Math.Path.{refl, sym, ap, ap₂}
-use Rattle.std.proofs.Common.{◌∙◌, lt-ltb, le-ltb, le-leb, ltb-true, ltb-false, zero-mul, mul-le-mul, mul-le-mul_left, arith}
+use Rattle.std.specs.List.{range_with_len, AllWithin, HoldsAt}
+use Rattle.std.proofs.lemmas.List.FromFn.{get_or-range_with_len, length-range_with_len}
+use Rattle.std.proofs.Common.{◌∙◌, subst, MatchBool, zero-add, lt-ltb, le-ltb, le-leb, ltb-true, ltb-false, zero-mul, mul-le-mul, mul-le-mul_left, arith}
 use Rattle.std.proofs.Math.Bool.{Bool, true, cond}
 use Rattle.std.proofs.Math.IntN.{ℤ, pos, sub_ℕ, +ℤ_idr, zero-*ℤ}
 use Rattle.std.specs.Int.Signed.{mag, le_z, lt_z}
@@ -10,7 +12,7 @@ use mir.Val.{to_z, of_z}
 use Rattle.std.proofs.Math.Facts.{to_z-of_z}
 use Rattle.std.proofs.Math.Decide.{ℕ_discrete}
 use Rattle.bisimulation.specs.definitions.Choice.{if_same, if_true, both, all_below}
-use Rattle.bisimulation.proofs.argument.ChoiceLaws.{same, not_same, all_below_cong, all_both}
+use Rattle.bisimulation.proofs.argument.ChoiceLaws.{same, not_same, below_all, not-all, all_below_cong, all_both}
 use Rattle.bisimulation.specs.definitions.Automaton.{Automaton}
 use Rattle.bisimulation.specs.definitions.Prices.{price_at, price_of_targets}
 use Rattle.rules.specs.definitions.Limits.{limits}
@@ -34,17 +36,17 @@ use Rattle.signed.specs.Terms.{Addable, WithTerm}
 use Rattle.signed.specs.TermsLaws.{abs-add, abs-less, abs-term, mag-abs}
 use Rattle.transition_record.specs.declared.Fields.{Fields}
 use Rattle.transition.specs.Known.{automaton_in, Known, KnownTransition, FieldsOf}
-use Rattle.transition.specs.KnownLaws.{few-states, known-transitions, known-transition, entries-known}
+use Rattle.transition.specs.KnownLaws.{few-states, known-own, known-transitions, known-transition, entries-known}
 use Rattle.prices.specs.Prices.{price_in, SmallPrices, IsSum}
 use Rattle.prices.specs.PricesLaws.{price-back, sum_back, targets-small, sum_is}
-use Rattle.conditions.specs.Conditions.{fair_twice, fair_by, fair_to, all_fair, last_holds, last_off, AllPriced, CostPriced, CostAddable, LastAsked}
+use Rattle.conditions.specs.Conditions.{fair_twice, fair_by, fair_to, all_fair, last_holds, last_off, CostPriced, CostAddable, LastAsked}
 
 -- a state has a price, and d is small
-pub state-price : {s places : List ℕ} {r v : ℕ} {f : Fields} {table : List ℤ} → KnownTransition s places r → FieldsOf s r f → SmallPrices (states_of s) table → v < states_of s → (f.denominator < 65536) × (v < limits.states) × (mag (price_in table v) < 2 ^ 31)
-state-price k h small less = (h.small, omega (arith, less, few-states k.known), small.small _ less)
+pub state-price : {s places : List ℕ} {n count r v : ℕ} {f : Fields} {table : List ℤ} → Known s n count places → FieldsOf s r f → SmallPrices (states_of s) table → v < states_of s → (f.denominator < 65536) × (v < limits.states) × (mag (price_in table v) < 2 ^ 31)
+state-price k h small less = (h.small, omega (arith, less, few-states k, k.states), small.small _ less)
 
 -- the cost of a transition is not above the highest
-pub cost-low : {kind : Kind} {s places : List ℕ} {count r : ℕ} → CostAsked kind s count places r → cost_in kind s r ≤ highest_cost
+cost-low : {kind : Kind} {s places : List ℕ} {count r : ℕ} → CostAsked kind s count places r → cost_in kind s r ≤ highest_cost
 cost-low {kind = Plain} a = omega arith
 cost-low {kind = Strong} a = omega arith
 cost-low {kind = Costs} {s} {r = r} a =
@@ -57,7 +59,7 @@ with-cost-small cost d l sum light small room =
     omega (arith, abs-add sum (pos (cost * d) *ℤ l), abs-term (cost * d) l (2 ^ 31) small)
 
 -- the term of a cost can be added to a sum, and what that makes
-module _ {kind : Kind} {s places : List ℕ} {count r cost d : ℕ} {l sum : ℤ} (a : CostAddable kind s count places r d l sum) (i : CostIs kind s r cost) where
+module _ {kind : Kind} {s : List ℕ} {count r cost d : ℕ} {l sum : ℤ} (a : CostAddable kind s count r d l sum) (i : CostIs kind s r cost) where
   pub weight-small : cost * d ≤ highest_cost * 65535
   weight-small = mul-le-mul {n₂ = highest_cost} {m₂ = 65535} i.low (omega (arith, a.light))
 
@@ -87,15 +89,13 @@ module _ {kind : Kind} {s places : List ℕ} {count r cost d : ℕ} {l sum : ℤ
 pub record IsSide (kind : Kind) (s : List ℕ) (r : ℕ) (l : ℤ) (y : List ℤ) (z : ℤ) : Type 0 where
   pub back : to_z w64 (of_z w64 z) ≡ price_with_cost (cost_in kind s) (automaton_in s) l (price_in y) r
 
--- the cost of one of the transitions, at L as the machine reads it back from its bits
-pub one-priced : {kind : Kind} {s places : List ℕ} {count r : ℕ} {l : ℤ} → AllPriced kind s count places l → r < count → CostPriced kind s count places r (to_z w64 (of_z w64 l))
-one-priced {l = l} a below =
-    rw (price-back l a.price) (record { cost = record { known = a.known; stands = a.stands; below = below }; price = a.price })
-
 -- its targets are summed up
-module _ {kind : Kind} {s places : List ℕ} {count r : ℕ} {l : ℤ} (a : CostPriced kind s count places r l) where
+module _ {kind : Kind} {s places : List ℕ} {n count r : ℕ} {l : ℤ} (k : Known s n count places) (a : CostPriced kind s count r l) where
   pub priced-transition : KnownTransition s places r
-  priced-transition = known-transition a.cost.known a.cost.below
+  priced-transition = known-transition k a.below
+
+  cost-small : cost_in kind s r ≤ highest_cost
+  cost-small = cost-low (record { known = known-own k; stands = a.stands; below = a.below })
 
   -- how large the side of its targets is at most
   pub side-small : {y : List ℤ} → SmallPrices (states_of s) y → nat_abs (price_with_cost (cost_in kind s) (automaton_in s) l (price_in y) r) ≤ 2 ^ 31 * 65535 * (1 + cost_in kind s r)
@@ -106,16 +106,16 @@ module _ {kind : Kind} {s places : List ℕ} {count r : ℕ} {l : ℤ} (a : Cost
 
   module _ {f : Fields} (h : FieldsOf s r f) {y : List ℤ} {sum : ℤ} (e : IsSum (entries_at s f.count f.entries.at) y sum) where
     -- so the term of its cost can be added
-    pub cost-addable : CostAddable kind s count places r f.denominator (to_z w64 (of_z w64 l)) (to_z w64 (of_z w64 sum))
+    pub cost-addable : CostAddable kind s count r f.denominator (to_z w64 (of_z w64 l)) (to_z w64 (of_z w64 sum))
     cost-addable =
-        rw (price-back l a.price, sum_back e) (record { asked = a.cost; light = h.small; price = a.price; small = e.small })
+        rw (price-back l a.price, sum_back e) (record { stands = a.stands; below = a.below; light = h.small; price = a.price; small = e.small })
 
     -- the sum with it is the side of the targets
     pub side-is : {z : ℤ} → z ≡ to_z w64 (of_z w64 sum) +ℤ pos (cost_in kind s r * f.denominator) *ℤ to_z w64 (of_z w64 l) → SmallPrices (states_of s) y → IsSide kind s r l y z
     unfolding price_with_cost
     side-is {z} value small =
         record {
-          back = ap (λ (x : ℤ). to_z w64 (of_z w64 x)) is ∙ to_z-of_z {w = w64} (record { sfits = omega (arith, mag-abs side, side-small small, cost-low a.cost) });
+          back = ap (λ (x : ℤ). to_z w64 (of_z w64 x)) is ∙ to_z-of_z {w = w64} (record { sfits = omega (arith, mag-abs side, side-small small, cost-small) });
         }
       where
         side : ℤ
@@ -127,8 +127,8 @@ module _ {kind : Kind} {s places : List ℕ} {count r : ℕ} {l : ℤ} (a : Cost
             ∙ ap₂ (λ (x k : ℤ). x +ℤ pos (cost_in kind s r * f.denominator) *ℤ k) (sum_back e ∙ sum_is priced-transition h e) (price-back l a.price)
             ∙ ap (λ (d : ℕ). price_of_targets (automaton_in s) (price_in y) r +ℤ pos (cost_in kind s r * d) *ℤ l) h.denominator
 
-pub side-fits : {kind : Kind} {s places : List ℕ} {count r : ℕ} {l z : ℤ} {y : List ℤ} → CostPriced kind s count places r l → SmallPrices (states_of s) y → IsSide kind s r l y z → nat_abs (to_z w64 (of_z w64 z)) ≤ 2 ^ 31 * 65535 * (1 + highest_cost)
-side-fits a small e = omega (arith, ap nat_abs e.back, side-small a small, cost-low a.cost)
+pub side-fits : {kind : Kind} {s places : List ℕ} {n count r : ℕ} {l z : ℤ} {y : List ℤ} → Known s n count places → CostPriced kind s count r l → SmallPrices (states_of s) y → IsSide kind s r l y z → nat_abs (to_z w64 (of_z w64 z)) ≤ 2 ^ 31 * 65535 * (1 + highest_cost)
+side-fits k a small e = omega (arith, ap nat_abs e.back, side-small k a small, cost-small k a)
 
 -- it and d times the price of the source are the two sides of the condition
 pub condition-is : {kind : Kind} {s : List ℕ} {r : ℕ} {f : Fields} {l : ℤ} {y : List ℤ} {z : ℤ} (x : List ℤ) → FieldsOf s r f → IsSide kind s r l y z → le_z (to_z w64 (of_z w64 z)) (pos f.denominator *ℤ price_in x f.source) ≡ cost_condition (cost_in kind s) (automaton_in s) l (price_in x) (price_in y) r
@@ -174,12 +174,12 @@ off_small cost d price sum light small room =
     omega (arith, mag-abs (term -ℤ sum), abs-less term sum, abs-term d price (2 ^ 31) small)
 
 -- how much the last condition is off
-module _ {kind : Kind} {s places : List ℕ} {count q t : ℕ} {l : ℤ} {x g : List ℤ} (a : LastAsked kind s count places q t l x g) where
+module _ {kind : Kind} {s places : List ℕ} {n count q t : ℕ} {l : ℤ} {x g : List ℤ} (k : Known s n count places) (a : LastAsked kind s count q t l x g) where
   off-fits : mag (last_off (cost_in kind s) (automaton_in s) l (price_in x) (price_in g) q t) < 2 ^ 48 * (1 + cost_in kind s q)
   unfolding price_at
   off-fits =
       off_small (cost_in kind s q) ((automaton_in s).denominator q) (price_in x t) (price_with_cost (cost_in kind s) (automaton_in s) l (price_in g) q)
-      (omega (arith, (entries-known (priced-transition a.challenger)).light)) (a.first.small t a.defender) (side-small a.challenger a.third)
+      (omega (arith, (entries-known (priced-transition k a.challenger)).light)) (a.first.small t a.defender) (side-small k a.challenger a.third)
 
   -- the remainder of 16 fits 8 bytes
   pub last_fits : mag (last_cost_fault (cost_in kind s) (automaton_in s) l (price_in x) (price_in g) q t).remainder < 2 ^ 48 * (1 + cost_in kind s q)
@@ -188,7 +188,7 @@ module _ {kind : Kind} {s places : List ℕ} {count q t : ℕ} {l : ℤ} {x g : 
 
   -- so the machine reads it back from its bits
   pub off-back : {r : ℤ} → r ≡ last_off (cost_in kind s) (automaton_in s) l (price_in x) (price_in g) q t → to_z w64 (of_z w64 r) ≡ last_off (cost_in kind s) (automaton_in s) l (price_in x) (price_in g) q t
-  off-back e = ap (λ (z : ℤ). to_z w64 (of_z w64 z)) e ∙ to_z-of_z {w = w64} (record { sfits = omega (arith, off-fits, cost-low a.challenger.cost) })
+  off-back e = ap (λ (z : ℤ). to_z w64 (of_z w64 z)) e ∙ to_z-of_z {w = w64} (record { sfits = omega (arith, off-fits, cost-small k a.challenger) })
 
   -- it is off by 0 or more where the last condition breaks
   pub off-tells : {r : ℤ} → r ≡ last_off (cost_in kind s) (automaton_in s) l (price_in x) (price_in g) q t → le_z (pos 0) (to_z w64 (of_z w64 r)) ≡ not (last_holds (cost_in kind s) (automaton_in s) l (price_in x) (price_in g) q t)
@@ -222,6 +222,18 @@ module _ (cost : ℕ → ℕ) (A : Automaton) (L : ℤ) (kind : Kind) (a t : ℕ
   pub fair-unasked : condition ≡ Unasked → true ≡ fair_to cost A L kind a t X Y r
   unfolding fair_by
   fair-unasked e = fair-as e refl
+
+-- what is said of item r of `0..count` is said of r
+from-range : (P : ℕ → Type 0) {count : ℕ} (r : ℕ) → r < count → P (get_or (range_with_len 0 count) r 0) → P r
+from-range P {count} r less = subst P (get_or-range_with_len 0 count r 0 less ∙ zero-add r)
+
+-- each of the numbers below count passes, or one does not
+pub all-told : (count : ℕ) (f : ℕ → Bool) {told : Bool} → MatchBool told (AllWithin (λ r. true ≡ f r) (range_with_len 0 count) 0 (length (range_with_len 0 count))) ((r : ℕ) × (r < length (range_with_len 0 count)) × HoldsAt (λ r. false ≡ f r) (range_with_len 0 count) r) → told ≡ all_below count f
+all-told count f {told = true} all =
+    sym (below_all count f (λ r less. sym (from-range (λ r. true ≡ f r) r less (all r 0 (omega arith) (omega (arith, length-range_with_len 0 count))))))
+all-told count f {told = false} (r, small, fails) =
+    let less : r < count = omega (arith, length-range_with_len 0 count) in
+    not-all count f r less (sym (from-range (λ r. false ≡ f r) r less (fails 0)))
 
 -- the transitions of the head are all of them
 pub all-of-count : {s places : List ℕ} {n count : ℕ} → Known s n count places → (cost : ℕ → ℕ) (L : ℤ) (kind : Kind) (a t : ℕ) (X Y : ℕ → ℤ) → all_below count (fair_to cost (automaton_in s) L kind a t X Y) ≡ all_fair cost (automaton_in s) L kind a t X Y

@@ -12,9 +12,9 @@ ghost use Rattle.transition.specs.Known.{automaton_in};
 ghost use Rattle.prices.specs.Prices.{price_in, SmallPrices};
 ghost use Rattle.conditions.specs.Conditions.{fair_twice, fair_to, all_fair, last_off, AllPriced, CostPriced, CostAddable, LastAsked};
 
-use model::Places;
 use prices::Prices;
 use rule_kind::{Condition, Kind};
+use sound_model::SoundModel;
 
 // d times the price of v is at least the sum.
 fn at_least(d: usize, x: &Prices, v: usize, sum: i64) -> bool
@@ -35,20 +35,11 @@ fn excess(d: usize, x: &Prices, v: usize, sum: i64) -> i64
 }
 
 // A sum over the targets of the transition r, whose denominator is d, with its cost at the price l.
-fn with_cost(
-    kind: Kind,
-    s: &[u8],
-    count: usize,
-    places: &Places,
-    r: usize,
-    d: usize,
-    l: i64,
-    sum: i64,
-) -> i64
-    requires { CostAddable kind s.now count places.now r d l sum }
-    ensures { result ≡ sum +ℤ pos (cost_in kind s.now r * d) *ℤ l }
+fn with_cost(kind: Kind, model: SoundModel, r: usize, d: usize, l: i64, sum: i64) -> i64
+    requires { CostAddable kind model.file.now model.transitions r d l sum }
+    ensures { result ≡ sum +ℤ pos (cost_in kind model.entry.file.now r * d) *ℤ l }
 {
-    let cost = rule_kind::cost_of(kind, s, count, places, r);
+    let cost = rule_kind::cost_of(kind, model.file, model.transitions, model.places, r);
     if cost == 0 {
         return sum;
     }
@@ -56,61 +47,36 @@ fn with_cost(
 }
 
 // The price condition of the transition r, from the prices x of its source to the prices y of its targets.
-fn fair(
-    kind: Kind,
-    s: &[u8],
-    count: usize,
-    places: &Places,
-    r: usize,
-    l: i64,
-    x: &Prices,
-    y: &Prices,
-) -> bool
-    requires { CostPriced kind s.now count places.now r l × SmallPrices (states_of s.now) x.now × SmallPrices (states_of s.now) y.now }
-    ensures { result ≡ cost_condition (cost_in kind s.now) (automaton_in s.now) l (price_in x.now) (price_in y.now) r }
+fn fair(kind: Kind, model: SoundModel, r: usize, l: i64, x: &Prices, y: &Prices) -> bool
+    requires { CostPriced kind model.file.now model.transitions r l × SmallPrices (states_of model.file.now) x.now × SmallPrices (states_of model.file.now) y.now }
+    ensures { result ≡ cost_condition (cost_in kind model.entry.file.now) (automaton_in model.entry.file.now) l (price_in x.now) (price_in y.now) r }
 {
-    let t = transition::fields_of(s, places, r);
+    let t = model.fields(r);
     let d = t.denominator;
-    let sum = prices::sum_of(s, t.entries.at, t.count, y);
-    at_least(
-        d,
-        x,
-        t.source,
-        with_cost(kind, s, count, places, r, d, l, sum),
-    )
+    let sum = prices::sum_of(model.file, t.entries.at, t.count, y);
+    at_least(d, x, t.source, with_cost(kind, model, r, d, l, sum))
 }
 
 // The conditions of an internal transition, for the prices x alone and for y alone, in one pass over its entries.
-fn fair_twice(
-    kind: Kind,
-    s: &[u8],
-    count: usize,
-    places: &Places,
-    r: usize,
-    l: i64,
-    x: &Prices,
-    y: &Prices,
-) -> bool
-    requires { CostPriced kind s.now count places.now r l × SmallPrices (states_of s.now) x.now × SmallPrices (states_of s.now) y.now }
-    ensures { result ≡ fair_twice (cost_in kind s.now) (automaton_in s.now) l (price_in x.now) (price_in y.now) r }
+fn fair_twice(kind: Kind, model: SoundModel, r: usize, l: i64, x: &Prices, y: &Prices) -> bool
+    requires { CostPriced kind model.file.now model.transitions r l × SmallPrices (states_of model.file.now) x.now × SmallPrices (states_of model.file.now) y.now }
+    ensures { result ≡ fair_twice (cost_in kind model.entry.file.now) (automaton_in model.entry.file.now) l (price_in x.now) (price_in y.now) r }
 {
-    let t = transition::fields_of(s, places, r);
+    let t = model.fields(r);
     let d = t.denominator;
-    let sums = prices::sums_of(s, t.entries.at, t.count, x, y);
-    let first = with_cost(kind, s, count, places, r, d, l, sums.first);
+    let sums = prices::sums_of(model.file, t.entries.at, t.count, x, y);
+    let first = with_cost(kind, model, r, d, l, sums.first);
     if !at_least(d, x, t.source, first) {
         return false;
     }
-    let second = with_cost(kind, s, count, places, r, d, l, sums.second);
+    let second = with_cost(kind, model, r, d, l, sums.second);
     at_least(d, y, t.source, second)
 }
 
 // What a challenger with the action a asks of the transition r, against t. Where there is no move the prices y are x.
 fn fair_to(
     kind: Kind,
-    s: &[u8],
-    count: usize,
-    places: &Places,
+    model: SoundModel,
     r: usize,
     a: usize,
     t: usize,
@@ -118,16 +84,17 @@ fn fair_to(
     x: &Prices,
     y: &Prices,
 ) -> bool
-    requires { CostPriced kind s.now count places.now r l × SmallPrices (states_of s.now) x.now × SmallPrices (states_of s.now) y.now }
-    ensures { result ≡ fair_to (cost_in kind s.now) (automaton_in s.now) l kind a t (price_in x.now) (price_in y.now) r }
+    requires { CostPriced kind model.file.now model.transitions r l × SmallPrices (states_of model.file.now) x.now × SmallPrices (states_of model.file.now) y.now }
+    ensures { result ≡ fair_to (cost_in kind model.entry.file.now) (automaton_in model.entry.file.now) l kind a t (price_in x.now) (price_in y.now) r }
 {
-    let fields = transition::fields_of(s, places, r);
+    let fields = model.fields(r);
     let condition = rule_kind::condition_of(kind, a, t, fields.source, fields.action);
+    // Two tests and no match: the compiler makes a number of three cases first, a tenth more instructions on refutations.
     if let Condition::Across = condition {
-        return fair(kind, s, count, places, r, l, x, y);
+        return fair(kind, model, r, l, x, y);
     }
     if let Condition::Within = condition {
-        return fair_twice(kind, s, count, places, r, l, x, y);
+        return fair_twice(kind, model, r, l, x, y);
     }
     true
 }
@@ -135,45 +102,34 @@ fn fair_to(
 // What it asks of the transitions.
 pub fn all_fair(
     kind: Kind,
-    s: &[u8],
-    count: usize,
-    places: &Places,
+    model: SoundModel,
     a: usize,
     t: usize,
     l: i64,
     x: &Prices,
     y: &Prices,
 ) -> bool
-    requires { AllPriced kind s.now count places.now l × SmallPrices (states_of s.now) x.now × SmallPrices (states_of s.now) y.now }
-    ensures { result ≡ all_fair (cost_in kind s.now) (automaton_in s.now) l kind a t (price_in x.now) (price_in y.now) }
+    requires { AllPriced kind model.file.now l × SmallPrices (states_of model.file.now) x.now × SmallPrices (states_of model.file.now) y.now }
+    ensures { result ≡ all_fair (cost_in kind model.entry.file.now) (automaton_in model.entry.file.now) l kind a t (price_in x.now) (price_in y.now) }
 {
-    let mut r = 0;
-    while r < count {
-        if !fair_to(kind, s, count, places, r, a, t, l, x, y) {
-            return false;
-        }
-        r += 1;
-    }
-    true
+    (0..model.transitions).all(|r| fair_to(kind, model, r, a, t, l, x, y))
 }
 
 // By how much the last condition is off, of the challenger q against t: its left side less its right. It holds where that is below 0.
 pub fn last_off(
     kind: Kind,
-    s: &[u8],
-    count: usize,
-    places: &Places,
+    model: SoundModel,
     q: usize,
     t: usize,
     l: i64,
     x: &Prices,
     g: &Prices,
 ) -> i64
-    requires { LastAsked kind s.now count places.now q t l x.now g.now }
-    ensures { result ≡ last_off (cost_in kind s.now) (automaton_in s.now) l (price_in x.now) (price_in g.now) q t }
+    requires { LastAsked kind model.file.now model.transitions q t l x.now g.now }
+    ensures { result ≡ last_off (cost_in kind model.entry.file.now) (automaton_in model.entry.file.now) l (price_in x.now) (price_in g.now) q t }
 {
-    let challenger = transition::fields_of(s, places, q);
+    let challenger = model.fields(q);
     let d = challenger.denominator;
-    let sum = prices::sum_of(s, challenger.entries.at, challenger.count, g);
-    excess(d, x, t, with_cost(kind, s, count, places, q, d, l, sum))
+    let sum = prices::sum_of(model.file, challenger.entries.at, challenger.count, g);
+    excess(d, x, t, with_cost(kind, model, q, d, l, sum))
 }

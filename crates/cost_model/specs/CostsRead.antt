@@ -1,6 +1,6 @@
 -- What the loop over the costs keeps.
 use Prim.Native.Nat.{ℕ, zero, suc, ◌+◌, ◌-◌, ◌≤◌, ◌<◌}
-use Rattle.std.specs.Prelude.{◌≡◌, List, length}
+use Rattle.std.specs.Prelude.{◌≡◌, List, length, Result, Ok, Err}
 use Rattle.std.proofs.Math.Path.{refl, ap, subst}
 use Rattle.std.proofs.Common.{sym, ◌∙◌}
 use native.Mathlib.Omega.{arith}
@@ -14,8 +14,6 @@ use Rattle.rules.specs.definitions.Limits.{Limits}
 use Rattle.fault.specs.declared.Fault.{Fault}
 use Rattle.model.specs.Scanned.{scan_of, PlacesHeld, PlacesOf, Scans, scans, left-held}
 use Rattle.model.specs.declared.Model.{Model}
-use Rattle.model.specs.declared.Scanned.{Scanned}
-use Rattle.model.specs.declared.Scanned.TheVariants.{Sound as IsSound, Refused}
 use Rattle.cost_files.specs.definitions.CostModel.{highest_cost}
 use Rattle.cost_files.specs.definitions.CostReading.{cost_fault, scan_costs, scan_cost_record, scan_cost_model}
 
@@ -85,20 +83,20 @@ module _ (s table : List ℕ) where
   record-held (refused f place) h = tt
 
 -- the model read, and what its costs make of it
-module _ (L : Limits) {s table : List ℕ} {r : Scanned} (g : Scans s (scan_model L s) r table) where
-  pub sound-fits : {m : Model} → r ≡ IsSound m → (m.end ≤ length s) × (m.transitions ≤ L.transitions)
-  sound-fits {m} e =
-      let told : Sound L s m.states m.actions m.transitions m.end = subst (Tells L s) (sym g.answer ∙ ap scan_of e) (scan-tells L s) in
-      (told.inside, omega (arith, told.transitions, told.head.transitions))
+module _ (L : Limits) {s table : List ℕ} where
+  module _ {m : Model} (g : Scans s (scan_model L s) (Ok m) table) where
+    pub sound-fits : (m.end ≤ length s) × (m.transitions ≤ L.transitions)
+    sound-fits =
+        let told : Sound L s m.states m.actions m.transitions m.end = subst (Tells L s) (sym g.answer) (scan-tells L s) in
+        (told.inside, omega (arith, told.transitions, told.head.transitions))
 
-  pub cost-scans : {m : Model} (x : Scanned) → r ≡ IsSound m → scan_of x ≡ refuse_bytes_left s (scan_cost_record s (scan_of (IsSound m))) → Scans s (scan_cost_model L s) x table
-  unfolding scan_cost_model
-  cost-scans {m} x e q =
-      scans x (q ∙ ap (λ (k : Scan). refuse_bytes_left s (scan_cost_record s k)) (sym (ap scan_of e) ∙ g.answer))
-      (subst (PlacesOf s table) (sym q) (left-held s table _ (record-held s table (scan_of (IsSound m)) (subst (λ (y : Scanned). PlacesOf s table (scan_of y)) e g.places))))
-      g.size
+    pub cost-scans : (x : Result Model Fault) → scan_of x ≡ refuse_bytes_left s (scan_cost_record s (scan_of (Ok m))) → Scans s (scan_cost_model L s) x table
+    unfolding scan_cost_model
+    cost-scans x q =
+        scans x (q ∙ ap (λ (k : Scan). refuse_bytes_left s (scan_cost_record s k)) g.answer)
+        (subst (PlacesOf s table) (sym q) (left-held s table _ (record-held s table (scan_of (Ok m)) g.places)))
+        g.size
 
-  pub cost-refused : {f : Fault} → r ≡ Refused f → Scans s (scan_cost_model L s) (Refused f) table
+  pub cost-refused : {f : Fault} → Scans s (scan_model L s) (Err f) table → Scans s (scan_cost_model L s) (Err f) table
   unfolding scan_cost_model scan_cost_record refuse_bytes_left
-  cost-refused {f} e =
-      scans (Refused f) (ap (λ (k : Scan). refuse_bytes_left s (scan_cost_record s k)) (sym (ap scan_of e) ∙ g.answer)) tt g.size
+  cost-refused {f} g = scans (Err f) (ap (λ (k : Scan). refuse_bytes_left s (scan_cost_record s k)) g.answer) tt g.size

@@ -9,31 +9,27 @@ ghost use Rattle.limits.specs.TermsBy.{limits_by};
 ghost use Rattle.cost_files.specs.definitions.CostReading.{scan_cost_record, scan_cost_model};
 ghost use Rattle.model.specs.Scanned.{scan_of, Scans};
 
+use fault::{Fault, Refusal};
 use field::Cursor;
 use limits::{COST, Terms};
-use model::{Model, Places, Scanned};
+use model::{Model, Places};
 
 const MARK: usize = 0x434F;
 
 // Refusals 1, 2 and 29 of the cost record that begins where the transitions end, and 9.
-fn scan_costs(s: &[u8], m: Model) -> Scanned
+fn scan_costs(s: &[u8], m: Model) -> Result<Model, Fault>
     requires { (m.end ≤ length s.now) × (m.transitions ≤ limits.transitions) }
     ensures { scan_of result ≡ refuse_bytes_left s.now (scan_cost_record s.now (sound m.states m.actions m.transitions m.end)) }
 {
     let count = m.transitions;
-    let opened = record::open_model(s, m.end, MARK, 2 + count);
-    if opened.number != 0 {
-        return Scanned::Refused(opened.at(m.end));
-    }
-    let mut left = count;
+    record::open_model(s, m.end, MARK, 2 + count)?;
     let mut place = Cursor::new(m.end + 2);
-    while 0 < left {
+    for _ in 0..count {
         let cost = place.byte(s);
         if COST < cost.value {
-            return Scanned::Refused(fault::refusal(29).at(place.at));
+            return Err(Refusal::Cost.fault().at(place.at));
         }
         place = cost.next;
-        left -= 1;
     }
     model::whole(
         s,
@@ -47,13 +43,10 @@ fn scan_costs(s: &[u8], m: Model) -> Scanned
 }
 
 // Refusals 1 to 9, 34 and 29 from the labels on, or a sound model with costs that fills the file.
-pub fn scan_cost_model(s: &[u8], terms: Terms, places: &mut Places) -> Scanned
+pub fn scan_cost_model(s: &[u8], terms: Terms, places: &mut Places) -> Result<Model, Fault>
     requires { (length places.old ≡ sizes.places) × ((head_fault limits s.now).number ≡ 0) }
     ensures { Scans s.now (scan_cost_model (limits_by terms) s.now) result places.new }
 {
-    let scanned = model::scan_model(s, terms, places);
-    match scanned {
-        Scanned::Sound(m) => scan_costs(s, m),
-        Scanned::Refused(wrong) => Scanned::Refused(wrong),
-    }
+    let m = model::scan_model(s, terms, places)?;
+    scan_costs(s, m)
 }

@@ -1,7 +1,7 @@
 // Numbers in decimal, appended to what stands in a lent buffer. Each function hands back the place after what it wrote.
 #![tactic(auto)]
 
-ghost use Rattle.std.specs.Prelude.{◌+◌, ◌≤◌, ◌≡◌, length, nat_abs};
+ghost use Rattle.std.specs.Prelude.{◌+◌, ◌≤◌, ◌≡◌, length};
 ghost use Rattle.numbers.specs.definitions.Decimal.{decimal};
 ghost use Rattle.sentences.specs.definitions.Sentence.{signed_decimal};
 ghost use Rattle.writer.specs.Appends.{Appends};
@@ -26,22 +26,12 @@ pub fn write_decimal(out: &mut [u8], at: usize, x: usize) -> usize
     writer::part(out, at, &digits[from..])
 }
 
-// How large a number is without its sign. What a negative one lacks to -1 has a place in its type, the lowest one's too.
-fn magnitude(z: i64) -> usize
-    ensures { result ≡ nat_abs z }
-{
-    if z < 0 {
-        return (-1 - z) as usize + 1;
-    }
-    z as usize
-}
-
 // A number with a sign, which stands before the negative ones.
 pub fn write_signed(out: &mut [u8], at: usize, z: i64) -> usize
     requires { at + length (signed_decimal z) ≤ length out.old }
     ensures { Appends (signed_decimal z) at out.old out.new result }
 {
-    let amount = magnitude(z);
+    let amount = z.unsigned_abs() as usize;
     if z < 0 {
         let next = writer::byte(out, at, 0x2D);
         return write_decimal(out, next, amount);

@@ -1,10 +1,10 @@
 -- Laws of the k entries taken into the remainders, and of what they cost.
-use Rattle.std.specs.Prelude.{ℕ, zero, suc, ◌+◌, ◌*◌, ◌-◌, ◌^◌, ◌≤◌, ◌<◌, ◌≡◌, Bool, true, false, length, pos, neg_ℤ}
+use Rattle.std.specs.Prelude.{ℕ, zero, suc, ◌+◌, ◌*◌, ◌-◌, ◌^◌, ◌≤◌, ◌<◌, ◌≡◌, Bool, length, pos, neg_ℤ}
 use Rattle.std.proofs.Math.Path.{refl, ap, subst}
-use Rattle.std.proofs.Common.{sym, ◌∙◌, ap₂, subst₂, mul-le-mul, arith}
+use Rattle.std.proofs.Common.{sym, ◌∙◌, subst₂, mul-le-mul, arith}
 use mathlib.Core.List.{List}
 use Rattle.std.proofs.Math.IntN.{ℤ}
-use Rattle.bisimulation.proofs.argument.ChoiceLaws.{less, not_less, is_true, is_false, either_less, either_true, false-not}
+use Rattle.bisimulation.proofs.argument.ChoiceLaws.{less, not_less, is_true, is_false, either_less, either_true}
 use Rattle.rules.specs.definitions.Bytes.{byte_at, two_at, three_at, four_at}
 use Rattle.rules.specs.definitions.Certificate.{FileRule, k_fault}
 use Rattle.rules.specs.definitions.Faults.{Fault, fault}
@@ -20,20 +20,20 @@ use Rattle.rule_kind.specs.Steps.{Tests, arrival_of, departure_of}
 use Rattle.rule_kind.specs.StepsLaws.{arrival-most, departure-most}
 use Rattle.transition_record.specs.declared.Fields.{Fields}
 use Rattle.transition.specs.Known.{automaton_in, Known, FieldsOf, entries_of}
-use Rattle.transition.specs.KnownLaws.{few-transitions, known-own, known-transition, known-transitions}
+use Rattle.transition.specs.KnownLaws.{few-transitions, known-transition, known-transitions}
 use Rattle.entries_k.specs.declared.Taken.{Taken}
 use Rattle.remainders.specs.Nonzero.{nonzero_in, Counted, Became}
 use Rattle.remainders.specs.Moving.{arrived, departed, Room, CanMove}
-use Rattle.entries_k.specs.Taking.{WrongK, unordered, absent, unasked, nothing, RightK, TellsK, took_k, took_ks, CanTake, k_sum, cost_of_k, most_cost_of_k, PayAsked, PaidIs, most_ks, CanTakeKs, TookKs}
+use Rattle.entries_k.specs.Taking.{WrongK, unordered, absent, unasked, nothing, RightK, took_k, took_ks, CanTake, k_sum, cost_of_k, most_cost_of_k, PayAsked, PaidIs, most_ks, CanTakeKs, GoodKs}
 use Rattle.signed.specs.TermsLaws.{minus-small}
 use Rattle.remainders.specs.MovingLaws.{room-fewer, arrived-length, arrived-room, departed-room}
 
 -- a k entry's transition arrives, then leaves
-module _ {s places : List ℕ} {r k : ℕ} {remainders : List ℤ} {nonzero : ℕ} (c : CanTake s places r k remainders nonzero) (layer : ℕ) where
+module _ {s places : List ℕ} {n count r k : ℕ} {remainders : List ℤ} {nonzero : ℕ} (known : Known s n count places) (c : CanTake count r k remainders nonzero) (layer : ℕ) where
   pub can-arrive : CanMove s places r (pos k) (arrival_of layer) remainders nonzero
   can-arrive =
       record {
-        known = c.known;
+        known = known-transition known c.below;
         small = omega (arith, c.small);
         layer = arrival-most layer;
         table = c.table;
@@ -43,7 +43,7 @@ module _ {s places : List ℕ} {r k : ℕ} {remainders : List ℤ} {nonzero : �
   pub can-leave : {after : List ℤ} {now : ℕ} → Became (arrived (entries_of s r) (pos k) (arrival_of layer) remainders) after now → CanMove s places r (neg_ℤ (pos k)) (departure_of layer) after now
   can-leave b =
       record {
-        known = c.known;
+        known = known-transition known c.below;
         small = minus-small k _ (omega (arith, c.small));
         layer = departure-most layer;
         table = b.counted;
@@ -120,18 +120,6 @@ module _ (s C : List ℕ) (left : ℕ) {at layer r k : ℕ} (e : KRead C at laye
       (ap (λ (i : ℕ). cost_of_k cost (automaton_in s) layer i k) e.transition-is
       ∙ ap (cost_of_k cost (automaton_in s) layer (two_at C (at + 1))) e.k-is)
 
--- the machine's answer to whether a transition of a source and an action is asked for
-pub asked_by : (test : ℕ → ℕ → Bool) {source action from by : ℕ} {answer b : Bool} → answer ≡ test source action → source ≡ from → action ≡ by → answer ≡ b → test from by ≡ b
-asked_by test e from by g = ap₂ test (sym from) (sym by) ∙ sym e ∙ g
-
--- the test's two answers
-module _ {count lowest layer r k : ℕ} {asked : Bool} where
-  pub tells-wrong : WrongK count lowest layer r k asked → TellsK count lowest layer r k asked false
-  tells-wrong o = record { wrong = λ e. o; right = λ e. absurd (false-not e) }
-
-  pub tells-right : RightK count lowest layer r k asked → TellsK count lowest layer r k asked true
-  tells-right o = record { wrong = λ e. absurd (false-not (sym e)); right = λ e. o }
-
 -- before each k entry: the keys before the lowest are those of at most `layer` layers and x transitions, so at most `ahead` entries follow
 pub record TakingKs (rule : FileRule) (cost : ℕ → ℕ) (s C : List ℕ) (action t start entries : ℕ) (before remainders : List ℤ) (left at lowest nonzero paid : ℕ) : Type 0 where
   pub layer : ℕ
@@ -151,9 +139,10 @@ pub record TakingKs (rule : FileRule) (cost : ℕ → ℕ) (s C : List ℕ) (act
   pub pays : paid + k_sum C (cost_of_k cost (automaton_in s)) left at ≡ k_sum C (cost_of_k cost (automaton_in s)) entries start
   pub fits : paid + ahead * most_cost_of_k ≤ most_ks * most_cost_of_k
 
-pub ks-start : {rule : FileRule} {cost : ℕ → ℕ} {kind : Kind} {s C : List ℕ} {count : ℕ} {places : List ℕ} {at entries : ℕ} {remainders : List ℤ} {nonzero : ℕ} → CanTakeKs kind s C count places at entries remainders nonzero → (action t : ℕ) → TakingKs rule cost s C action t at entries remainders remainders entries at 0 nonzero 0
-ks-start c action t =
-    record {
+pub ks-start : {rule : FileRule} {cost : ℕ → ℕ} {kind : Kind} {s C : List ℕ} {at entries : ℕ} {remainders : List ℤ} {nonzero : ℕ} → CanTakeKs kind s C at entries remainders nonzero → (action t : ℕ) {left : ℕ} → entries ≡ left → TakingKs rule cost s C action t at entries remainders remainders left at 0 nonzero 0
+ks-start {rule} {cost} {s = s} {C} {at = at} {entries} {remainders} {nonzero} c action t e =
+    subst (λ (left : ℕ). TakingKs rule cost s C action t at entries remainders remainders left at 0 nonzero 0) e
+    (record {
       layer = 0;
       x = 0;
       ahead = most_ks;
@@ -170,7 +159,7 @@ ks-start c action t =
       makes_up = refl;
       pays = omega arith;
       fits = omega arith;
-    }
+    })
 
 -- the tests of one entry
 module _ {rule : FileRule} {test : ℕ → ℕ → ℕ → ℕ → ℕ → Bool} (tests : Tests test rule) (s C : List ℕ) {action count : ℕ} (left : ℕ) {at layer r k : ℕ} (known : (automaton_in s).transitions ≡ count) (e : KRead C at layer r k) (q t : ℕ) (same-action : action ≡ (automaton_in s).action q) where
@@ -209,17 +198,9 @@ module _ {rule : FileRule} {test : ℕ → ℕ → ℕ → ℕ → ℕ → Bool}
 
 -- the entries from one that is wrong on
 module _ {rule : FileRule} {test : ℕ → ℕ → ℕ → ℕ → ℕ → Bool} (tests : Tests test rule) {cost : ℕ → ℕ} {s C : List ℕ} {action t start entries : ℕ} {before remainders : List ℤ} {count : ℕ} (known : (automaton_in s).transitions ≡ count) where
-  pub ks-refused : (left : ℕ) {at lowest nonzero paid layer r k : ℕ} {x : Taken} → TakingKs rule cost s C action t start entries before remainders left at lowest nonzero paid → 0 < left → KRead C at layer r k → WrongK count lowest layer r k (test action t layer ((automaton_in s).source r) ((automaton_in s).action r)) → x.good ≡ false → TookKs rule cost s C action t start entries before remainders x
-  ks-refused zero h some e w n = absurd (omega arith)
-  ks-refused (suc left) h some e w n =
-      record {
-        refused = λ z q a. wrong-k tests s C left known e q t a w ∙ h.number q a;
-        passed = λ z. absurd (false-not (sym n ∙ z));
-        became = λ z. absurd (false-not (sym n ∙ z));
-        room = λ z. absurd (false-not (sym n ∙ z));
-        paid = λ z. absurd (false-not (sym n ∙ z));
-        next = λ z. absurd (false-not (sym n ∙ z));
-      }
+  pub ks-refused : (left : ℕ) {at lowest nonzero paid layer r k : ℕ} → TakingKs rule cost s C action t start entries before remainders left at lowest nonzero paid → 0 < left → KRead C at layer r k → WrongK count lowest layer r k (test action t layer ((automaton_in s).source r) ((automaton_in s).action r)) → (q : ℕ) → action ≡ (automaton_in s).action q → fault 19 ≡ k_fault rule (automaton_in s) C q t entries start 0
+  ks-refused zero h some e w q a = absurd (omega arith)
+  ks-refused (suc left) h some e w q a = wrong-k tests s C left known e q t a w ∙ h.number q a
 
 -- an entry that is right, in its turn
 pub record StandingK (test : ℕ → ℕ → ℕ → ℕ → ℕ → Bool) (rule : FileRule) (cost : ℕ → ℕ) (s C : List ℕ) (count : ℕ) (places : List ℕ) (action t start entries : ℕ) (before remainders : List ℤ) (left at lowest nonzero paid layer r k : ℕ) : Type 0 where
@@ -230,6 +211,10 @@ pub record StandingK (test : ℕ → ℕ → ℕ → ℕ → ℕ → Bool) (rule
   pub states : ℕ
   pub known : Known s states count places
   pub right : RightK count lowest layer r k (test action t layer ((automaton_in s).source r) ((automaton_in s).action r))
+
+pub k-stands : {test : ℕ → ℕ → ℕ → ℕ → ℕ → Bool} {rule : FileRule} {cost : ℕ → ℕ} {s C : List ℕ} {n count : ℕ} {places : List ℕ} {action t start entries : ℕ} {before remainders : List ℤ} {left at lowest nonzero paid layer r k : ℕ} → Tests test rule → TakingKs rule cost s C action t start entries before remainders left at lowest nonzero paid → 0 < left → KRead C at layer r k → Known s n count places → RightK count lowest layer r k (test action t layer ((automaton_in s).source r) ((automaton_in s).action r)) → StandingK test rule cost s C count places action t start entries before remainders left at lowest nonzero paid layer r k
+k-stands {n = n} tests turn some read known right =
+    record { tests = tests; turn = turn; some = some; read = read; states = n; known = known; right = right }
 
 module _ {test : ℕ → ℕ → ℕ → ℕ → ℕ → Bool} {rule : FileRule} {cost : ℕ → ℕ} {s C : List ℕ} {count : ℕ} {places : List ℕ} {action t start entries : ℕ} {before remainders : List ℤ} {left at lowest nonzero paid layer r k : ℕ} (g : StandingK test rule cost s C count places action t start entries before remainders left at lowest nonzero paid layer r k) where
   in-layers : layer ≤ 2
@@ -245,25 +230,26 @@ module _ {test : ℕ → ℕ → ℕ → ℕ → ℕ → Bool} {rule : FileRule}
       omega (arith, h.key, h.low, h.few, h.follow, g.right.ordered, g.right.present, few-transitions g.known, in-layers)
 
   -- it can be taken, and paid
-  pub ks-asks : CanTake s places r k remainders nonzero
+  pub ks-asks : CanTake count r k remainders nonzero
   ks-asks =
       record {
-        known = known-transition g.known g.right.present;
+        below = g.right.present;
         small = g.read.small;
         table = g.turn.table;
         room = room-fewer (omega (arith, one_fewer)) (g.turn.room 0 (room-fewer (omega arith) g.turn.enough));
       }
 
-  pub ks-pays : (kind : Kind) → KindStands kind s → PayAsked kind s count places r k paid
+  pub ks-pays : (kind : Kind) → KindStands kind s → PayAsked kind s count r k paid
   ks-pays kind stands =
       record {
-        cost = record { known = known-own g.known; stands = stands; below = g.right.present };
+        stands = stands;
+        below = g.right.present;
         small = g.read.small;
         fits = omega (arith, one_fewer, g.turn.fits);
       }
 
-  pub ks-turn : {next above paid' now : ℕ} {after : List ℤ} → Became (took_k s layer r k remainders) after now → PaidIs cost s r k paid paid' → next ≡ at + 7 → above ≡ layer * 65536 + r + 1 → TakingKs rule cost s C action t start entries before after (left - 1) next above now paid'
-  ks-turn {next} {above} {paid'} {now} {after} b p n o = go left g.turn g.some one_fewer
+  pub ks-turn : (rest : ℕ) {next above paid' now : ℕ} {after : List ℤ} → left ≡ rest + 1 → Became (took_k s layer r k remainders) after now → PaidIs cost s r k paid paid' → next ≡ at + 7 → above ≡ layer * 65536 + r + 1 → TakingKs rule cost s C action t start entries before after rest next above now paid'
+  ks-turn rest {next} {above} {paid'} {now} {after} here b p n o = go left g.turn here one_fewer
     where
       one-k : (left : ℕ) (h : TakingKs rule cost s C action t start entries before remainders (suc left) at lowest nonzero paid) → following + 1 ≤ h.ahead → TakingKs rule cost s C action t start entries before after left (at + 7) (layer * 65536 + r + 1) now paid'
       one-k left h fewer =
@@ -279,29 +265,28 @@ module _ {test : ℕ → ℕ → ℕ → ℕ → ℕ → Bool} {rule : FileRule}
             ends = omega (arith, h.ends);
             table = b.counted;
             enough = h.enough;
-            room = λ more room. subst (λ (x : List ℤ). Room x (2 * following + more)) (sym b.same) (took-room ks-asks layer (room-fewer (omega (arith, fewer)) (h.room more room)));
+            room = λ more room. subst (λ (x : List ℤ). Room x (2 * following + more)) (sym b.same) (took-room g.known ks-asks layer (room-fewer (omega (arith, fewer)) (h.room more room)));
             number = λ q a. right-k g.tests s C left (known-transitions g.known) g.read q t a g.right ∙ h.number q a;
             makes_up = took-next s C left g.read remainders b.same ∙ h.makes_up;
             pays = omega (arith, paid-next s C left g.read cost, p.is layer, h.pays);
             fits = omega (arith, fewer, h.fits, p.low);
           }
 
-      go : (left : ℕ) (h : TakingKs rule cost s C action t start entries before remainders left at lowest nonzero paid) → 0 < left → following + 1 ≤ h.ahead → TakingKs rule cost s C action t start entries before after (left - 1) next above now paid'
-      go zero h some fewer = absurd (omega arith)
-      go (suc left) h some fewer =
-          let one : left ≡ suc left - 1 = omega arith in
+      go : (left : ℕ) (h : TakingKs rule cost s C action t start entries before remainders left at lowest nonzero paid) → left ≡ rest + 1 → following + 1 ≤ h.ahead → TakingKs rule cost s C action t start entries before after rest next above now paid'
+      go zero h here fewer = absurd (omega arith)
+      go (suc left) h here fewer =
+          let one : left ≡ rest = omega arith in
           subst (λ (j : ℕ). TakingKs rule cost s C action t start entries before after j next above now paid') one
           (subst₂ (λ (i l : ℕ). TakingKs rule cost s C action t start entries before after left i l now paid') (sym n) (sym o) (one-k left h fewer))
 
-pub ks-end : {rule : FileRule} {cost : ℕ → ℕ} {s C : List ℕ} {action t start entries : ℕ} {before remainders : List ℤ} (left : ℕ) {at lowest nonzero paid : ℕ} {x : Taken} → TakingKs rule cost s C action t start entries before remainders left at lowest nonzero paid → left ≤ 0 → x.good ≡ true → x.nonzero ≡ nonzero → x.paid ≡ paid → x.next.at ≡ at → TookKs rule cost s C action t start entries before remainders x
+pub ks-end : {rule : FileRule} {cost : ℕ → ℕ} {s C : List ℕ} {action t start entries : ℕ} {before remainders : List ℤ} (left : ℕ) {at lowest nonzero paid : ℕ} {x : Taken} → TakingKs rule cost s C action t start entries before remainders left at lowest nonzero paid → left ≤ 0 → x.nonzero ≡ nonzero → x.paid ≡ paid → x.next.at ≡ at → GoodKs rule cost s C action t start entries before remainders x
 unfolding k_fault took_ks k_sum
-ks-end {s = s} {C} {action} {t} {start} {entries} {before} {remainders} zero {x = x} h none z n o p =
+ks-end {s = s} {C} {action} {t} {start} {entries} {before} {remainders} zero {x = x} h none n o p =
     record {
-      refused = λ y. absurd (false-not (sym y ∙ z));
-      passed = λ y q a. pass_on (h.number q a) refl;
-      became = λ y. subst (λ (m : ℕ). Became (took_ks s C entries start before) remainders m) (sym n) (record { same = h.makes_up; counted = h.table });
-      room = λ y more room. room-fewer (omega arith) (h.room more room);
-      paid = λ y. omega (arith, h.pays, o);
-      next = λ y. omega (arith, h.ends);
+      passed = λ q a. pass_on (h.number q a) refl;
+      became = subst (λ (m : ℕ). Became (took_ks s C entries start before) remainders m) (sym n) (record { same = h.makes_up; counted = h.table });
+      room = λ more room. room-fewer (omega arith) (h.room more room);
+      paid = omega (arith, h.pays, o);
+      next = omega (arith, h.ends);
     }
-ks-end (suc left) h none z n o p = absurd (omega arith)
+ks-end (suc left) h none n o p = absurd (omega arith)

@@ -1,5 +1,5 @@
 -- What the k entries of a flow change in the remainders, and what they cost.
-use Rattle.std.specs.Prelude.{ℕ, zero, suc, ◌+◌, ◌*◌, ◌^◌, ◌≤◌, ◌<◌, ◌≡◌, Bool, true, false, List, length, ℤ, pos, neg_ℤ}
+use Rattle.std.specs.Prelude.{ℕ, zero, suc, ◌+◌, ◌*◌, ◌^◌, ◌≤◌, ◌<◌, ◌≡◌, Bool, true, false, List, length, ℤ, pos, neg_ℤ, Option, None, Some}
 use Rattle.rules.specs.definitions.Bytes.{byte_at, two_at, four_at}
 use Rattle.bisimulation.specs.definitions.Automaton.{Automaton}
 use Rattle.rules.specs.definitions.Certificate.{FileRule, k_fault}
@@ -7,9 +7,9 @@ use Rattle.rules.specs.definitions.Faults.{fault, Passes}
 use Rattle.rules.specs.definitions.Limits.{limits}
 use Rattle.cost_files.specs.definitions.CostModel.{highest_cost}
 use Rattle.rule_kind.specs.declared.Kind.{Kind}
-use Rattle.rule_kind.specs.Kinds.{KindStands, CostAsked}
+use Rattle.rule_kind.specs.Kinds.{KindStands}
 use Rattle.rule_kind.specs.Steps.{arrival_of, departure_of}
-use Rattle.transition.specs.Known.{automaton_in, Known, KnownTransition, entries_of}
+use Rattle.transition.specs.Known.{automaton_in, entries_of}
 use Rattle.remainders.specs.Nonzero.{Counted, Became}
 use Rattle.remainders.specs.Moving.{arrived, departed, Room}
 use Rattle.entries_k.specs.declared.Taken.{Taken}
@@ -27,13 +27,6 @@ pub record RightK (count lowest layer r k : ℕ) (asked : Bool) : Type 0 where
   pub asked_is : asked ≡ true
   pub some : 0 < k
 
--- an entry that can be tested: the transitions are known, and the fields fit theirs
-pub record CanTest (s places : List ℕ) (count layer r : ℕ) : Type 0 where
-  pub states : ℕ
-  pub known : Known s states count places
-  pub small : layer < 256
-  pub other : r < 65536
-
 -- whether nothing is wrong with it
 pub record TellsK (count lowest layer r k : ℕ) (asked b : Bool) : Type 0 where
   pub wrong : b ≡ false → WrongK count lowest layer r k asked
@@ -48,9 +41,9 @@ unfoldable pub took_ks : (s C : List ℕ) → (left at : ℕ) → List ℤ → L
 took_ks s C zero at remainders = remainders
 took_ks s C (suc left) at remainders = took_ks s C left (at + 7) (took_k s (byte_at C at) (two_at C (at + 1)) (four_at C (at + 3)) remainders)
 
--- remainders into which a k entry can be taken
-pub record CanTake (s places : List ℕ) (r k : ℕ) (remainders : List ℤ) (nonzero : ℕ) : Type 0 where
-  pub known : KnownTransition s places r
+-- remainders into which a k entry of one of so many transitions can be taken
+pub record CanTake (count r k : ℕ) (remainders : List ℤ) (nonzero : ℕ) : Type 0 where
+  pub below : r < count
   pub small : k < 2 ^ 32
   pub table : Counted remainders nonzero
   pub room : Room remainders 2
@@ -69,8 +62,9 @@ abbrev pub most_cost_of_k : ℕ
 most_cost_of_k = 4294967295 * 65535 * highest_cost
 
 -- what is paid with k of the transition r is asked for
-pub record PayAsked (kind : Kind) (s : List ℕ) (count : ℕ) (places : List ℕ) (r k paid : ℕ) : Type 0 where
-  pub cost : CostAsked kind s count places r
+pub record PayAsked (kind : Kind) (s : List ℕ) (count r k paid : ℕ) : Type 0 where
+  pub stands : KindStands kind s
+  pub below : r < count
   pub small : k < 2 ^ 32
   pub fits : paid + most_cost_of_k < 2 ^ 64
 
@@ -84,20 +78,21 @@ abbrev pub most_ks : ℕ
 most_ks = 3 * limits.transitions
 
 -- k entries that can be taken: they lie in the file, and the remainders have room for every key once, to arrive and to leave
-pub record CanTakeKs (kind : Kind) (s C : List ℕ) (count : ℕ) (places : List ℕ) (at entries : ℕ) (remainders : List ℤ) (nonzero : ℕ) : Type 0 where
-  pub states : ℕ
-  pub known : Known s states count places
+pub record CanTakeKs (kind : Kind) (s C : List ℕ) (at entries : ℕ) (remainders : List ℤ) (nonzero : ℕ) : Type 0 where
   pub stands : KindStands kind s
   pub whole : at + 7 * entries ≤ length C
   pub table : Counted remainders nonzero
   pub room : Room remainders (2 * most_ks)
 
--- whether the k entries are without fault, for each challenger with this action, against t; where they are, they are taken, their costs are summed, and the
--- cursor is past them
-pub record TookKs (rule : FileRule) (cost : ℕ → ℕ) (s C : List ℕ) (action t at entries : ℕ) (before remainders : List ℤ) (r : Taken) : Type 0 where
-  pub refused : r.good ≡ false → (q : ℕ) → action ≡ (automaton_in s).action q → fault 19 ≡ k_fault rule (automaton_in s) C q t entries at 0
-  pub passed : r.good ≡ true → (q : ℕ) → action ≡ (automaton_in s).action q → Passes (k_fault rule (automaton_in s) C q t entries at 0)
-  pub became : r.good ≡ true → Became (took_ks s C entries at before) remainders r.nonzero
-  pub room : r.good ≡ true → (more : ℕ) → Room before (2 * most_ks + more) → Room remainders more
-  pub paid : r.good ≡ true → r.paid ≡ k_sum C (cost_of_k cost (automaton_in s)) entries at
-  pub next : r.good ≡ true → r.next.at ≡ at + 7 * entries
+-- the k entries are without fault, for each challenger with this action, against t; they are taken, their costs are summed, and the cursor is past them
+pub record GoodKs (rule : FileRule) (cost : ℕ → ℕ) (s C : List ℕ) (action t at entries : ℕ) (before remainders : List ℤ) (r : Taken) : Type 0 where
+  pub passed : (q : ℕ) → action ≡ (automaton_in s).action q → Passes (k_fault rule (automaton_in s) C q t entries at 0)
+  pub became : Became (took_ks s C entries at before) remainders r.nonzero
+  pub room : (more : ℕ) → Room before (2 * most_ks + more) → Room remainders more
+  pub paid : r.paid ≡ k_sum C (cost_of_k cost (automaton_in s)) entries at
+  pub next : r.next.at ≡ at + 7 * entries
+
+-- the k entries come to this, or one of them is at fault
+abbrev pub TookKs : (rule : FileRule) (cost : ℕ → ℕ) (s C : List ℕ) (action t at entries : ℕ) (before remainders : List ℤ) → Option Taken → Type 0
+TookKs rule cost s C action t at entries before remainders None = (q : ℕ) → action ≡ (automaton_in s).action q → fault 19 ≡ k_fault rule (automaton_in s) C q t entries at 0
+TookKs rule cost s C action t at entries before remainders (Some r) = GoodKs rule cost s C action t at entries before remainders r

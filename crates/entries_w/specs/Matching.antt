@@ -1,5 +1,5 @@
 -- What the w entries of a flow change in the remainders.
-use Rattle.std.specs.Prelude.{ℕ, zero, suc, ◌+◌, ◌*◌, ◌≤◌, ◌<◌, ◌≡◌, Bool, true, false, List, length, ℤ, pos, neg_ℤ}
+use Rattle.std.specs.Prelude.{ℕ, zero, suc, ◌+◌, ◌*◌, ◌≤◌, ◌<◌, ◌≡◌, Bool, true, false, List, length, ℤ, pos, neg_ℤ, Option, None, Some}
 use Rattle.bisimulation.specs.definitions.Automaton.{Automaton}
 use Rattle.bisimulation.specs.definitions.Pairs.{Pairs}
 use Rattle.rules.specs.definitions.Bytes.{byte_at, four_at}
@@ -58,10 +58,14 @@ pub record CanTakeWs (C : List ℕ) (at entries n d first : ℕ) (remainders : L
   pub target_table : Counted target asked
   pub target_room : Room target most_ws
 
--- whether the w entries are without fault, for the pairs that the rows hold; where they are, they are taken, and the cursor is past them
-pub record TookWs (C : List ℕ) (at entries n : ℕ) (rows : List ℕ) (d first : ℕ) (before remainders target_before target : List ℤ) (r : Matched) : Type 0 where
-  pub refused : r.good ≡ false → (A : Automaton) (R : Pairs) → A.states ≡ n → HoldsPairs n R rows → fault 19 ≡ w_fault A C R entries at 0
-  pub passed : r.good ≡ true → (A : Automaton) (R : Pairs) → A.states ≡ n → HoldsPairs n R rows → Passes (w_fault A C R entries at 0)
-  pub became : r.good ≡ true → Became (took_vs C first entries at before) remainders r.nonzero
-  pub target_became : r.good ≡ true → Became (took_us C d entries at target_before) target r.target
-  pub next : r.good ≡ true → r.next.at ≡ at + 6 * entries
+-- the w entries are without fault, for the pairs that the rows hold; they are taken, and the cursor is past them
+pub record GoodWs (C : List ℕ) (at entries n : ℕ) (rows : List ℕ) (d first : ℕ) (before remainders target_before target : List ℤ) (r : Matched) : Type 0 where
+  pub passed : (A : Automaton) (R : Pairs) → A.states ≡ n → HoldsPairs n R rows → Passes (w_fault A C R entries at 0)
+  pub became : Became (took_vs C first entries at before) remainders r.nonzero
+  pub target_became : Became (took_us C d entries at target_before) target r.target
+  pub next : r.next.at ≡ at + 6 * entries
+
+-- the w entries come to this, or one of them is at fault
+abbrev pub TookWs : (C : List ℕ) (at entries n : ℕ) (rows : List ℕ) (d first : ℕ) (before remainders target_before target : List ℤ) → Option Matched → Type 0
+TookWs C at entries n rows d first before remainders target_before target None = (A : Automaton) (R : Pairs) → A.states ≡ n → HoldsPairs n R rows → fault 19 ≡ w_fault A C R entries at 0
+TookWs C at entries n rows d first before remainders target_before target (Some r) = GoodWs C at entries n rows d first before remainders target_before target r

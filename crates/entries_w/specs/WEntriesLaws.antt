@@ -1,10 +1,10 @@
 -- Laws of the w entries taken into the remainders.
 use Prim.Native.Nat.{ℕ, zero, suc, ◌+◌, ◌*◌, ◌-◌, ◌^◌, ◌≤◌, ◌<◌}
-use Rattle.std.specs.Prelude.{◌≡◌, true, false, length, ℤ, pos, neg_ℤ}
+use Rattle.std.specs.Prelude.{◌≡◌, length, ℤ, pos, neg_ℤ}
 use Rattle.std.proofs.Math.Path.{refl, ap, subst}
 use Rattle.std.proofs.Common.{sym, ◌∙◌, arith}
 use mathlib.Core.List.{List}
-use Rattle.bisimulation.proofs.argument.ChoiceLaws.{false-not, less, not_less, is_true, is_false, either_less, either_true}
+use Rattle.bisimulation.proofs.argument.ChoiceLaws.{less, not_less, is_true, is_false, either_less, either_true}
 use Rattle.bisimulation.specs.definitions.Automaton.{Automaton}
 use Rattle.bisimulation.specs.definitions.Pairs.{Pairs}
 use Rattle.rules.specs.definitions.Bytes.{byte_at, two_at, four_at}
@@ -20,7 +20,7 @@ use Rattle.pairs.specs.Rows.{row_bit, HoldsPairs}
 use Rattle.entries_w.specs.declared.Matched.{Matched}
 use Rattle.remainders.specs.Nonzero.{Counted, Became}
 use Rattle.remainders.specs.Moving.{added, Room, CanAdd}
-use Rattle.entries_w.specs.Matching.{WrongW, unordered, absent, other_absent, unrelated, nothing, RightW, TellsW, took_ws, took_vs, took_us, most_ws, CanTakeWs, TookWs}
+use Rattle.entries_w.specs.Matching.{WrongW, unordered, absent, other_absent, unrelated, nothing, RightW, took_ws, took_vs, took_us, most_ws, CanTakeWs, GoodWs}
 use Rattle.signed.specs.TermsLaws.{minus-small}
 use Rattle.remainders.specs.MovingLaws.{room-fewer, added-room}
 
@@ -39,10 +39,6 @@ w-read x y z =
       w-is = taken_at z _ (omega (arith, x.next, y.next));
       small = z.small;
     }
-
--- a test that refuses
-pub tells-wrong : {n : ℕ} {rows : List ℕ} {lowest v u w : ℕ} → WrongW n rows lowest v u w → TellsW n rows lowest v u w false
-tells-wrong o = record { wrong = λ e. o; right = λ e. absurd (false-not e) }
 
 -- before each w entry: the keys before the lowest have at most v rows and x more, so at most `ahead` entries follow
 pub record TakingWs (C : List ℕ) (start entries n : ℕ) (rows : List ℕ) (d first : ℕ) (before remainders target_before target : List ℤ) (left at lowest nonzero asked : ℕ) : Type 0 where
@@ -66,9 +62,10 @@ pub record TakingWs (C : List ℕ) (start entries n : ℕ) (rows : List ℕ) (d 
   pub makes_up : took_vs C first left at remainders ≡ took_vs C first entries start before
   pub target_makes_up : took_us C d left at target ≡ took_us C d entries start target_before
 
-pub ws-start : {C : List ℕ} {at entries n d first : ℕ} {remainders : List ℤ} {nonzero : ℕ} {target : List ℤ} {asked : ℕ} → CanTakeWs C at entries n d first remainders nonzero target asked → (rows : List ℕ) → TakingWs C at entries n rows d first remainders remainders target target entries at 0 nonzero asked
-ws-start c rows =
-    record {
+pub ws-start : {C : List ℕ} {at entries n d first : ℕ} {remainders : List ℤ} {nonzero : ℕ} {target : List ℤ} {asked : ℕ} → CanTakeWs C at entries n d first remainders nonzero target asked → (rows : List ℕ) {left : ℕ} → entries ≡ left → TakingWs C at entries n rows d first remainders remainders target target left at 0 nonzero asked
+ws-start {C} {at} {entries} {n} {d} {first} {remainders} {nonzero} {target} {asked} c rows e =
+    subst (λ (left : ℕ). TakingWs C at entries n rows d first remainders remainders target target left at 0 nonzero asked) e
+    (record {
       v = 0;
       x = 0;
       ahead = most_ws;
@@ -88,7 +85,7 @@ ws-start c rows =
       number = λ A R s h. refl;
       makes_up = refl;
       target_makes_up = refl;
-    }
+    })
 
 -- the tests of one entry
 module _ (A : Automaton) {C : List ℕ} (R : Pairs) {n : ℕ} {rows : List ℕ} (left : ℕ) {at v u w : ℕ} (known : A.states ≡ n) (h : HoldsPairs n R rows) (e : WRead C at v u w) where
@@ -127,16 +124,9 @@ module _ (A : Automaton) {C : List ℕ} (R : Pairs) {n : ℕ} {rows : List ℕ} 
 
 module _ {C : List ℕ} {start entries n : ℕ} {rows : List ℕ} {d first : ℕ} {before remainders target_before target : List ℤ} where
   -- an entry is refused, or can be taken at v and at u
-  pub ws-refused : (left : ℕ) {at lowest nonzero asked v u w : ℕ} {x : Matched} → TakingWs C start entries n rows d first before remainders target_before target left at lowest nonzero asked → 0 < left → WRead C at v u w → WrongW n rows lowest v u w → x.good ≡ false → TookWs C start entries n rows d first before remainders target_before target x
-  ws-refused zero h some e o z = absurd (omega arith)
-  ws-refused (suc left) h some e o z =
-      record {
-        refused = λ y A R s p. wrong-w A R left s p e o ∙ h.number A R s p;
-        passed = λ y. absurd (false-not (sym z ∙ y));
-        became = λ y. absurd (false-not (sym z ∙ y));
-        target_became = λ y. absurd (false-not (sym z ∙ y));
-        next = λ y. absurd (false-not (sym z ∙ y));
-      }
+  pub ws-refused : (left : ℕ) {at lowest nonzero asked v u w : ℕ} → TakingWs C start entries n rows d first before remainders target_before target left at lowest nonzero asked → 0 < left → WRead C at v u w → WrongW n rows lowest v u w → (A : Automaton) (R : Pairs) → A.states ≡ n → HoldsPairs n R rows → fault 19 ≡ w_fault A C R entries start 0
+  ws-refused zero h some e o A R s p = absurd (omega arith)
+  ws-refused (suc left) h some e o A R s p = wrong-w A R left s p e o ∙ h.number A R s p
 
   module _ {left at lowest nonzero asked : ℕ} (h : TakingWs C start entries n rows d first before remainders target_before target left at lowest nonzero asked) {v u w : ℕ} (e : WRead C at v u w) (r : RightW n rows lowest v u w) where
     -- so many entries follow it
@@ -193,21 +183,20 @@ module _ {C : List ℕ} {start entries n : ℕ} {rows : List ℕ} {d first : ℕ
             ∙ h.target_makes_up;
       }
 
-  pub ws-turn : (left : ℕ) {at next lowest nonzero asked v u w now then : ℕ} {after target_after : List ℤ} → TakingWs C start entries n rows d first before remainders target_before target left at lowest nonzero asked → 0 < left → WRead C at v u w → RightW n rows lowest v u w → Became (added remainders (first + v) 1 (neg_ℤ (pos w))) after now → Became (added target u d (pos w)) target_after then → next ≡ at + 6 → TakingWs C start entries n rows d first before after target_before target_after (left - 1) next (v * 256 + u + 1) now then
-  ws-turn zero h some e r b t p = absurd (omega arith)
-  ws-turn (suc left) {next = next} {v = v} {u = u} {now = now} {then = then} {after = after} {target_after = target_after} h some e r b t p =
-      let one : left ≡ suc left - 1 = omega arith in
+  pub ws-turn : (left rest : ℕ) {at next lowest nonzero asked v u w now then : ℕ} {after target_after : List ℤ} → TakingWs C start entries n rows d first before remainders target_before target left at lowest nonzero asked → left ≡ rest + 1 → WRead C at v u w → RightW n rows lowest v u w → Became (added remainders (first + v) 1 (neg_ℤ (pos w))) after now → Became (added target u d (pos w)) target_after then → next ≡ at + 6 → TakingWs C start entries n rows d first before after target_before target_after rest next (v * 256 + u + 1) now then
+  ws-turn zero rest h here e r b t p = absurd (omega arith)
+  ws-turn (suc left) rest {next = next} {v = v} {u = u} {now = now} {then = then} {after = after} {target_after = target_after} h here e r b t p =
+      let one : left ≡ rest = omega arith in
       subst (λ (j : ℕ). TakingWs C start entries n rows d first before after target_before target_after j next (v * 256 + u + 1) now then) one
       (subst (λ (i : ℕ). TakingWs C start entries n rows d first before after target_before target_after left i (v * 256 + u + 1) now then) (sym p) (one-w left h e r b t))
 
-  pub ws-end : (left : ℕ) {at lowest nonzero asked : ℕ} {x : Matched} → TakingWs C start entries n rows d first before remainders target_before target left at lowest nonzero asked → left ≤ 0 → x.good ≡ true → x.nonzero ≡ nonzero → x.target ≡ asked → x.next.at ≡ at → TookWs C start entries n rows d first before remainders target_before target x
+  pub ws-end : (left : ℕ) {at lowest nonzero asked : ℕ} {x : Matched} → TakingWs C start entries n rows d first before remainders target_before target left at lowest nonzero asked → left ≤ 0 → x.nonzero ≡ nonzero → x.target ≡ asked → x.next.at ≡ at → GoodWs C start entries n rows d first before remainders target_before target x
   unfolding w_fault took_ws
-  ws-end zero h none z i j p =
+  ws-end zero h none i j p =
       record {
-        refused = λ y. absurd (false-not (sym y ∙ z));
-        passed = λ y A R s p. pass_on (h.number A R s p) refl;
-        became = λ y. subst (Became _ remainders) (sym i) (record { same = h.makes_up; counted = h.table });
-        target_became = λ y. subst (Became _ target) (sym j) (record { same = h.target_makes_up; counted = h.target_table });
-        next = λ y. omega (arith, h.ends);
+        passed = λ A R s p. pass_on (h.number A R s p) refl;
+        became = subst (Became _ remainders) (sym i) (record { same = h.makes_up; counted = h.table });
+        target_became = subst (Became _ target) (sym j) (record { same = h.target_makes_up; counted = h.target_table });
+        next = omega (arith, h.ends);
       }
-  ws-end (suc left) h none z i j p = absurd (omega arith)
+  ws-end (suc left) h none i j p = absurd (omega arith)

@@ -9,11 +9,9 @@ use field::Cursor;
 use pairs::Rows;
 use remainders::Remainders;
 
-// What the w entries come to: whether all of them are good; and where they are, how many remainders of each table are not zero then, and the
-// cursor past them.
+// What good w entries come to: how many remainders of each table are not zero then, and the cursor past them.
 #[derive(Clone, Copy)]
 pub struct Matched {
-    pub good: bool,
     pub nonzero: usize,
     pub target: usize,
     pub next: Cursor,
@@ -24,23 +22,11 @@ fn stands(n: usize, rows: &Rows, lowest: usize, v: usize, u: usize, w: usize) ->
     requires { (n ≤ limits.states) × (v < 256) × (u < 256) }
     ensures { TellsW n rows.now lowest v u w result }
 {
-    let pair = v * 256 + u;
-    if n <= v {
-        return false;
-    }
-    if n <= u {
-        return false;
-    }
-    if w == 0 {
-        return false;
-    }
-    if pair < lowest {
-        return false;
-    }
-    pairs::related(rows, v, u)
+    v < n && u < n && w != 0 && lowest <= v * 256 + u && pairs::related(rows, v, u)
 }
 
-// Each good w entry taken into the equations at v, whose remainders begin at `layer`, and at u, up to the first that is not.
+// Each good w entry taken into the equations at v, whose remainders begin at `layer`, and at u, up to the first that is not: what all
+// of them come to, where they are good.
 pub fn take_ws(
     cert: &[u8],
     first: Cursor,
@@ -53,16 +39,15 @@ pub fn take_ws(
     initial: usize,
     target: &mut Remainders,
     asked: usize,
-) -> Matched
+) -> Option<Matched>
     requires { CanTakeWs cert.now first.at entries n d layer remainders.old initial target.old asked }
     ensures { TookWs cert.now first.at entries n rows.now d layer remainders.old remainders.new target.old target.new result }
 {
-    let mut left = entries;
     let mut place = first;
     let mut lowest = 0;
     let mut nonzero = initial;
     let mut target_nonzero = asked;
-    while 0 < left {
+    for _ in 0..entries {
         let from = place.byte(cert);
         let to = from.next.byte(cert);
         let amount = to.next.quad(cert);
@@ -70,23 +55,16 @@ pub fn take_ws(
         let u = to.value;
         let w = amount.value;
         if !stands(n, rows, lowest, v, u, w) {
-            return Matched {
-                good: false,
-                nonzero,
-                target: target_nonzero,
-                next: place,
-            };
+            return None;
         }
         nonzero = remainders::take(remainders, layer + v, 1, w, nonzero);
         target_nonzero = remainders::give(target, u, d, w, target_nonzero);
         lowest = v * 256 + u + 1;
         place = amount.next;
-        left -= 1;
     }
-    Matched {
-        good: true,
+    Some(Matched {
         nonzero,
         target: target_nonzero,
         next: place,
-    }
+    })
 }

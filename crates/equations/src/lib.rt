@@ -3,41 +3,31 @@
 
 ghost use Rattle.std.specs.Prelude.{◌+◌, ◌≤◌, ◌≡◌};
 ghost use Rattle.rules.specs.definitions.Limits.{limits};
-ghost use Rattle.rules.specs.definitions.Faults.{first_of, fault};
 ghost use Rattle.limits.specs.Sizes as sizes;
-ghost use Rattle.fault.specs.Faults.{fault_of};
+ghost use Rattle.fault.specs.Faults.{number_of, fault_in};
 ghost use Rattle.equations.specs.Differences.{remainder_break, verdict_of};
 
-use fault::Fault;
+use fault::{Fault, Refusal};
 use remainders::Remainders;
 use rule_kind::{AFTER_MOVE, BEFORE_MOVE};
 
 // The first of n remainders that is not zero, as a refusal at its state; they begin at `first`.
-fn first_break(number: u32, remainders: &Remainders, first: usize, n: usize) -> Fault
+fn first_break(
+    refusal: Refusal,
+    remainders: &Remainders,
+    first: usize,
+    n: usize,
+) -> Result<(), Fault>
     requires { (n ≤ limits.states) × (first + n ≤ sizes.remainders) }
-    ensures { fault_of result ≡ remainder_break number remainders.now first n 0 }
+    ensures { fault_in result ≡ remainder_break (number_of refusal) remainders.now first n 0 }
 {
-    let mut left = n;
-    let mut v = 0;
-    while 0 < left {
+    for v in 0..n {
         let remainder = remainders[first + v];
         if remainder != 0 {
-            return fault::broken(number, v, remainder);
+            return Err(refusal.broken(v, remainder));
         }
-        v += 1;
-        left -= 1;
     }
-    fault::none()
-}
-
-// A refusal, or the number alone where there is none.
-fn or_number(found: Fault, number: u32) -> Fault
-    ensures { fault_of result ≡ first_of (fault_of found) (fault number) }
-{
-    if found.number != 0 {
-        return found;
-    }
-    fault::refusal(number)
+    Ok(())
 }
 
 // 20 and 21, of n states, by how many remainders of each table are not zero; then 30, by what was paid and what was owed. The state is looked
@@ -51,24 +41,21 @@ pub fn verdict(
     asked: usize,
     paid: usize,
     owed: usize,
-) -> Fault
+) -> Result<(), Fault>
     requires { n ≤ limits.states }
-    ensures { fault_of result ≡ verdict_of n remainders.now nonzero target.now asked paid owed }
+    ensures { fault_in result ≡ verdict_of n remainders.now nonzero target.now asked paid owed }
 {
     if nonzero != 0 {
-        let before = first_break(20, remainders, BEFORE_MOVE, n);
-        if before.number != 0 {
-            return before;
-        }
-        let after = first_break(20, remainders, AFTER_MOVE, n);
-        return or_number(after, 20);
+        first_break(Refusal::FlowBalance, remainders, BEFORE_MOVE, n)?;
+        first_break(Refusal::FlowBalance, remainders, AFTER_MOVE, n)?;
+        return Err(Refusal::FlowBalance.fault());
     }
     if asked != 0 {
-        let aimed = first_break(21, target, 0, n);
-        return or_number(aimed, 21);
+        first_break(Refusal::FlowTarget, target, 0, n)?;
+        return Err(Refusal::FlowTarget.fault());
     }
     if paid != owed {
-        return fault::refusal(30);
+        return Err(Refusal::FlowCost.fault());
     }
-    fault::none()
+    Ok(())
 }

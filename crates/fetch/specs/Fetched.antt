@@ -1,5 +1,5 @@
 -- What a fetch goes by, and document 01's answer for each of its cases.
-use Rattle.std.specs.Prelude.{ℕ, ◌-◌, ◌≤◌, ◌≡◌, refl, ℤ}
+use Rattle.std.specs.Prelude.{ℕ, ◌-◌, ◌≤◌, ◌≡◌, refl, ℤ, Option, None, Some, Result, Ok, Err}
 use Rattle.std.proofs.Math.Path.{sym, ap}
 use Rattle.std.proofs.Common.{◌∙◌, arith}
 use mathlib.Core.List.{List, [], ◌∷◌}
@@ -18,8 +18,7 @@ use Rattle.answer.specs.Answered.{Says, StretchInside, CallAnswered}
 use Rattle.answer.specs.Handing.{HandsBack, CallHandedBack}
 use Rattle.answer.specs.HandingLaws.{first_of, handed-none}
 use Rattle.fetch.specs.declared.Run.{Run}
-use Rattle.fetch.specs.declared.Fetched.{Fetched}
-use Rattle.fetch.specs.declared.Fetched.TheVariants.{Found, NoState, Unsound}
+use Rattle.fault.specs.declared.Fault.{Fault}
 
 -- where the run of a state starts and ends
 pub record IsRun (s : List ℕ) (state : ℕ) (r : Run) : Type 0 where
@@ -27,10 +26,10 @@ pub record IsRun (s : List ℕ) (state : ℕ) (r : Run) : Type 0 where
   pub end : r.end ≡ run_end s state
 
 -- a run; 24; a refusal of the model s
-abbrev pub answer_of : List ℕ → Fetched → Answer
-answer_of s (Found start end) = run_answer start end
-answer_of s NoState = answer_without_place 24
-answer_of s (Unsound f) = refusal_in (fault_of f) 1 f.place (length s)
+abbrev pub answer_of : List ℕ → Result (Option Run) Fault → Answer
+answer_of s (Ok (Some run)) = run_answer run.start run.end
+answer_of s (Ok None) = answer_without_place 24
+answer_of s (Err f) = refusal_in (fault_of f) 1 f.place (length s)
 
 -- the call promises what document 01 says of a fetch, and its demands; it lends no buffer
 abbrev pub FetchAnswered : (model : List ℕ) (state : ℕ) → declared.Answer → Type 0

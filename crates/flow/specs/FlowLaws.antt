@@ -1,5 +1,5 @@
 -- A flow record's ways out.
-use Rattle.std.specs.Prelude.{ℕ, ◌+◌, ◌*◌, ◌≤◌, ◌<◌, ◌≡◌, refl, List, length, ℤ}
+use Rattle.std.specs.Prelude.{ℕ, ◌+◌, ◌*◌, ◌≤◌, ◌<◌, ◌≡◌, refl, List, length, ℤ, Err}
 use Rattle.std.proofs.Common.{◌∙◌, arith}
 use Rattle.bisimulation.specs.definitions.Choice.{if_less}
 use Rattle.bisimulation.proofs.argument.ChoiceLaws.{less, not_less, same, not_same}
@@ -9,19 +9,19 @@ use Rattle.rules.specs.definitions.Bytes.{four_at}
 use Rattle.rules.specs.definitions.Certificate.{FileRule, k_count_at, w_count_at, after_k, after_flow, k_fault, w_fault, flow_at, flow_fault}
 use Rattle.rules.specs.definitions.Faults as rules
 use Rattle.rules.specs.definitions.Faults.{fault, Passes, certificate_record, first_of}
-use Rattle.rules.proofs.argument.FaultLaws.{pass_on, first_stops, first-none, certificate-refuses, opened}
-use Rattle.fault.specs.Faults.{fault_of, Placed}
-use Rattle.fault.specs.FaultsLaws.{none_is}
+use Rattle.rules.proofs.argument.FaultLaws.{first_stops, first-none, certificate-refuses, opened}
+use Rattle.fault.specs.Faults.{PlacedAt, Placed}
+use Rattle.fault.specs.FaultsLaws.{first-found}
 use Rattle.fault.specs.declared.Fault.{Fault}
+use Rattle.field.specs.declared.Cursor.{Cursor}
 use Rattle.pairs.specs.Rows.{HoldsPairs}
 use Rattle.transition.specs.Known.{automaton_in}
 use Rattle.flow.specs.FlowJudged.{flow_opens, HeadAt, FlowStands, FlowJudged}
 use Rattle.flow.specs.declared.Head.{Head}
-use Rattle.flow.specs.declared.Met.{Met}
 
 -- a record that is opened has D and the k count
-pub head-whole : (C : List ℕ) (at : ℕ) (o : Fault) → fault_of o ≡ flow_opens C at → o.number ≡ 0 → at + 8 ≤ length C
-head-whole C at o e z = (opened certificate_record 0x464C 8 C at certificate-refuses (none_is o e z)).whole
+pub head-whole : (C : List ℕ) (at : ℕ) → Passes (flow_opens C at) → at + 8 ≤ length C
+head-whole C at opens = (opened certificate_record 0x464C 8 C at certificate-refuses opens).whole
 
 -- where its k entries end
 pub head-ends : {C : List ℕ} {at : ℕ} {r : Head} → HeadAt C at r → r.first.at + 7 * r.entries ≡ after_k C at
@@ -61,21 +61,10 @@ module _ (rule : FileRule) (A : Automaton) {C : List ℕ} (R : Pairs) (q t : ℕ
       past-ws ws e = past_head (first-none _ _ ks (not_less _ l (not_less _ k (first-none _ _ ws e))))
 
 -- a refusal says nothing of the remainders, nor of what follows
-module _ {rule : FileRule} {s C : List ℕ} {n : ℕ} {rows : List ℕ} {q t at : ℕ} {remainders target : List ℤ} {r : Met} where
-  refused-by : (f : rules.Fault) → Placed f at r.fault → (f.number ≡ 0 → ⊥) → ((R : Pairs) → HoldsPairs n R rows → f ≡ flow_fault rule (automaton_in s) C R q t at) → FlowJudged rule s C n rows q t at remainders target r
-  refused-by f p some e =
-      let fails : r.fault.number ≡ 0 → ⊥ = λ z. some (pass_on p.is z) in
-      record {
-        is = λ R h. p.is ∙ e R h;
-        place = p.at;
-        next = λ z. absurd (fails z);
-        inside = λ z. absurd (fails z);
-        zeros = λ z. absurd (fails z);
-      }
-
-  pub not_opened : (f : Fault) → Placed (fault_of f) at r.fault → (f.number ≡ 0 → ⊥) → fault_of f ≡ flow_opens C at → FlowJudged rule s C n rows q t at remainders target r
+module _ {rule : FileRule} {s C : List ℕ} {n : ℕ} {rows : List ℕ} {q t at : ℕ} {remainders target : List ℤ} where
+  pub not_opened : {T : Type 0} {f : Fault} → Placed {T = T} (flow_opens C at) at (Err f) → FlowJudged rule s C n rows q t at remainders target (Err f)
   unfolding flow_fault
-  not_opened f p some e = refused-by (fault_of f) p some (λ R h. first_stops _ _ e some)
+  not_opened p = record { is = λ R h. (first-found {U = Cursor} _ p).is; place = p.at; passed = tt }
 
-  pub refused-with : (m : ℕ) → Placed (fault m) at r.fault → 0 < m → ((R : Pairs) → HoldsPairs n R rows → fault m ≡ flow_fault rule (automaton_in s) C R q t at) → FlowJudged rule s C n rows q t at remainders target r
-  refused-with m p some e = refused-by (fault m) p (λ z. omega arith) e
+  pub refused : {x z : rules.Fault} {g : Fault} → z ≡ x → PlacedAt z at g → ((R : Pairs) → HoldsPairs n R rows → x ≡ flow_fault rule (automaton_in s) C R q t at) → FlowJudged rule s C n rows q t at remainders target (Err g)
+  refused e p h = record { is = λ R held. p.is ∙ e ∙ h R held; place = p.at; passed = tt }

@@ -2,28 +2,18 @@
 #![tactic(auto)]
 
 ghost use Rattle.std.specs.Prelude.{◌+◌, ◌≤◌, ◌<◌, length};
-ghost use Rattle.rules.specs.definitions.Faults as rules;
 ghost use Rattle.rule_kind.specs.Kinds.{rule_of, KindStands};
-ghost use Rattle.fault.specs.Faults.{fault_of, Placed};
-ghost use Rattle.transition.specs.Known.{Known};
 ghost use Rattle.remainders.specs.Remainders.{AllZero};
 ghost use Rattle.flow.specs.FlowJudged.{HeadAt, CanJudge, FlowJudged};
 
-use fault::Fault;
+use fault::{Fault, Refusal};
 use field::Cursor;
-use model::Places;
 use pairs::Rows;
 use remainders::Remainders;
 use rule_kind::Kind;
+use sound_model::SoundModel;
 
 const MARK: usize = 0x464C;
-
-// What a flow record comes to: its fault, and where there is none the cursor past it.
-#[derive(Clone, Copy)]
-pub struct Met {
-    pub fault: Fault,
-    pub next: Cursor,
-}
 
 // D and the k count of a flow, and where its entries begin.
 #[derive(Clone, Copy)]
@@ -47,28 +37,10 @@ fn head_at(cert: &[u8], at: usize) -> Head
     }
 }
 
-fn refused(fault: Fault, place: Cursor) -> Met
-    ensures { Placed (fault_of fault) place.at result.fault }
-{
-    Met {
-        fault: fault.at(place.at),
-        next: place,
-    }
-}
-
-fn refused_with(number: u32, place: Cursor) -> Met
-    ensures { Placed (rules.fault number) place.at result.fault }
-{
-    refused(fault::refusal(number), place)
-}
-
-// The flow at a place, from its k entries on, which are whole.
+// The flow at a place, from its k entries on, which are whole: its fault, or the cursor past it.
 fn judge_entries(
     kind: Kind,
-    s: &[u8],
-    n: usize,
-    count: usize,
-    places: &Places,
+    model: SoundModel,
     rows: &Rows,
     q: usize,
     t: usize,
@@ -77,17 +49,15 @@ fn judge_entries(
     head: Head,
     remainders: &mut Remainders,
     target: &mut Remainders,
-) -> Met
-    requires { CanJudge kind s.now cert.now n count places.now q t place.at head remainders.old target.old }
-    ensures { FlowJudged (rule_of kind s.now) s.now cert.now n rows.now q t place.at remainders.new target.new result }
+) -> Result<Cursor, Fault>
+    requires { CanJudge kind model.file.now cert.now model.states model.transitions q t place.at head remainders.old target.old }
+    ensures { FlowJudged (rule_of kind model.entry.file.now) model.entry.file.now cert.now model.entry.states rows.now q t place.at remainders.new target.new result }
 {
-    let challenger = transition::fields_of(s, places, q);
+    let challenger = model.fields(q);
     let given = remainders::give(remainders, t, 1, head.d, 0);
-    let k = entries_k::take_ks(
+    let Some(k) = entries_k::take_ks(
         kind,
-        s,
-        count,
-        places,
+        model,
         challenger.action,
         t,
         cert,
@@ -95,23 +65,30 @@ fn judge_entries(
         head.entries,
         remainders,
         given,
-    );
-    if !k.good {
-        return refused_with(19, place);
-    }
+    ) else {
+        return Err(Refusal::FlowEntry.fault().at(place.at));
+    };
     if cert.len() - k.next.at < 2 {
-        return refused_with(11, place);
+        return Err(Refusal::CertificateEnds.fault().at(place.at));
     }
     let entries = k.next.pair(cert);
     if cert.len() - entries.next.at < 6 * entries.value {
-        return refused_with(11, place);
+        return Err(Refusal::CertificateEnds.fault().at(place.at));
     }
-    let asked = remainders::arrive(s, places, q, signed::minus(head.d), 0, target, 0);
-    let w = entries_w::take_ws(
+    let asked = remainders::arrive(
+        model.file,
+        model.places,
+        q,
+        signed::minus(head.d),
+        0,
+        target,
+        0,
+    );
+    let Some(w) = entries_w::take_ws(
         cert,
         entries.next,
         entries.value,
-        n,
+        model.states,
         rows,
         challenger.denominator,
         rule_kind::w_departure(kind, challenger.action),
@@ -119,26 +96,27 @@ fn judge_entries(
         k.nonzero,
         target,
         asked,
+    ) else {
+        return Err(Refusal::FlowEntry.fault().at(place.at));
+    };
+    let owed = rule_kind::cost_of(kind, model.file, model.transitions, model.places, q) * head.d;
+    let judged = equations::verdict(
+        model.states,
+        remainders,
+        w.nonzero,
+        target,
+        w.target,
+        k.paid,
+        owed,
     );
-    if !w.good {
-        return refused_with(19, place);
-    }
-    let owed = rule_kind::cost_of(kind, s, count, places, q) * head.d;
-    let judged = equations::verdict(n, remainders, w.nonzero, target, w.target, k.paid, owed);
-    let next = w.next;
-    Met {
-        fault: judged.at(place.at),
-        next,
-    }
+    fault::at_place(judged, place.at)?;
+    Ok(w.next)
 }
 
-// The flow record at a place, for the challenger q against t. The remainders are zero before it, and after it where it has no fault.
+// The flow record at a place, for the challenger q against t: its fault, or the cursor past it. The remainders are zero before it, and after it where it has no fault.
 pub fn judge_flow(
     kind: Kind,
-    s: &[u8],
-    n: usize,
-    count: usize,
-    places: &Places,
+    model: SoundModel,
     rows: &Rows,
     q: usize,
     t: usize,
@@ -146,22 +124,19 @@ pub fn judge_flow(
     place: Cursor,
     remainders: &mut Remainders,
     target: &mut Remainders,
-) -> Met
-    requires { Known s.now n count places.now × (q < count) × (t < n) × (place.at ≤ length cert.now) × AllZero remainders.old × AllZero target.old × KindStands kind s.now }
-    ensures { FlowJudged (rule_of kind s.now) s.now cert.now n rows.now q t place.at remainders.new target.new result }
+) -> Result<Cursor, Fault>
+    requires { (q < model.transitions) × (t < model.states) × (place.at ≤ length cert.now) × AllZero remainders.old × AllZero target.old × KindStands kind model.file.now }
+    ensures { FlowJudged (rule_of kind model.entry.file.now) model.entry.file.now cert.now model.entry.states rows.now q t place.at remainders.new target.new result }
 {
-    let opened = record::open_certificate(cert, place.at, MARK, 8);
-    if opened.number != 0 {
-        return refused(opened, place);
-    }
+    record::open_certificate(cert, place.at, MARK, 8)?;
     let head = head_at(cert, place.at);
     if head.d == 0 {
-        return refused_with(19, place);
+        return Err(Refusal::FlowEntry.fault().at(place.at));
     }
     if cert.len() - head.first.at < 7 * head.entries {
-        return refused_with(11, place);
+        return Err(Refusal::CertificateEnds.fault().at(place.at));
     }
     judge_entries(
-        kind, s, n, count, places, rows, q, t, cert, place, head, remainders, target,
+        kind, model, rows, q, t, cert, place, head, remainders, target,
     )
 }

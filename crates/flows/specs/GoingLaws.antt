@@ -132,33 +132,33 @@ module _ (rule : FileRule) (s C : List ℕ) (n : ℕ) (rows : List ℕ) (blocks 
 
 -- judging goes through the questions in these turns
 module _ {rule : FileRule} {s C : List ℕ} {n : ℕ} {rows : List ℕ} {blocks : ℕ} {remainders target : List ℤ} where
-  pub going-all : {count at number : ℕ} {table : List ℕ} → Known s n count table → at ≡ blocks + n → number ≡ 0 → blocks + n ≤ length C → AllZero remainders → AllZero target → Going rule s C n rows blocks (left_states rule s C n rows blocks 0) remainders target at number
-  going-all k place none whole a b = going_start rule s C n rows blocks (all_left rule s C n rows blocks (known-states k)) place none whole a b
+  pub going-all : {count at : ℕ} {table : List ℕ} → Known s n count table → at ≡ blocks + n → blocks + n ≤ length C → AllZero remainders → AllZero target → Going rule s C n rows blocks (left_states rule s C n rows blocks 0) remainders target at
+  going-all k place whole a b = going_start rule s C n rows blocks (all_left rule s C n rows blocks (known-states k)) place whole a b
 
-  module _ {at number : ℕ} where
-    pub going-state : {count : ℕ} {table : List ℕ} (state : ℕ) → Known s n count table → state < n → Going rule s C n rows blocks (left_states rule s C n rows blocks state) remainders target at number → Going rule s C n rows blocks (left_defenders rule s C n rows blocks state 0) remainders target at number
+  module _ {at : ℕ} where
+    pub going-state : {count : ℕ} {table : List ℕ} (state : ℕ) → Known s n count table → state < n → Going rule s C n rows blocks (left_states rule s C n rows blocks state) remainders target at → Going rule s C n rows blocks (left_defenders rule s C n rows blocks state 0) remainders target at
     going-state state k less g = going-list rule s C n rows blocks (states-turn rule s C n rows blocks state (known-states k) less) g
 
-    pub states-end : (state : ℕ) → n ≤ state → Going rule s C n rows blocks (left_states rule s C n rows blocks state) remainders target at number → Going rule s C n rows blocks [] remainders target at number
+    pub states-end : (state : ℕ) → n ≤ state → Going rule s C n rows blocks (left_states rule s C n rows blocks state) remainders target at → Going rule s C n rows blocks [] remainders target at
     states-end state h g = going-list rule s C n rows blocks (states-done rule s C n rows blocks state h) g
 
     -- the run of a state goes on to the next state that it asks, and asks it
     module _ {count : ℕ} {table : List ℕ} (k : Known s n count table) (agree : BlocksAgree C n rows blocks) (state first past : ℕ) (h : Splits (automaton_in s) count state first) (p : IsPast (automaton_in s) count state first past) (here : state < n) where
-      pub going_next : (t x : ℕ) → IsDefender rows state t x → Going rule s C n rows blocks (left_defenders rule s C n rows blocks state t) remainders target at number → Going rule s C n rows blocks (left_defenders rule s C n rows blocks state x) remainders target at number
+      pub going_next : (t x : ℕ) → IsDefender rows state t x → Going rule s C n rows blocks (left_defenders rule s C n rows blocks state t) remainders target at → Going rule s C n rows blocks (left_defenders rule s C n rows blocks state x) remainders target at
       going_next t x d g = going-held rule s C n rows blocks (λ R held. next-left rule s C n rows blocks k agree state first past h p here R held t x d) g
 
-      pub going-first : (x : ℕ) → IsFirstDefender rows n state first past x → Going rule s C n rows blocks (left_defenders rule s C n rows blocks state 0) remainders target at number → Going rule s C n rows blocks (left_defenders rule s C n rows blocks state x) remainders target at number
+      pub going-first : (x : ℕ) → IsFirstDefender rows n state first past x → Going rule s C n rows blocks (left_defenders rule s C n rows blocks state 0) remainders target at → Going rule s C n rows blocks (left_defenders rule s C n rows blocks state x) remainders target at
       going-first x (no_run e q) g = going-list rule s C n rows blocks (none_left rule s C n rows blocks k agree state first past h p here x e) g
       going-first x (asked o d) g = going_next 0 x d g
 
-      pub going-defender : (t : ℕ) → Asked rows n state t → t < n → Going rule s C n rows blocks (left_defenders rule s C n rows blocks state t) remainders target at number → Going rule s C n rows blocks (left_run rule s C n rows blocks state t first past) remainders target at number
+      pub going-defender : (t : ℕ) → Asked rows n state t → t < n → Going rule s C n rows blocks (left_defenders rule s C n rows blocks state t) remainders target at → Going rule s C n rows blocks (left_run rule s C n rows blocks state t first past) remainders target at
       going-defender t a less g = going-held rule s C n rows blocks (λ R held. run-left rule s C n rows blocks k agree state first past h p here R held t a less) g
 
-    pub defenders-end : (state t : ℕ) → n ≤ t → Going rule s C n rows blocks (left_defenders rule s C n rows blocks state t) remainders target at number → Going rule s C n rows blocks (left_states rule s C n rows blocks (state + 1)) remainders target at number
+    pub defenders-end : (state t : ℕ) → n ≤ t → Going rule s C n rows blocks (left_defenders rule s C n rows blocks state t) remainders target at → Going rule s C n rows blocks (left_states rule s C n rows blocks (state + 1)) remainders target at
     defenders-end state t h g = going-list rule s C n rows blocks (defenders-done rule s C n rows blocks state t h) g
 
-    pub going-transition : (state t r end : ℕ) → r < end → Going rule s C n rows blocks (left_run rule s C n rows blocks state t r end) remainders target at number → Going rule s C n rows blocks (record { challenger = r; defender = t } ∷ left_run rule s C n rows blocks state t (r + 1) end) remainders target at number
+    pub going-transition : (state t r end : ℕ) → r < end → Going rule s C n rows blocks (left_run rule s C n rows blocks state t r end) remainders target at → Going rule s C n rows blocks (record { challenger = r; defender = t } ∷ left_run rule s C n rows blocks state t (r + 1) end) remainders target at
     going-transition state t r end less g = going-list rule s C n rows blocks (run-turn rule s C n rows blocks state t r end less) g
 
-    pub run_ends : (state t r end : ℕ) → end ≤ r → Going rule s C n rows blocks (left_run rule s C n rows blocks state t r end) remainders target at number → Going rule s C n rows blocks (left_defenders rule s C n rows blocks state (t + 1)) remainders target at number
+    pub run_ends : (state t r end : ℕ) → end ≤ r → Going rule s C n rows blocks (left_run rule s C n rows blocks state t r end) remainders target at → Going rule s C n rows blocks (left_defenders rule s C n rows blocks state (t + 1)) remainders target at
     run_ends state t r end h g = going-list rule s C n rows blocks (run-done rule s C n rows blocks state t r end h) g

@@ -3,54 +3,40 @@
 
 ghost use Rattle.std.specs.Prelude.{◌+◌, ◌≤◌, length};
 ghost use Rattle.rule_kind.specs.Kinds.{rule_of, KindStands};
-ghost use Rattle.transition.specs.Known.{Known};
 ghost use Rattle.flows.specs.FlowsJudged.{BlocksAgree, JudgesFlows};
 
-use fault::Fault;
+use fault::{Fault, Refusal};
 use field::Cursor;
-use model::Places;
 use pairs::Rows;
 use rule_kind::Kind;
+use sound_model::SoundModel;
 
-// The certificate is accepted, and its blocks stand at a place; or it is refused, by the fault of a record.
-#[derive(Clone, Copy)]
-pub enum Judged {
-    Accepted { blocks: usize },
-    Refused(Fault),
-}
-
-// The flows behind the n blocks, and 22. The blocks are those of the related pairs.
+// The flows behind the n blocks, and 22: the place where the blocks stand, where the certificate is accepted. The blocks are those of the related
+// pairs.
 pub fn judge_flows(
     kind: Kind,
-    s: &[u8],
-    n: usize,
-    count: usize,
-    places: &Places,
+    model: SoundModel,
     rows: &Rows,
     cert: &[u8],
     blocks: usize,
-) -> Judged
-    requires { Known s.now n count places.now × (blocks + n ≤ length cert.now) × KindStands kind s.now × BlocksAgree cert.now n rows.now blocks }
-    ensures { JudgesFlows (rule_of kind s.now) s.now cert.now n rows.now blocks result }
+) -> Result<usize, Fault>
+    requires { (blocks + model.states ≤ length cert.now) × KindStands kind model.file.now × BlocksAgree cert.now model.states rows.now blocks }
+    ensures { JudgesFlows (rule_of kind model.entry.file.now) model.entry.file.now cert.now model.entry.states rows.now blocks result }
 {
     let mut remainders = remainders::no_remainders();
     let mut target = remainders::no_remainders();
-    let mut place = Cursor::new(blocks + n);
-    let mut wrong = fault::none();
-    let mut state = 0;
+    let mut place = Cursor::new(blocks + model.states);
     let mut first = 0;
-    'flows: while state < n {
-        let past = runs::run_past(s, count, places, state, first);
-        let mut t = runs::first_defender(rows, n, state, first, past);
-        while t < n {
-            let mut r = first;
-            while r < past {
-                let met = flow::judge_flow(
+    let mut refused = None;
+    // The loops are left by a label at the first flow refused: the form that document 01 names.
+    'flows: for state in 0..model.states {
+        let past = runs::run_past(model.file, model.transitions, model.places, state, first);
+        let mut t = runs::first_defender(rows, model.states, state, first, past);
+        while t < model.states {
+            for r in first..past {
+                match flow::judge_flow(
                     kind,
-                    s,
-                    n,
-                    count,
-                    places,
+                    model,
                     rows,
                     r,
                     t,
@@ -58,24 +44,23 @@ pub fn judge_flows(
                     place,
                     &mut remainders,
                     &mut target,
-                );
-                wrong = met.fault;
-                if wrong.number != 0 {
-                    break 'flows;
+                ) {
+                    Ok(next) => place = next,
+                    Err(fault) => {
+                        refused = Some(fault);
+                        break 'flows;
+                    }
                 }
-                place = met.next;
-                r += 1;
             }
             t = runs::next_defender(rows, state, t + 1);
         }
         first = past;
-        state += 1;
     }
-    if wrong.number != 0 {
-        return Judged::Refused(wrong);
+    if let Some(fault) = refused {
+        return Err(fault);
     }
     if place.at < cert.len() {
-        return Judged::Refused(fault::refusal(22).at(place.at));
+        return Err(Refusal::CertificateBytesLeft.fault().at(place.at));
     }
-    Judged::Accepted { blocks }
+    Ok(blocks)
 }

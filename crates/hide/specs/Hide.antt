@@ -1,13 +1,11 @@
 -- What the call that hides actions keeps, and what its parts need.
-use Rattle.std.specs.Prelude.{ℕ, ◌≡◌, List, [], ◌∷◌}
+use Rattle.std.specs.Prelude.{ℕ, List, [], ◌∷◌}
 use Rattle.rules.specs.definitions.Limits.{current}
-use Rattle.rules.specs.definitions.Model.{model_bytes}
-use Rattle.rules.specs.definitions.Reading.{states_of, model_at, read_whole}
+use Rattle.rules.specs.definitions.Reading.{model_at, read_whole}
 use Rattle.rules.specs.definitions.Accepted.{FileOf}
 use Rattle.rules.specs.definitions.Answers.{files_outcome}
 use Rattle.composition.specs.definitions.Hiding.{hidden_file}
 use Rattle.composition.specs.definitions.HideAnswer.{hide_outcome, HideDemands}
-use Rattle.transition.specs.Known.{Known}
 use Rattle.answer.specs.declared.Answer.{Answer}
 use Rattle.answer.specs.Answered.{OutcomeIs, CallAnswered}
 
@@ -19,8 +17,3 @@ HideAnswered model set before after r =
 -- what it answers of a sound model, and leaves in the lent buffer
 abbrev pub HidesSound : (model set before after : List ℕ) → Answer → Type 0
 HidesSound model set before after r = OutcomeIs (files_outcome 38 (hidden_file set (model_at model) ∷ []) (before ∷ [])) (model ∷ []) (after ∷ []) r
-
--- the file of a sound model, and the places of its transitions in a table
-pub record CanHide (s : List ℕ) (count : ℕ) (table : List ℕ) : Type 0 where
-  pub known : Known s (states_of s) count table
-  pub bytes : s ≡ model_bytes (model_at s)

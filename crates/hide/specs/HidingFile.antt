@@ -9,17 +9,17 @@ use Rattle.std.proofs.lemmas.List.{set_at}
 use Rattle.std.proofs.Math.Seq.{drop-append_seam}
 use Rattle.bisimulation.specs.definitions.Hidden.{hidden_action}
 use Rattle.rules.specs.definitions.Bytes.{byte_at}
-use Rattle.rules.specs.definitions.Model.{Transition, Model, transition_bytes, transitions_bytes}
+use Rattle.rules.specs.definitions.Model.{Transition, Model, transition_bytes, transitions_bytes, model_bytes}
 use Rattle.rules.specs.definitions.Reading.{count_of, action_at, entry_count_at, after_transition, transition_at, transitions_at, model_at, place_of}
 use Rattle.rules.proofs.argument.FetchedRun.{length-entries_at}
 use Rattle.rules.proofs.argument.ReadBack.{transition_bytes-length}
 use Rattle.rules.proofs.argument.ReadingLaws.{place_of-next}
 use Rattle.composition.specs.definitions.Hiding.{member_of, hidden_transition, hidden, hidden_file}
-use Rattle.transition.specs.KnownLaws.{known-transition, place-known, fixed-inside}
+use Rattle.transition.specs.Known.{Known}
+use Rattle.transition.specs.KnownLaws.{known-own, known-transition, place-known, fixed-inside}
 use Rattle.writer.specs.Appends.{Appends}
 use Rattle.writer.specs.AppendsLaws.{file-filled}
 use Rattle.writer.specs.ChangedRecords.{front_bytes, front-then, front-size, front-changed}
-use Rattle.hide.specs.Hide.{CanHide}
 
 -- what stands behind a file that was copied
 rest-kept : {s before out : List ℕ} {end : ℕ} → Appends s 0 before out end → drop (length s) out ≡ drop (length s) before
@@ -39,8 +39,8 @@ fourth-set front a b c y x ys at e =
     ∙ append_assoc front three (x ∷ ys)
 
 -- the table has the place of a record, whose fixed fields lie in the file
-pub record-placed : {s table : List ℕ} {count : ℕ} → CanHide s count table → (r : ℕ) → r < count → (get_or table r 0 ≡ place_of s r) × (place_of s r + 7 ≤ length s)
-record-placed k r less = let t = known-transition k.known less in (place-known t, fixed-inside t)
+pub record-placed : {s table : List ℕ} {n count : ℕ} → Known s n count table → (r : ℕ) → r < count → (get_or table r 0 ≡ place_of s r) × (place_of s r + 7 ≤ length s)
+record-placed k r less = let t = known-transition k less in (place-known t, fixed-inside t)
 
 module _ (chosen : List ℕ) where
   abbrev hides : Transition → Transition
@@ -68,7 +68,7 @@ module _ (chosen : List ℕ) where
   unfolding hidden
   front-hidden M = front-changed hides M
 
-  module _ {s table : List ℕ} {count : ℕ} (k : CanHide s count table) where
+  module _ {s table : List ℕ} {n count : ℕ} (k : Known s n count table) (own : s ≡ model_bytes (model_at s)) where
     pub hiding-start : {before out : List ℕ} {end : ℕ} → Appends s 0 before out end → HidingFile s (drop (length s) out) count 0 out
     unfolding model_at place_of hidden
     hiding-start {before} {out} a =
@@ -76,12 +76,12 @@ module _ (chosen : List ℕ) where
         record {
           left = count_of s;
           front = front_bytes (model_at s);
-          all = omega (arith, k.known.transitions);
-          size = front-size s k.known.labels;
+          all = omega (arith, k.transitions);
+          size = front-size s (known-own k).labels;
           stand =
               (file-filled a).1
               ∙ ap (λ (l : List ℕ). s ++ l) (sym (rest-kept a))
-              ∙ ap (λ (l : List ℕ). l ++ rest) k.bytes
+              ∙ ap (λ (l : List ℕ). l ++ rest) own
               ∙ front-then (model_at s) rest;
           ahead =
               ap (λ (l : List ℕ). l ++ (transitions_bytes (hidden chosen (model_at s)).transitions ++ rest)) (sym (front-hidden (model_at s)))

@@ -6,9 +6,9 @@ ghost use Rattle.two_models.specs.TwoModels.{BothSound};
 ghost use Rattle.join.specs.Join.{JoinAnswered, JoinsSound, passes_sizes};
 
 use answer::Answer;
+use fault::Refusal;
 use limits::{ENTRIES, STATES, TRANSITIONS};
 use model::{Model, Places};
-use two_models::TwoRead;
 
 // Whether so many states, transitions and bytes of entries pass a limit.
 fn passes_limit(states: usize, transitions: usize, entry_bytes: usize) -> bool
@@ -42,11 +42,11 @@ fn join_sound(
     let transitions = m.transitions + n.transitions;
     let records = first.len() + second.len() - 16 - states;
     if passes_limit(states, transitions, records - 7 * transitions) {
-        return answer::without_place(25, 0);
+        return Answer::refused(Refusal::JoinedLimits);
     }
     let room = out.len();
     let size = joined_file::write_file(first, m, second, n, places, out);
-    answer::file_answer(26, size, room)
+    Answer::of_file(Refusal::JoinedRoom, size, room)
 }
 
 // What the call that joins answers.
@@ -54,12 +54,8 @@ pub fn join_answer(first: &[u8], second: &[u8], out: &mut [u8]) -> Answer
     ensures { JoinAnswered first.now second.now out.old out.new result }
 {
     let mut places = model::no_places();
-    let read = two_models::read_two(first, second, &mut places);
-    match read {
-        TwoRead::Sound {
-            first: m,
-            second: n,
-        } => join_sound(first, m, second, n, &places, out),
-        TwoRead::Refused(answer) => answer,
+    match two_models::read_two(first, second, &mut places) {
+        Ok((m, n)) => join_sound(first, m, second, n, &places, out),
+        Err(refused) => refused,
     }
 }

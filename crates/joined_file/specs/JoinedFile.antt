@@ -7,7 +7,6 @@ use Rattle.joined.specs.definitions.Joined.{joined, joined_file}
 use Rattle.rules.proofs.argument.LengthLaws.{Within}
 use Rattle.two_models.specs.TwoModels.{BothSound}
 use Rattle.model.specs.declared.Model.{Model as Found}
-use Rattle.transition.specs.Known.{Known}
 
 -- the joined model of two files
 abbrev pub joined_in : (first second : List ℕ) → Model
@@ -18,9 +17,8 @@ abbrev pub labels_of : ℕ → List ℕ → List ℕ
 labels_of k s = take k (drop 8 s)
 
 -- the records of a sound second model, with room for them raised behind what the first has from a place on
-pub record CanWriteRecords (first : List ℕ) (start : ℕ) (second : List ℕ) (count : ℕ) (table : List ℕ) (k : ℕ) (out : List ℕ) (at : ℕ) : Type 0 where
+pub record CanWriteRecords (first : List ℕ) (start : ℕ) (second : List ℕ) (k : ℕ) (out : List ℕ) (at : ℕ) : Type 0 where
   pub inside : start ≤ length first
-  pub known : Known second (states_of second) count table
   pub states : k + states_of second ≤ 256
   pub room : at + (length first - start) + (length second - (8 + states_of second)) ≤ length out
 

@@ -16,7 +16,6 @@ use Rattle.rules.specs.definitions.SoundModel.{entry_count}
 use Rattle.rules.proofs.argument.LengthLaws.{file-length}
 use Rattle.joined.proofs.argument.JoinedLaws.{joined-states, joined-transitions, joined_length, joined-sound}
 use Rattle.model.specs.declared.Model.{Model as Found}
-use Rattle.transition.specs.KnownLaws.{known-own}
 use Rattle.writer.specs.Appends.{Appends, head_bytes_of}
 use Rattle.writer.specs.AppendsLaws.{append-more, append-model, transitions-append}
 use Rattle.raised.specs.Raised.{raised_transitions}
@@ -112,12 +111,11 @@ module _ {first second table out : List ℕ} {m n : Found} (p : CanWriteJoined f
       labels-fit = let q = sums p.models in (q.one, q.other, omega (arith, past_head, h.size, p.room, q.bytes))
 
       module _ {next : ℕ} {b : List ℕ} (l : Appends (labels_of m.states first ++ labels_of n.states second) at a b next) where
-        pub records-fit : CanWriteRecords first (8 + m.states) second n.transitions table m.states b next
+        pub records-fit : CanWriteRecords first (8 + m.states) second m.states b next
         records-fit =
             let q = sums p.models in
             record {
               inside = q.one;
-              known = known-own p.models.known;
               states = omega (arith, q.states, p.within.states, g.head);
               room = omega (arith, l.place, l.size, labels_length, past_head, h.size, p.room, q.size, q.one, q.other, g.head);
             }

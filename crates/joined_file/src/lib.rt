@@ -10,6 +10,7 @@ ghost use Rattle.raised.specs.Raised.{raised_transitions};
 ghost use Rattle.joined_file.specs.JoinedFile.{labels_of, CanWriteRecords, CanJoin, CanWriteJoined};
 
 use model::{Model, Places};
+use sound_model::SoundModel;
 
 // The labels of two files, of so many states each. Hands back the place after them.
 fn write_labels(first: &[u8], k: usize, second: &[u8], n: usize, out: &mut [u8], at: usize) -> usize
@@ -26,19 +27,17 @@ fn write_labels(first: &[u8], k: usize, second: &[u8], n: usize, out: &mut [u8],
 fn write_records(
     first: &[u8],
     start: usize,
-    second: &[u8],
-    count: usize,
-    places: &Places,
+    second: SoundModel,
     k: usize,
     out: &mut [u8],
     at: usize,
 ) -> usize
-    requires { CanWriteRecords first.now start second.now count places.now k out.old at }
-    ensures { Appends (drop start first.now ++ raised_transitions k (model_at second.now).transitions) at out.old out.new result }
+    requires { CanWriteRecords first.now start second.file.now k out.old at }
+    ensures { Appends (drop start first.now ++ raised_transitions k (model_at second.entry.file.now).transitions) at out.old out.new result }
 {
     let records = &first[start..];
     let next = writer::part(out, at, records);
-    raised::write_transitions(second, count, places, k, out, next)
+    raised::write_transitions(second, k, out, next)
 }
 
 // The joined file, and its length.
@@ -61,16 +60,13 @@ fn write_joined(
         m.transitions + n.transitions,
     );
     let records = write_labels(first, m.states, second, n.states, out, labels);
-    write_records(
-        first,
-        8 + m.states,
-        second,
-        n.transitions,
+    let other = SoundModel {
+        file: second,
+        states: n.states,
+        transitions: n.transitions,
         places,
-        m.states,
-        out,
-        records,
-    )
+    };
+    write_records(first, 8 + m.states, other, m.states, out, records)
 }
 
 // The joined file, written if there is room for it, and its length.

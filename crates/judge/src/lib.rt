@@ -10,7 +10,6 @@ ghost use Rattle.answer.specs.Answered.{Gives};
 ghost use Rattle.judge.specs.Judge.{JudgeAnswered, JudgeHandedBack};
 
 use answer::Answer;
-use judgement::Verdict;
 use limits::Terms;
 use rule_kind::Kind;
 
@@ -20,7 +19,7 @@ fn write_blocks(blocks: &[u8], out: &mut [u8]) -> Answer
     ensures { Gives (filled (blocks.now ∷ []) (out.old ∷ [])) (out.new ∷ []) result }
 {
     out[..blocks.len()].copy_from_slice(blocks);
-    answer::without_place(0, blocks.len())
+    Answer::written(blocks.len())
 }
 
 // A pair whose model has a good head.
@@ -28,25 +27,23 @@ fn judge_headed(kind: Kind, model: &[u8], certificate: &[u8], blocks: &mut [u8])
     requires { (head_fault limits model.now).number ≡ 0 }
     ensures { JudgeAnswered kind model.now certificate.now blocks.old blocks.new result }
 {
-    let found = judgement::judge_files(kind, Terms::Lowest, model, certificate, blocks.len());
-    match found {
-        Verdict::Accepted {
-            states,
-            transitions,
-            blocks: at,
-        } => write_blocks(&certificate[at..at + states], blocks),
-        Verdict::Refused(answer) => answer,
+    let room = blocks.len();
+    match judgement::judge_files(kind, Terms::Lowest, model, certificate, room) {
+        Ok(found) => {
+            let at = found.blocks;
+            write_blocks(&certificate[at..at + found.states], blocks)
+        }
+        Err(refused) => refused,
     }
 }
 
-// What the call that judges answers. Acceptance writes the blocks, one byte a state. The rest of the pair is called here and for cost pairs, so that
-// the compiler keeps it out of line, and a refusal at the head needs no frame.
+// What the call that judges answers. Acceptance writes the blocks, one byte a state. The rest of the pair is called here and for the other step rules, so
+// that the compiler keeps it out of line, and a refusal at the head needs no frame.
 pub fn judge_answer(model: &[u8], certificate: &[u8], blocks: &mut [u8]) -> Answer
     ensures { JudgeAnswered Plain model.now certificate.now blocks.old blocks.new result }
 {
-    let head = judgement::head_answer(model);
-    if head.number != 0 {
-        return head;
+    if let Err(refused) = judgement::head_answer(model) {
+        return refused;
     }
     judge_headed(Kind::Plain, model, certificate, blocks)
 }
@@ -55,9 +52,8 @@ pub fn judge_answer(model: &[u8], certificate: &[u8], blocks: &mut [u8]) -> Answ
 pub fn judge_costs_answer(model: &[u8], certificate: &[u8], blocks: &mut [u8]) -> Answer
     ensures { JudgeAnswered Costs model.now certificate.now blocks.old blocks.new result }
 {
-    let head = judgement::head_answer(model);
-    if head.number != 0 {
-        return head;
+    if let Err(refused) = judgement::head_answer(model) {
+        return refused;
     }
     judge_headed(Kind::Costs, model, certificate, blocks)
 }
@@ -66,9 +62,8 @@ pub fn judge_costs_answer(model: &[u8], certificate: &[u8], blocks: &mut [u8]) -
 pub fn judge_strong_answer(model: &[u8], certificate: &[u8], blocks: &mut [u8]) -> Answer
     ensures { JudgeAnswered Strong model.now certificate.now blocks.old blocks.new result }
 {
-    let head = judgement::head_answer(model);
-    if head.number != 0 {
-        return head;
+    if let Err(refused) = judgement::head_answer(model) {
+        return refused;
     }
     judge_headed(Kind::Strong, model, certificate, blocks)
 }

@@ -1,5 +1,5 @@
 -- What the cases of a verdict come to, as the outcome of a pair.
-use Rattle.std.specs.Prelude.{ℕ, ◌+◌, ◌-◌, ◌≤◌, ◌<◌, ◌≡◌, refl, length, take, drop}
+use Rattle.std.specs.Prelude.{ℕ, ◌+◌, ◌-◌, ◌≤◌, ◌<◌, ◌≡◌, length, take, drop, Result, Ok, Err}
 use Rattle.std.proofs.Common.{sym, ◌∙◌, subst, length-drop, length-take-le, arith}
 use Rattle.std.proofs.Math.Path.{ap}
 use mathlib.Core.List.{List, [], ◌∷◌}
@@ -8,76 +8,51 @@ use Rattle.std.proofs.Math.Decide.{dec_lt}
 use Rattle.rules.specs.definitions.Limits.{limits}
 use Rattle.rules.specs.definitions.Model.{automaton_of}
 use Rattle.rules.specs.definitions.Reading.{Reading, model_at, head_fault, no_model}
-use Rattle.rules.specs.definitions.Judging.{refused_in, judge_certificate, judge_reading, judge}
+use Rattle.rules.specs.definitions.Judging.{judge_certificate, judge_reading, judge}
 use Rattle.rules.specs.definitions.Answers as rules
+use Rattle.rules.specs.definitions.Faults as rules-faults
 use Rattle.rules.specs.definitions.Answers.{Outcome, refusal_in, answer_without_place, file_of, unwritten, Follows, first_lent}
 use Rattle.rules.specs.definitions.Demands.{outcome_by}
-use Rattle.rules.proofs.argument.Numbers.{JudgementNumber, certificate-numbered, unread-number}
-use Rattle.rules.specs.definitions.SoundModel.{FitsWidths}
 use Rattle.rules.specs.definitions.CertificateAt.{blocks_place}
-use Rattle.rules.proofs.argument.SoundModelLaws.{limits-fit, with-fits}
 use Rattle.rules.proofs.argument.JudgingLaws.{certificate-terms}
-use Rattle.rules.proofs.argument.PlainRules.{plain_rules_at, stored_rules}
 use Rattle.limits.specs.TermsBy.{terms_of, limits_by}
 use Rattle.limits.specs.declared.Terms.{Terms}
-use Rattle.cost_files.proofs.argument.CostRules.{cost_rules_at, stored_cost_rules}
 use Rattle.rules.proofs.argument.PairOutcome.{outcome-refused, outcome-short, outcome-unaccepted, outcome-accepted}
 use Rattle.fault.specs.Faults.{fault_of, Placed}
+use Rattle.fault.specs.FaultsLaws.{refuses}
 use Rattle.fault.specs.declared.Fault.{Fault}
 use Rattle.transition.specs.Known.{automaton_in, Known}
 use Rattle.transition.specs.KnownLaws.{known-states, few-states}
 use Rattle.flows.specs.FlowsJudged.{Judges}
-use Rattle.flows.specs.declared.Judged.{Judged}
-use Rattle.flows.specs.declared.Judged.TheVariants.{Accepted, Refused}
 use Rattle.answer.specs.declared.Answer.{Answer}
 use Rattle.answer.specs.Answered.{Says}
 use Rattle.answer.specs.AnsweredLaws.{gives-unwritten, without-stretch, with-stretch}
-use Rattle.strong_files.proofs.argument.StrongRules.{strong_rules_at}
 use Rattle.rule_kind.specs.Kinds.{pairs_by, rule_of}
 use Rattle.rule_kind.specs.declared.Kind.{Kind}
-use Rattle.rule_kind.specs.declared.Kind.TheVariants.{Plain, Costs, Strong}
-use Rattle.judgement.specs.declared.Verdict.{Verdict}
-use Rattle.judgement.specs.declared.Verdict.TheVariants as verdicts
+use Rattle.judgement.specs.declared.Accepted.{Accepted}
 use Rattle.judgement.specs.KindsRead.{head-by}
 use Rattle.judgement.specs.Verdicts.{ReadsBy, HeadIs, AcceptedAt, RoomFor, RefusedAs, VerdictSays, judges_only, VerdictIs}
 
 -- a verdict that refuses: whatever follows acceptance, and so where nothing does
-refuses-only : {kind : Kind} {terms : Terms} {M C : List ℕ} {room : ℕ} {r : Answer} → RefusedAs kind terms M C room r → VerdictIs kind terms M C room (verdicts.Refused r)
+refuses-only : {kind : Kind} {terms : Terms} {M C : List ℕ} {room : ℕ} {r : Answer} → RefusedAs kind terms M C room r → VerdictIs kind terms M C room (Err r)
 refuses-only {M = M} {C} {room = room} {r} a =
     record {
       says = a;
       answers = λ before l. (a.refuses judges_only (before ∷ []) (λ N few. (λ h. omega (arith, h, l), λ h. omega (arith, h, l)))).gives.answer;
     }
 
--- the limits fit the files' fields
-fits : (terms : Terms) → FitsWidths (limits_by terms)
-fits terms = with-fits (terms_of terms) limits limits-fit
-
--- a refusal has a number
-unread-some : (kind : Kind) (terms : Terms) (M : List ℕ) (f : Fault) → (pairs_by kind terms).read M ≡ no_model (fault_of f) f.place → f.number ≡ 0 → ⊥
-unread-some Plain terms M f e = (unread-number (plain_rules_at (limits_by terms) (fits terms) (omega arith)) M (fault_of f) f.place e).some
-unread-some Costs terms M f e = (unread-number (cost_rules_at (limits_by terms) (fits terms) (omega arith)) M (fault_of f) f.place e).some
-unread-some Strong terms M f e = (unread-number (strong_rules_at (limits_by terms) (fits terms) (omega arith)) M (fault_of f) f.place e).some
-
-unaccepted-some : (kind : Kind) (M C : List ℕ) (f : Fault) → refused_in (fault_of f) 2 f.place ≡ judge_certificate limits (rule_of kind M) (automaton_in M) C → f.number ≡ 0 → ⊥
-unaccepted-some Plain M C f e = (subst (JudgementNumber stored_rules) (sym e) (certificate-numbered stored_rules M (automaton_in M) C)).some
-unaccepted-some Strong M C f e =
-    let by = strong_rules_at limits limits-fit (omega arith) in
-    (subst (JudgementNumber by) (sym e) (certificate-numbered by M (automaton_in M) C)).some
-unaccepted-some Costs M C f e = (subst (JudgementNumber stored_cost_rules) (sym e) (certificate-numbered stored_cost_rules M (automaton_in M) C)).some
-
--- its fault's
-refusal-some : (f : Fault) (file size : ℕ) {r : Answer} → (f.number ≡ 0 → ⊥) → Says (refusal_in (fault_of f) file f.place size) 0 r → r.number ≡ 0 → ⊥
+-- a refusal has its fault's number
+refusal-some : (f : Fault) (file size : ℕ) {r : Answer} → Says (refusal_in (fault_of f) file f.place size) 0 r → r.number ≡ 0 → ⊥
 unfolding refusal_in
-refusal-some f file size n s z = n (sym (ap (λ (a : rules.Answer). a.number) s.answer) ∙ z)
+refusal-some f file size s z = refuses f.refusal (sym (ap (λ (a : rules.Answer). a.number) s.answer) ∙ z)
 
 -- the model is refused
-pub refused_as : (kind : Kind) (terms : Terms) (M C : List ℕ) (room : ℕ) (f : Fault) {r : Answer} → (pairs_by kind terms).read M ≡ no_model (fault_of f) f.place → f.place ≤ length M → Says (refusal_in (fault_of f) 1 f.place (length M)) 0 r → VerdictIs kind terms M C room (verdicts.Refused r)
+pub refused_as : (kind : Kind) (terms : Terms) (M C : List ℕ) (room : ℕ) (f : Fault) {r : Answer} → (pairs_by kind terms).read M ≡ no_model (fault_of f) f.place → f.place ≤ length M → Says (refusal_in (fault_of f) 1 f.place (length M)) 0 r → VerdictIs kind terms M C room (Err r)
 unfolding file_of
 refused_as kind terms M C room f q h e =
     refuses-only
     (record {
-      some = refusal-some f 1 _ (unread-some kind terms M f q) e;
+      some = refusal-some f 1 _ e;
       refuses = λ follows before fit. with-stretch (M ∷ C ∷ []) before (fault_of f) 1 f.place e (outcome-refused _ _ _ follows M C before (fault_of f) f.place q) (omega arith) h;
     })
 
@@ -89,7 +64,7 @@ labels-few : {M table : List ℕ} {n count : ℕ} → Known M n count table → 
 labels-few k = omega (arith, labels-are k, few-states k)
 
 -- 10
-pub short-as : (kind : Kind) (terms : Terms) (M C : List ℕ) (room : ℕ) {table : List ℕ} {n count : ℕ} {r : Answer} → Known M n count table → ReadsBy kind terms M → room < n → Says (answer_without_place 10) 0 r → VerdictIs kind terms M C room (verdicts.Refused r)
+pub short-as : (kind : Kind) (terms : Terms) (M C : List ℕ) (room : ℕ) {table : List ℕ} {n count : ℕ} {r : Answer} → Known M n count table → ReadsBy kind terms M → room < n → Says (answer_without_place 10) 0 r → VerdictIs kind terms M C room (Err r)
 unfolding answer_without_place
 short-as kind terms M C room k m h e =
     refuses-only
@@ -100,7 +75,7 @@ short-as kind terms M C room k m h e =
     })
 
 -- what a judge's answer is for a sound model
-abbrev pub Judgment : Kind → List ℕ → List ℕ → ℕ → Judged → Type 0
+abbrev pub Judgment : Kind → List ℕ → List ℕ → ℕ → Result ℕ Fault → Type 0
 Judgment kind M C n = Judges C n (blocks_place (rule_of kind M) (automaton_in M) C + 2) (judge_certificate limits (rule_of kind M) (automaton_in M) C)
 
 -- the terms are nothing to it
@@ -116,24 +91,24 @@ enough {M} {room = room} follows before k fit h = go (dec_lt (length (first_lent
     go (no l) = omega arith
 
 -- the certificate is refused
-pub unaccepted-as : (kind : Kind) (terms : Terms) (M C : List ℕ) (room : ℕ) {table : List ℕ} {n count : ℕ} {j : Judged} (f : Fault) {r : Answer} → Known M n count table → ReadsBy kind terms M → j ≡ Refused f → Judgment kind M C n j → n ≤ room → Says (refusal_in (fault_of f) 2 f.place (length C)) 0 r → VerdictIs kind terms M C room (verdicts.Refused r)
+pub unaccepted-as : (kind : Kind) (terms : Terms) (M C : List ℕ) (room : ℕ) {table : List ℕ} {n count : ℕ} {j : Result ℕ Fault} (f : Fault) {r : Answer} → Known M n count table → ReadsBy kind terms M → j ≡ Err f → Judgment kind M C n j → n ≤ room → Says (refusal_in (fault_of f) 2 f.place (length C)) 0 r → VerdictIs kind terms M C room (Err r)
 unfolding file_of
 unaccepted-as kind terms M C room {n = n} f k m e g h a =
     let told = subst (Judgment kind M C n) e g in
     refuses-only
     (record {
-      some = refusal-some f 2 _ (unaccepted-some kind M C f told.answer) a;
+      some = refusal-some f 2 _ a;
       refuses = λ follows before fit.
           with-stretch (M ∷ C ∷ []) before (fault_of f) 2 f.place a
           (outcome-unaccepted _ _ _ follows M C before m.reads (fault_of f) f.place (enough follows before k fit h) (told.answer ∙ limits-by kind terms M C)) (omega arith) told.inside;
     })
 
 -- its place lies in the certificate
-pub unaccepted-inside : (kind : Kind) (M C : List ℕ) {n : ℕ} {j : Judged} (f : Fault) → j ≡ Refused f → Judgment kind M C n j → f.place ≤ length C
+pub unaccepted-inside : (kind : Kind) (M C : List ℕ) {n : ℕ} {j : Result ℕ Fault} (f : Fault) → j ≡ Err f → Judgment kind M C n j → f.place ≤ length C
 unaccepted-inside kind M C {n} f e g = (subst (Judgment kind M C n) e g).inside
 
 -- it is accepted
-pub accepted-as : (kind : Kind) (terms : Terms) (M C : List ℕ) (room : ℕ) {table : List ℕ} {n count at : ℕ} {j : Judged} → Known M n count table → ReadsBy kind terms M → j ≡ Accepted at → Judgment kind M C n j → n ≤ room → VerdictIs kind terms M C room (verdicts.Accepted n count at)
+pub accepted-as : (kind : Kind) (terms : Terms) (M C : List ℕ) (room : ℕ) {table : List ℕ} {n count at : ℕ} {j : Result ℕ Fault} → Known M n count table → ReadsBy kind terms M → j ≡ Ok at → Judgment kind M C n j → n ≤ room → VerdictIs kind terms M C room (Ok (record { states = n; transitions = count; blocks = at }))
 unfolding judge judge_reading unwritten
 accepted-as kind terms M C room {n = n} {at = at} k m e g h =
     let given = subst (Judgment kind M C n) e g in
@@ -151,24 +126,19 @@ accepted-as kind terms M C room {n = n} {at = at} k m e g h =
     }
 
 -- the head is refused, or good
-module _ (M : List ℕ) (f : Fault) (p : Placed (head_fault limits M) 0 f) where
-  pub head-refused : (f.number ≡ 0 → ⊥) → {r : Answer} → Says (refusal_in (fault_of f) 1 f.place (length M)) 0 r → HeadIs M r
-  head-refused n e =
-      record {
-        good = λ z. absurd (refusal-some f 1 _ n e z);
-        refused = λ some kind terms C room. let told = head-by terms M f kind p n in (refused_as kind terms M C room f told.0 told.1 e).says;
-      }
+pub head-refused : (M : List ℕ) (f : Fault) → Placed {T = Unit {0}} (head_fault limits M) 0 (Err f) → {r : Answer} → Says (refusal_in (fault_of f) 1 f.place (length M)) 0 r → HeadIs M (Err r)
+head-refused M f p e =
+    record { good = tt; refused = λ kind terms C room. let told = head-by terms M f kind p in (refused_as kind terms M C room f told.0 told.1 e).says }
 
-pub head-good : (M : List ℕ) {r : Answer} → (head_fault limits M).number ≡ 0 → Says (answer_without_place 0) 0 r → HeadIs M r
-unfolding answer_without_place
-head-good M g s = record { good = λ z. g; refused = λ some kind terms C room. absurd (some (ap (λ (a : rules.Answer). a.number) s.answer)) }
+pub head-good : (M : List ℕ) {u v : Unit {0}} → Placed {T = Unit {0}} (head_fault limits M) 0 (Ok u) → HeadIs M (Ok v)
+head-good M p = record { good = ap (λ (x : rules-faults.Fault). x.number) (sym p.is); refused = tt }
 
 -- what a verdict says in its two cases
-module _ {kind : Kind} {terms : Terms} {M C : List ℕ} {room : ℕ} {r : Verdict} (v : VerdictIs kind terms M C room r) where
-  pub found-accepted : {n count at : ℕ} → r ≡ verdicts.Accepted n count at → AcceptedAt kind terms M C room n count at
+module _ {kind : Kind} {terms : Terms} {M C : List ℕ} {room : ℕ} {r : Result Accepted Answer} (v : VerdictIs kind terms M C room r) where
+  pub found-accepted : {a : Accepted} → r ≡ Ok a → AcceptedAt kind terms M C room a.states a.transitions a.blocks
   found-accepted e = subst (VerdictSays kind terms M C room) e v.says
 
-  pub found-refused : {a : Answer} → r ≡ verdicts.Refused a → RefusedAs kind terms M C room a
+  pub found-refused : {a : Answer} → r ≡ Err a → RefusedAs kind terms M C room a
   found-refused e = subst (VerdictSays kind terms M C room) e v.says
 
 -- accepted blocks, as the part of the certificate that holds them

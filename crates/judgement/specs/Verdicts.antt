@@ -1,5 +1,5 @@
 -- What a judging call finds, in document 01's terms.
-use Rattle.std.specs.Prelude.{ℕ, ◌+◌, ◌≤◌, ◌<◌, ◌≡◌, ◌↔◌, List, [], ◌∷◌, length, take, drop}
+use Rattle.std.specs.Prelude.{ℕ, ◌+◌, ◌≤◌, ◌<◌, ◌≡◌, ◌↔◌, List, [], ◌∷◌, length, take, drop, Result, Ok, Err, IfOk, IfErr}
 use Rattle.rules.specs.definitions.Limits.{limits}
 use Rattle.rules.specs.definitions.Model.{Model}
 use Rattle.rules.specs.definitions.Reading.{Scan, head_fault, scan_whole, model_at, model}
@@ -16,8 +16,7 @@ use Rattle.rule_kind.specs.Kinds.{rule_of, pairs_by, KindStands}
 use Rattle.rule_kind.specs.declared.Kind.{Kind}
 use Rattle.rule_kind.specs.declared.Kind.TheVariants.{Plain, Costs, Strong}
 use Rattle.answer.specs.declared.Answer.{Answer}
-use Rattle.judgement.specs.declared.Verdict.{Verdict}
-use Rattle.judgement.specs.declared.Verdict.TheVariants.{Accepted, Refused}
+use Rattle.judgement.specs.declared.Accepted.{Accepted}
 use Rattle.answer.specs.Answered.{answered, OutcomeIs, CallAnswered}
 
 -- how a model file is scanned
@@ -50,27 +49,27 @@ pub record RefusedAs (kind : Kind) (terms : Terms) (M C : List ℕ) (room : ℕ)
   pub some : r.number ≡ 0 → ⊥
   pub refuses : (follows : Follows) (before : List (List ℕ)) → RoomFor follows before room → OutcomeIs (outcome_by (pairs_by kind terms) follows M C before) (M ∷ C ∷ []) before r
 
-abbrev pub VerdictSays : (kind : Kind) (terms : Terms) (M C : List ℕ) (room : ℕ) → Verdict → Type 0
-VerdictSays kind terms M C room (Accepted n count at) = AcceptedAt kind terms M C room n count at
-VerdictSays kind terms M C room (Refused r) = RefusedAs kind terms M C room r
+abbrev pub VerdictSays : (kind : Kind) (terms : Terms) (M C : List ℕ) (room : ℕ) → Result Accepted Answer → Type 0
+VerdictSays kind terms M C room (Ok a) = AcceptedAt kind terms M C room a.states a.transitions a.blocks
+VerdictSays kind terms M C room (Err r) = RefusedAs kind terms M C room r
 
 -- document 01's number, file and place for each case: 0, 0 and 0 where the certificate is accepted
-abbrev pub verdict_answer : Verdict → rules.Answer
-verdict_answer (Accepted n count at) = answer_without_place 0
-verdict_answer (Refused r) = answered r
+abbrev pub verdict_answer : Result Accepted Answer → rules.Answer
+verdict_answer (Ok a) = answer_without_place 0
+verdict_answer (Err r) = answered r
 
 -- a call with a block buffer that writes nothing
 abbrev pub judges_only : Follows
 judges_only = record { block_room = λ N. length N.labels; outcome = λ N blocks before. unwritten (answer_without_place 0) before; late = [] }
 
-pub record VerdictIs (kind : Kind) (terms : Terms) (M C : List ℕ) (room : ℕ) (r : Verdict) : Type 0 where
+pub record VerdictIs (kind : Kind) (terms : Terms) (M C : List ℕ) (room : ℕ) (r : Result Accepted Answer) : Type 0 where
   pub says : VerdictSays kind terms M C room r
   pub answers : (before : List ℕ) → length before ≡ room → verdict_answer r ≡ (outcome_by (pairs_by kind terms) judges_only M C (before ∷ [])).answer
 
 -- the head of a model is good, or refused, whatever its pair is judged by
-pub record HeadIs (M : List ℕ) (r : Answer) : Type 0 where
-  pub good : r.number ≡ 0 → (head_fault limits M).number ≡ 0
-  pub refused : (r.number ≡ 0 → ⊥) → (kind : Kind) (terms : Terms) (C : List ℕ) (room : ℕ) → RefusedAs kind terms M C room r
+pub record HeadIs (M : List ℕ) (r : Result (Unit {0}) Answer) : Type 0 where
+  pub good : IfOk r (λ _. (head_fault limits M).number ≡ 0)
+  pub refused : IfErr r (λ (a : Answer). (kind : Kind) (terms : Terms) (C : List ℕ) (room : ℕ) → RefusedAs kind terms M C room a)
 
 -- what a call on a pair of files promises: judged by these rules, with what follows acceptance, and with these demands
 abbrev pub PairAnswered : (by : JudgedBy) (follows : Follows) (demands : PairDemands) (M C : List ℕ) (before after : List (List ℕ)) → Answer → Type 0

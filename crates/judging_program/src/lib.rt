@@ -18,10 +18,7 @@ pub const CERTIFICATE: usize = 49152;
 pub fn at_most(n: usize, buffer: &[u8]) -> usize
     ensures { IsPrefixLen result buffer.now }
 {
-    if n < buffer.len() {
-        return n;
-    }
-    buffer.len()
+    n.min(buffer.len())
 }
 
 pub fn print(rt: &impl Print, text: &[u8]) -> io::Result<()> {

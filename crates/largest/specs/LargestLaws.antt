@@ -1,11 +1,11 @@
 -- The files of the pair, from what is appended, and what the call answers.
-use Rattle.std.specs.Prelude.{ℕ, zero, suc, ◌+◌, ◌*◌, ◌-◌, ◌≤◌, ◌<◌, ◌≡◌, refl, true, List, [], ◌∷◌, ◌++◌, length, replicate, drop}
+use Rattle.std.specs.Prelude.{ℕ, suc, ◌+◌, ◌*◌, ◌-◌, ◌≤◌, ◌<◌, ◌≡◌, refl, true, List, [], ◌∷◌, ◌++◌, length, replicate}
 use Rattle.std.proofs.Common.{sym, ◌∙◌, ap, ap₂, subst, mul-le-mul}
 use native.Mathlib.Omega.{arith}
 use Rattle.rules.specs.definitions.Limits.{current}
 use Rattle.rules.specs.definitions.Bytes.{two_bytes}
 use Rattle.rules.specs.definitions.Model.{transitions_bytes, head_bytes, labels_bytes, model_bytes}
-use Rattle.rules.specs.definitions.Encoding.{list_bytes, refutation_bytes, blocks_bytes, four_bytes, w_bytes, flow_bytes, certificate_bytes}
+use Rattle.rules.specs.definitions.Encoding.{list_bytes, blocks_bytes, flow_bytes, certificate_bytes}
 use Rattle.rules.specs.definitions.Answers as rules
 use Rattle.rules.specs.definitions.Answers.{second_written, answer_without_place, unwritten}
 use Rattle.rules.proofs.argument.AnswerLaws.{none-second, first_short, second_short, both-fit}
@@ -22,19 +22,15 @@ use Rattle.answer.specs.Answered.{Says, OutcomeIs}
 use Rattle.answer.specs.AnsweredLaws.{without-as, gives-unwritten, without-stretch}
 use Rattle.answer.specs.TwoBuffers.{Unwritten, gives_both, second-both}
 use Rattle.largest.specs.Largest.{LargestAnswered}
+use Rattle.largest.specs.Repeated.{repeated, loops-repeated, list-repeated}
 
 -- the model's file
-pub model-written : (n count : ℕ) {at middle next : ℕ} {a b c d : List ℕ} → Appends (head_bytes_of n 1 count) 0 a b at → Appends (zeros n) at b c middle → Appends (transitions_bytes (replicate count self_loop)) middle c d next → Appends (largest_model_file n count) 0 a d next
+pub model-written : (n count : ℕ) {at middle next : ℕ} {a b c d : List ℕ} → Appends (head_bytes_of n 1 count) 0 a b at → Appends (zeros n) at b c middle → Appends (repeated (0x54 ∷ 0x52 ∷ 0 ∷ 0 ∷ 0 ∷ 1 ∷ 1 ∷ 0 ∷ 0 ∷ 1 ∷ []) count) middle c d next → Appends (largest_model_file n count) 0 a d next
 unfolding model_bytes head_bytes labels_bytes largest_model two_bytes
 model-written n count h l r =
     appended-as
     (ap₂ (λ (x y : ℕ). head_bytes_of x 1 y ++ (zeros n ++ transitions_bytes (replicate count self_loop))) (largest-states n count) (largest-transitions n count))
-    (append-more h (append-more l r))
-
--- a flow
-pub flow-written : {t at from to next : ℕ} {a b c d : List ℕ} → Appends (0x46 ∷ 0x4C ∷ 0 ∷ 0 ∷ 0 ∷ 1 ∷ 0 ∷ 0 ∷ 0 ∷ 1 ∷ []) at a b from → Appends (t ∷ []) from b c to → Appends (0 ∷ 0 ∷ 0 ∷ 0 ∷ 1 ∷ []) to c d next → Appends (flow_bytes (stays t)) at a d next
-unfolding flow_bytes list_bytes w_bytes four_bytes two_bytes
-flow-written p q r = append-more p (append-more q r)
+    (append-more h (append-more l (appended-as (loops-repeated count) r)))
 
 -- the flows against the states from t on
 abbrev flows_left : (count left t : ℕ) → List ℕ
@@ -53,15 +49,17 @@ module _ {n count at : ℕ} {before : List ℕ} {t : ℕ} {out : List ℕ} {next
   less-left : t < n → n - t ≡ suc (n - (t + 1))
   less-left l = omega arith
 
-  pub against-room : t < n → next + 16 * count ≤ length out
-  against-room l = omega (arith, h.room, ap (λ (k : ℕ). count * k) (less-left l))
+  pub against-room : {flow : List ℕ} → t < n → flow ≡ flow_bytes (stays t) → next + length flow * count ≤ length out
+  against-room l e =
+      omega (arith, h.room, ap (λ (k : ℕ). count * k) (less-left l), ap (λ (k : ℕ). k * count) (ap length e ∙ flow-length t))
 
   one_state : (left : ℕ) → flows_left count (suc left) t ≡ list_bytes flow_bytes (replicate count (stays t)) ++ flows_left count left (t + 1)
   unfolding flows_against
   one_state left = list-append flow_bytes (replicate count (stays t)) (flows_against count left (t + 1))
 
-  pub against-turn : {more : List ℕ} {past : ℕ} → t < n → Appends (list_bytes flow_bytes (replicate count (stays t))) next out more past → Against n count at before (t + 1) more past
-  against-turn l a =
+  pub against-turn : {flow more : List ℕ} {past : ℕ} → t < n → flow ≡ flow_bytes (stays t) → Appends (repeated flow count) next out more past → Against n count at before (t + 1) more past
+  against-turn l e w =
+      let a = appended-as (list-repeated flow_bytes (stays t) count ∙ ap (λ (bytes : List ℕ). repeated bytes count) (sym e)) w in
       record {
         state = omega arith;
         room = omega (arith, h.room, ap (λ (k : ℕ). count * k) (less-left l), a.place, a.size, bytes-replicate (stays t) flow_bytes count, ap (λ (k : ℕ). count * k) (flow-length t));

@@ -1,44 +1,41 @@
 // The pair of files with the most flow records for n states and so many transitions (document 02, K13).
 #![tactic(auto)]
 
-ghost use Rattle.std.specs.Prelude.{◌+◌, ◌*◌, ◌-◌, ◌≤◌, ◌<◌, length, replicate, ◌≡◌};
+ghost use Rattle.std.specs.Prelude.{◌+◌, ◌*◌, ◌-◌, ◌≤◌, ◌<◌, length, ◌≡◌};
 ghost use Rattle.rules.specs.definitions.Limits.{current};
-ghost use Rattle.rules.specs.definitions.Model.{transitions_bytes};
 ghost use Rattle.rules.specs.definitions.Encoding.{list_bytes, flow_bytes};
 ghost use Rattle.writer.specs.Appends.{Appends};
-ghost use Rattle.largest_pair.specs.definitions.LargestPair.{zeros, self_loop, stays, flows_against, largest_model_file, largest_certificate_file};
+ghost use Rattle.largest_pair.specs.definitions.LargestPair.{zeros, stays, flows_against, largest_model_file, largest_certificate_file};
 ghost use Rattle.largest_pair.specs.definitions.FewFlows.{most_flows};
 ghost use Rattle.largest_pair.specs.definitions.LargestAnswer.{outside_limits, WithinLimits};
 ghost use Rattle.largest.specs.Largest.{LargestAnswered};
+ghost use Rattle.largest.specs.Repeated.{repeated};
 
-use answer::PairAnswer;
+use answer::{Answer, PairAnswer};
+use fault::Refusal;
 use limits::{STATES, TRANSITIONS};
+
+// The record of the internal transition from state 0 to itself.
+const LOOP: &[u8] = b"TR\0\0\0\x01\x01\0\0\x01";
 
 // So many bytes 0.
 fn write_zeros(out: &mut [u8], at: usize, count: usize) -> usize
     requires { at + count ≤ length out.old }
     ensures { Appends (zeros count) at out.old out.new result }
 {
-    let mut left = count;
-    let mut next = at;
-    while 0 < left {
-        next = writer::byte(out, next, 0);
-        left -= 1;
-    }
+    let next = at + count;
+    out[at..next].fill(0);
     next
 }
 
-// The records of so many internal transitions from state 0 to itself.
-fn write_transitions(out: &mut [u8], at: usize, count: usize) -> usize
-    requires { at + 10 * count ≤ length out.old }
-    ensures { Appends (transitions_bytes (replicate count self_loop)) at out.old out.new result }
+// A record, so many times.
+fn write_repeated(out: &mut [u8], at: usize, bytes: &[u8], count: usize) -> usize
+    requires { at + length bytes.now * count ≤ length out.old }
+    ensures { Appends (repeated bytes.now count) at out.old out.new result }
 {
-    let mut left = count;
     let mut next = at;
-    while 0 < left {
-        let entries = writer::fixed(out, next, 0, 0, 1, 1);
-        next = writer::entry(out, entries, 0, 1);
-        left -= 1;
+    for _ in 0..count {
+        next = writer::part(out, next, bytes);
     }
     next
 }
@@ -50,31 +47,17 @@ fn write_model(out: &mut [u8], n: usize, count: usize) -> usize
 {
     let labels = writer::head(out, n, 1, count);
     let records = write_zeros(out, labels, n);
-    write_transitions(out, records, count)
+    write_repeated(out, records, LOOP, count)
 }
 
 // The flow by which t answers, staying where it is: D 1, no k, and one w, from t to 0.
-fn write_flow(out: &mut [u8], at: usize, t: usize) -> usize
-    requires { (at + 16 ≤ length out.old) × (t < 256) }
-    ensures { Appends (flow_bytes (stays t)) at out.old out.new result }
+fn flow(t: usize) -> [u8; 16]
+    requires { t < 256 }
+    ensures { result ≡ flow_bytes (stays t) }
 {
-    let from = writer::part(out, at, b"FL\0\0\0\x01\0\0\0\x01");
-    let to = writer::byte(out, from, t);
-    writer::part(out, to, b"\0\0\0\0\x01")
-}
-
-// The flows of state 0's transitions, so many, against t.
-fn write_against(out: &mut [u8], at: usize, t: usize, count: usize) -> usize
-    requires { (at + 16 * count ≤ length out.old) × (t < 256) }
-    ensures { Appends (list_bytes flow_bytes (replicate count (stays t))) at out.old out.new result }
-{
-    let mut left = count;
-    let mut next = at;
-    while 0 < left {
-        next = write_flow(out, next, t);
-        left -= 1;
-    }
-    next
+    let mut bytes = *b"FL\0\0\0\x01\0\0\0\x01\0\0\0\0\0\x01";
+    bytes[10] = t as u8;
+    bytes
 }
 
 // The flows against every other state.
@@ -82,11 +65,9 @@ fn write_flows(out: &mut [u8], at: usize, n: usize, count: usize) -> usize
     requires { (1 ≤ n) × (n ≤ 256) × (at + 16 * most_flows n count ≤ length out.old) }
     ensures { Appends (list_bytes flow_bytes (flows_against count (n - 1) 1)) at out.old out.new result }
 {
-    let mut t = 1;
     let mut next = at;
-    while t < n {
-        next = write_against(out, next, t, count);
-        t += 1;
+    for t in 1..n {
+        next = write_repeated(out, next, &flow(t), count);
     }
     next
 }
@@ -105,16 +86,7 @@ fn write_certificate(out: &mut [u8], n: usize, count: usize) -> usize
 fn outside(n: u32, count: u32) -> bool
     ensures { result ≡ outside_limits current n count }
 {
-    if n < 1 {
-        return true;
-    }
-    if STATES < n as usize {
-        return true;
-    }
-    if TRANSITIONS < count as usize {
-        return true;
-    }
-    false
+    n < 1 || STATES < n as usize || TRANSITIONS < count as usize
 }
 
 // Within the limits: 41, or both files.
@@ -130,15 +102,15 @@ fn write_pair(
     let model_size = 8 + n + 10 * count;
     let certificate_size = 6 + n + 16 * (count * (n - 1));
     if model_out.len() < model_size {
-        return answer::unwritten(answer::without_place(41, 0));
+        return answer::unwritten(Answer::refused(Refusal::LargestRoom));
     }
     if certificate_out.len() < certificate_size {
-        return answer::unwritten(answer::without_place(41, 0));
+        return answer::unwritten(Answer::refused(Refusal::LargestRoom));
     }
     write_model(model_out, n, count);
     write_certificate(certificate_out, n, count);
     PairAnswer {
-        answer: answer::without_place(0, model_size),
+        answer: Answer::written(model_size),
         certificate_written: certificate_size,
     }
 }
@@ -153,7 +125,7 @@ pub fn largest_answer(
     ensures { LargestAnswered n count model_out.old certificate_out.old model_out.new certificate_out.new result }
 {
     if outside(n, count) {
-        return answer::unwritten(answer::without_place(40, 0));
+        return answer::unwritten(Answer::refused(Refusal::LargestLimits));
     }
     write_pair(n as usize, count as usize, model_out, certificate_out)
 }

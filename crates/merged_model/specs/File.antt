@@ -1,26 +1,14 @@
 -- The file of the merged model in a lent buffer.
 use Rattle.std.specs.Prelude.{ℕ, ◌+◌, ◌≤◌, ◌≡◌, List, ◌++◌, length, drop}
-use Rattle.rules.specs.definitions.Limits.{limits}
-use Rattle.rules.specs.definitions.Model.{Model}
-use Rattle.rules.specs.definitions.Reading.{states_of, model_at}
-use Rattle.rules.specs.definitions.SoundModel.{SoundModel}
+use Rattle.rules.specs.definitions.Reading.{model_at}
 use Rattle.rules.specs.definitions.BlockCount.{block_count}
 use Rattle.quotient.specs.definitions.Quotient.{by_block, merged_file}
 use Rattle.rules.proofs.argument.NumberedBlocks.{NumberedBlocks}
-use Rattle.transition.specs.Known.{Known}
 use Rattle.merged_transitions.specs.declared.Kept.{Kept}
 use Rattle.merged_transitions.specs.MergedTransitions.{transitions_in, Holds}
 
--- a sound model and blocks as an accepted certificate has them
-pub record CanWriteFile (s : List ℕ) (n count : ℕ) (places blocks : List ℕ) : Type 0 where
-  pub known : Known s n count places
-  pub numbered : NumberedBlocks (model_at s) blocks
-
--- the same with the records of the merged transitions, and room for the file
-pub record CanWriteParts (s : List ℕ) (n : ℕ) (blocks : List ℕ) (k : ℕ) (records : List ℕ) (kept : Kept) (out : List ℕ) : Type 0 where
-  pub sound : SoundModel limits (model_at s)
-  pub states : n ≡ states_of s
-  pub labels : 8 + n ≤ length s
+-- blocks as an accepted certificate has them, the records of the merged transitions, and room for the file
+pub record CanWriteParts (s blocks : List ℕ) (k : ℕ) (records : List ℕ) (kept : Kept) (out : List ℕ) : Type 0 where
   pub numbered : NumberedBlocks (model_at s) blocks
   pub count : k ≡ block_count blocks
   pub held : Holds (by_block blocks (transitions_in s) k 0) records kept

@@ -1,21 +1,26 @@
 -- Laws of the count of blocks and of their labels, a turn at a time.
-use Rattle.std.specs.Prelude.{ℕ, zero, suc, ◌+◌, ◌-◌, ◌≤◌, ◌<◌, ◌≡◌, refl, List, [], ◌∷◌, ◌++◌, length, get_or, drop}
-use Rattle.std.proofs.Common.{sym, ◌∙◌, ap, ap₂, subst, drop_of_length-le, drop-cons, arith}
-use Rattle.bisimulation.specs.definitions.Choice.{if_less, if_same}
+use Rattle.std.specs.Prelude.{ℕ, zero, suc, ◌+◌, ◌≤◌, ◌<◌, ◌≡◌, MatchOption, EachIndex, SomeIndex, List, [], ◌∷◌, ◌++◌, length, get_or, drop}
+use Rattle.std.proofs.Common.{Option, None, Some, unwrap_or, sym, ◌∙◌, ap, ap₂, subst, drop_of_length-le, drop-cons, arith}
+use Rattle.bisimulation.specs.definitions.Choice.{if_same}
+use Rattle.bisimulation.proofs.argument.ChoiceLaws.{either_less}
 use Rattle.writer.specs.Appends.{Appends}
 use Rattle.writer.specs.AppendsLaws.{append-more}
 use Rattle.rules.specs.definitions.BlockCount.{block_count}
+use Rattle.rules.proofs.argument.NumberedBlocks.{block-below}
 use Rattle.quotient.specs.definitions.Quotient.{label_of_block, block_labels}
 
--- the count of the blocks from a place on, from the one behind it
-pub count_turn : (blocks : List ℕ) (i : ℕ) → i < length blocks → block_count (drop i blocks) ≡ if_less (get_or blocks i 0) (block_count (drop (i + 1) blocks)) (block_count (drop (i + 1) blocks)) (get_or blocks i 0 + 1)
+-- a number above each block is at least their count
+count-least : (blocks : List ℕ) (m : ℕ) → EachIndex blocks (λ (v : ℕ). get_or blocks v 0 + 1 ≤ m) → block_count blocks ≤ m
 unfolding block_count
-count_turn blocks i h = let e : suc i ≡ i + 1 = omega arith in ap block_count (drop-cons blocks i 0 h) ∙ ap (λ (k : ℕ). if_less (get_or blocks i 0) (block_count (drop k blocks)) (block_count (drop k blocks)) (get_or blocks i 0 + 1)) e
+count-least [] m h = omega arith
+count-least (b ∷ bs) m h =
+    either_less (λ (c : ℕ). c ≤ m) b (block_count bs) (count-least bs m (λ v less. h (suc v) (omega arith))) (h 0 (omega arith))
 
--- of none
-pub count-end : (blocks : List ℕ) (i : ℕ) → length blocks ≤ i → block_count (drop i blocks) ≡ 0
-unfolding block_count
-count-end blocks i h = ap block_count (drop_of_length-le blocks h)
+-- the greatest of the numbers one more than a block, or 0 of none, is their count
+pub count-greatest : (blocks : List ℕ) (most : Option ℕ) → MatchOption most (length blocks ≡ 0) (λ (m : ℕ). EachIndex blocks (λ (v : ℕ). get_or blocks v 0 + 1 ≤ m)) → MatchOption most (length blocks ≡ 0) (λ (m : ℕ). SomeIndex blocks (λ (v : ℕ). get_or blocks v 0 + 1 ≡ m)) → unwrap_or most 0 ≡ block_count blocks
+count-greatest blocks None none none' = omega (arith, count-least blocks 0 (λ v less. absurd (omega arith)))
+count-greatest blocks (Some m) each some =
+    omega (arith, count-least blocks m each, block-below blocks some.0 some.1, some.2)
 
 -- the label of a block, from a state on
 pub label-turn : (blocks labels : List ℕ) (b v : ℕ) → v < length blocks → length labels ≡ length blocks → label_of_block (drop v blocks) (drop v labels) b ≡ if_same (get_or blocks v 0) b (get_or labels v 0) (label_of_block (drop (v + 1) blocks) (drop (v + 1) labels) b)
@@ -38,14 +43,6 @@ labels-more blocks labels (suc left) b =
     let f : suc left + 1 ≡ suc (left + 1) = omega arith in
     ap (λ (k : ℕ). block_labels blocks labels k b) f
     ∙ ap (λ (l : List ℕ). label_of_block blocks labels b ∷ l) (labels-more blocks labels left (b + 1) ∙ ap (λ (k : ℕ). block_labels blocks labels left (b + 1) ++ (label_of_block blocks labels k ∷ [])) e)
-
--- a turn of the count: the block before the ones passed
-pub count-with-turn : (blocks : List ℕ) {left block count r : ℕ} → 0 < left → left ≤ length blocks → block ≡ get_or blocks (left - 1) 0 → count ≡ block_count (drop left blocks) → r ≡ if_less block count count (block + 1) → r ≡ block_count (drop (left - 1) blocks)
-count-with-turn blocks {left} {block} {count} {r} some h e f g =
-    let one : left - 1 + 1 ≡ left = omega arith in
-    g
-    ∙ ap₂ (λ (x y : ℕ). if_less x y y (x + 1)) e (f ∙ ap (λ (k : ℕ). block_count (drop k blocks)) (sym one))
-    ∙ sym (count_turn blocks (left - 1) (omega arith))
 
 -- one more label behind the labels before it
 pub labels_append : (blocks labels : List ℕ) (b : ℕ) {at next end x : ℕ} {a before after : List ℕ} → Appends (block_labels blocks labels b 0) at a before next → Appends (x ∷ []) next before after end → x ≡ label_of_block blocks labels b → Appends (block_labels blocks labels (b + 1) 0) at a after end

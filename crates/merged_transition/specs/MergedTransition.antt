@@ -5,7 +5,6 @@ use Rattle.rules.specs.definitions.Model.{transition_bytes}
 use Rattle.rules.specs.definitions.Reading.{states_of, entry_count_at, transition_at, place_of}
 use Rattle.rules.specs.definitions.BlockCount.{block_count}
 use Rattle.quotient.specs.definitions.Quotient.{merged_transition}
-use Rattle.transition.specs.Known.{KnownTransition}
 use Rattle.writer.specs.Appends.{Appends}
 
 -- no block has a weight yet
@@ -20,9 +19,9 @@ pub record BlocksBelow (n k : ℕ) (blocks : List ℕ) : Type 0 where
   pub below : (v : ℕ) → v < n → get_or blocks v 0 < k
   pub few : k ≤ limits.states
 
--- a transition r of a sound model, its blocks, and room for its record: merging makes no record longer
-pub record CanMerge (s places : List ℕ) (r : ℕ) (blocks : List ℕ) (k : ℕ) (weights out : List ℕ) (at : ℕ) : Type 0 where
-  pub transition : KnownTransition s places r
+-- a transition r of a sound model of so many, its blocks, and room for its record: merging makes no record longer
+pub record CanMerge (s : List ℕ) (count r : ℕ) (blocks : List ℕ) (k : ℕ) (weights out : List ℕ) (at : ℕ) : Type 0 where
+  pub less : r < count
   pub merging : BlocksBelow (states_of s) k blocks
   pub none : NoWeights weights
   pub room : at + 7 + 3 * entry_count_at s (place_of s r) ≤ length out

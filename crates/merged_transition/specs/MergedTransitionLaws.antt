@@ -18,19 +18,22 @@ use Rattle.rules.specs.definitions.BlockCount.{block_count}
 use Rattle.rules.proofs.argument.ModelAutomaton.{automaton-source, automaton-action, automaton-denominator}
 use Rattle.rules.proofs.argument.SoundModelLaws.{each_map}
 use Rattle.transition_record.specs.declared.Fields.{Fields}
-use Rattle.transition.specs.Known.{FieldsOf, entries_of}
-use Rattle.transition.specs.KnownLaws.{known-states, rules-of, entries-known}
+use Rattle.transition.specs.Known.{Known, KnownTransition, FieldsOf, entries_of}
+use Rattle.transition.specs.KnownLaws.{known-states, known-transition, rules-of, entries-known}
 use Rattle.writer.specs.Appends.{Appends, fixed_bytes}
 use Rattle.writer.specs.AppendsLaws.{append-more, record-bytes}
 use Rattle.merged_transition.specs.MergedTransition.{CanMerge, Merged}
 use Rattle.merged_transition.specs.Weights.{weight_in, weight_entries, weights_by_block, CanAdd, WeightsOf, CanDivide, CanCount, CanWriteEntries, WroteEntries}
 use Rattle.merged_transition.specs.WeightsLaws.{common-by-block, divided-length, weight-light, weight-past, entries-same, entries-merged, entries-few, entries-shorter, entries-beyond}
 
-module _ {s places : List ℕ} {r : ℕ} {blocks : List ℕ} {k : ℕ} {weights out : List ℕ} {at : ℕ} (m : CanMerge s places r blocks k weights out at) where
-  pub merging-adds : CanAdd s places r blocks weights
+module _ {s places : List ℕ} {n count r : ℕ} {blocks : List ℕ} {k : ℕ} {weights out : List ℕ} {at : ℕ} (known : Known s n count places) (m : CanMerge s count r blocks k weights out at) where
+  own-known : KnownTransition s places r
+  own-known = known-transition known m.less
+
+  pub merging-adds : CanAdd s count r blocks weights
   merging-adds =
       record {
-        transition = m.transition;
+        less = m.less;
         whole = m.merging.whole;
         below = λ v h. omega (arith, m.merging.below v h, m.merging.few);
         none = m.none;
@@ -52,7 +55,7 @@ module _ {s places : List ℕ} {r : ℕ} {blocks : List ℕ} {k : ℕ} {weights 
 
     -- none leads past the blocks of the states, so all that have a weight are among the first k
     none-past : (b : ℕ) → b < limits.states → k ≤ b → weight_in added b ≡ 0
-    none-past b h past = w.held b h ∙ weight-past blocks (states_of s) k m.merging.below (entries_of s r) (entries-known m.transition).states b past
+    none-past b h past = w.held b h ∙ weight-past blocks (states_of s) k m.merging.below (entries_of s r) (entries-known own-known).states b past
 
     pub counted-blocks : counted ≡ length (weight_entries (weight_in added) k)
     counted-blocks =
@@ -64,14 +67,14 @@ module _ {s places : List ℕ} {r : ℕ} {blocks : List ℕ} {k : ℕ} {weights 
     pub count_small : counted < 256
     count_small = omega (arith, counted-blocks, entries-few (weight_in added) k, m.merging.few)
 
-    pub merging-divides : CanDivide s places r blocks added
+    pub merging-divides : CanDivide s count r blocks added
     merging-divides =
         record {
-          transition = m.transition;
+          less = m.less;
           whole = m.merging.whole;
           below = merging-adds.below;
           size = w.size;
-          light = λ b h. omega (arith, w.held b h, weight-light blocks (entries_of s r) b, (entries-known m.transition).whole, (entries-known m.transition).light);
+          light = λ b h. omega (arith, w.held b h, weight-light blocks (entries_of s r) b, (entries-known own-known).whole, (entries-known own-known).light);
         }
 
     -- the common divisor of the blocks' weights is that of the weights added up
@@ -80,15 +83,15 @@ module _ {s places : List ℕ} {r : ℕ} {blocks : List ℕ} {k : ℕ} {weights 
       unfolding divisor_in added_up transition_at
       is_divisor =
           common
-          ∙ common-by-block blocks added (entries_of s r) k (λ b h. w.held b (omega (arith, h, m.merging.few))) (each_map _ _ (λ e h. m.merging.below e.state h) (entries_of s r) (entries-known m.transition).states)
+          ∙ common-by-block blocks added (entries_of s r) k (λ b h. w.held b (omega (arith, h, m.merging.few))) (each_map _ _ (λ e h. m.merging.below e.state h) (entries_of s r) (entries-known own-known).states)
           ∙ ap (λ (es : List Entry). divisor_of 0 (map (λ (e : Entry). e.weight) es)) merged-entries
 
       pub divisor-positive : 0 < g
       divisor-positive =
-          omega (arith, is_divisor, divisor-some (added_up blocks (transition_at s (place_of s r))) (added-rules blocks (length (model_at s).labels) (model_at s).actions (transition_at s (place_of s r)) (rules-of m.transition) below-labels))
+          omega (arith, is_divisor, divisor-some (added_up blocks (transition_at s (place_of s r))) (added-rules blocks (length (model_at s).labels) (model_at s).actions (transition_at s (place_of s r)) (rules-of own-known) below-labels))
         where
           below-labels : (v : ℕ) → v < length (model_at s).labels → get_or blocks v 0 < block_count blocks
-          below-labels v h = unfold automaton_of in omega (arith, m.merging.below v (omega (arith, h, known-states m.transition.known)), m.merging.count)
+          below-labels v h = unfold automaton_of in omega (arith, m.merging.below v (omega (arith, h, known-states known, known.states)), m.merging.count)
 
     module _ {g : ℕ} (common : g ≡ divisor_of 0 (weights_by_block blocks added (entries_of s r))) (source action denominator : ℕ) {head : List ℕ} {next : ℕ} (fixed : Appends (fixed_bytes source action denominator counted) at out head next) where
       past-fixed : next ≡ at + 7
@@ -101,13 +104,13 @@ module _ {s places : List ℕ} {r : ℕ} {blocks : List ℕ} {k : ℕ} {weights 
             table = merging-counts;
             counted = counted-blocks;
             some = divisor-positive common;
-            light = λ b h. omega (arith, w.held b (omega (arith, h, m.merging.few)), weight-light blocks (entries_of s r) b, (entries-known m.transition).whole, (entries-known m.transition).light);
+            light = λ b h. omega (arith, w.held b (omega (arith, h, m.merging.few)), weight-light blocks (entries_of s r) b, (entries-known own-known).whole, (entries-known own-known).light);
             room = omega (arith, past-fixed, m.room, shorter, fixed.size);
           }
 
       module _ {f : Fields} (t : FieldsOf s r f) (to : source ≡ get_or blocks f.source 0) (by : action ≡ f.action) (over : denominator ≡ f.denominator / g) where
         below : r < count_of s
-        below = omega (arith, m.transition.below, m.transition.known.transitions)
+        below = omega (arith, m.less, known.transitions)
 
         bytes : fixed_bytes source action denominator counted ++ entries_bytes (map (divided_entry g) (weight_entries (weight_in added) k)) ≡ transition_bytes (merged_transition blocks (transition_at s (place_of s r)))
         unfolding merged_transition in_lowest added_up transition_at

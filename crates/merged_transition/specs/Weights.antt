@@ -6,7 +6,6 @@ use Rattle.rules.specs.definitions.Model.{Entry, entries_bytes}
 use Rattle.rules.specs.definitions.LowestTerms.{divided_entry}
 use Rattle.rules.specs.definitions.Reading.{states_of}
 use Rattle.quotient.specs.definitions.Quotient.{weight_to_block}
-use Rattle.transition.specs.Known.{KnownTransition}
 use Rattle.writer.specs.Appends.{Appends}
 use Rattle.merged_transition.specs.MergedTransition.{NoWeights}
 
@@ -27,9 +26,9 @@ weight_entries f (suc b) = weight_entries f b ++ entry_of (f b) b
 unfoldable pub weights_by_block : (blocks weights : List ℕ) → List Entry → List ℕ
 weights_by_block blocks weights es = map (λ (e : Entry). weight_in weights (get_or blocks e.state 0)) es
 
--- a transition r of a sound model, a block for each state, and no weights yet
-pub record CanAdd (s places : List ℕ) (r : ℕ) (blocks weights : List ℕ) : Type 0 where
-  pub transition : KnownTransition s places r
+-- a transition r of a sound model of so many, a block for each state, and no weights yet
+pub record CanAdd (s : List ℕ) (count r : ℕ) (blocks weights : List ℕ) : Type 0 where
+  pub less : r < count
   pub whole : length blocks ≡ states_of s
   pub below : (v : ℕ) → v < states_of s → get_or blocks v 0 < limits.states
   pub none : NoWeights weights
@@ -40,9 +39,9 @@ pub record WeightsOf (blocks : List ℕ) (es : List Entry) (weights : List ℕ) 
   pub counted : count ≡ length (weight_entries (weight_in weights) limits.states)
   pub held : (b : ℕ) → b < limits.states → weight_in weights b ≡ weight_to_block blocks es b
 
--- a transition r of a sound model, a block for each state, and a table of weights that their fields have room for
-pub record CanDivide (s places : List ℕ) (r : ℕ) (blocks weights : List ℕ) : Type 0 where
-  pub transition : KnownTransition s places r
+-- a transition r of a sound model of so many, a block for each state, and a table of weights that their fields have room for
+pub record CanDivide (s : List ℕ) (count r : ℕ) (blocks weights : List ℕ) : Type 0 where
+  pub less : r < count
   pub whole : length blocks ≡ states_of s
   pub below : (v : ℕ) → v < states_of s → get_or blocks v 0 < limits.states
   pub size : length weights ≡ limits.states

@@ -1,5 +1,5 @@
 -- Laws of the weights by block and of their entries.
-use Prim.Native.Nat.{ℕ, zero, suc, ◌+◌, ◌*◌, ◌-◌, ◌/◌, ◌≤◌, ◌<◌}
+use Prim.Native.Nat.{ℕ, zero, suc, ◌+◌, ◌*◌, ◌/◌, ◌≤◌, ◌<◌}
 use Rattle.std.specs.Prelude.{◌≡◌, ◌⊎◌, length, set, replicate}
 use Rattle.std.proofs.Math.Path.{refl, sym, ap, ap₂, subst}
 use Rattle.std.proofs.Common.{◌∙◌, div-le_self}
@@ -26,8 +26,8 @@ use Rattle.quotient.specs.definitions.Quotient.{weight_to_block, block_entries}
 use Rattle.rules.specs.definitions.SoundModel.{Each, sum_over}
 use Rattle.transition_record.specs.declared.Fields.{Fields}
 use Rattle.transition.specs.declared.Entry as read
-use Rattle.transition.specs.Known.{KnownTransition, FieldsOf, entries_of}
-use Rattle.transition.specs.KnownLaws.{entries-known}
+use Rattle.transition.specs.Known.{Known, KnownTransition, FieldsOf, entries_of}
+use Rattle.transition.specs.KnownLaws.{known-transition, entries-known}
 use Rattle.transition.specs.Entries.{EntryTaken}
 use Rattle.writer.specs.Appends.{Appends}
 use Rattle.writer.specs.AppendsLaws.{append-none, append-more, entries-append}
@@ -235,9 +235,9 @@ walking-all {s} {r = r} t whole below =
       below = λ v h. below v (omega (arith, h, whole));
     }
 
-pub walking_start : {s places blocks : List ℕ} {r : ℕ} → KnownTransition s places r → length blocks ≡ states_of s → ((v : ℕ) → v < states_of s → get_or blocks v 0 < limits.states) → {f : Fields} → FieldsOf s r f → Walking s blocks f.count f.entries.at
-walking_start {s} {blocks = blocks} t whole below {f} x =
-    subst (λ (n : ℕ). Walking s blocks n f.entries.at) (sym x.count) (subst (Walking s blocks _) (sym x.entries) (walking-all t whole below))
+pub walking_start : {s places blocks : List ℕ} {r : ℕ} → KnownTransition s places r → length blocks ≡ states_of s → ((v : ℕ) → v < states_of s → get_or blocks v 0 < limits.states) → {f : Fields} → FieldsOf s r f → {left : ℕ} → left ≡ f.count → Walking s blocks left f.entries.at
+walking_start {s} {blocks = blocks} t whole below {f} x e =
+    subst (λ (n : ℕ). Walking s blocks n f.entries.at) (sym (e ∙ x.count)) (subst (Walking s blocks _) (sym x.entries) (walking-all t whole below))
 
 module _ {s blocks : List ℕ} where
   pub walking-state : (left : ℕ) {at : ℕ} {e : read.Entry} → Walking s blocks left at → 0 < left → EntryTaken s at e → e.state < length blocks
@@ -248,11 +248,11 @@ module _ {s blocks : List ℕ} where
   pub walking-block : (left : ℕ) {at : ℕ} {e : read.Entry} {b : ℕ} → Walking s blocks left at → 0 < left → EntryTaken s at e → b ≡ get_or blocks e.state 0 → b < limits.states
   walking-block left {e = e} h some t q = omega (arith, h.below e.state (walking-state left h some t), q)
 
-  pub walking-turn : (left : ℕ) {at : ℕ} {e : read.Entry} → Walking s blocks left at → 0 < left → EntryTaken s at e → Walking s blocks (left - 1) e.next.at
+  pub walking-turn : (left : ℕ) {rest at : ℕ} {e : read.Entry} → Walking s blocks left at → left ≡ rest + 1 → EntryTaken s at e → Walking s blocks rest e.next.at
   unfolding Each entries_at
   walking-turn zero h some t = absurd (omega arith)
-  walking-turn (suc left) {at} {e} h some t =
-      let one : left ≡ suc left - 1 = omega arith in
+  walking-turn (suc left) {rest} {at} {e} h some t =
+      let one : left ≡ rest = omega arith in
       subst (λ (k : ℕ). Walking s blocks k e.next.at) one
       (subst (Walking s blocks left) (sym t.next) (record { inside = omega (arith, h.inside); states = h.states.1; below = h.below }))
 
@@ -264,23 +264,20 @@ pub record Adding (s blocks : List ℕ) (all : List Entry) (weights : List ℕ) 
   pub makes_up : (b : ℕ) → b < limits.states → weight_in weights b + weight_to_block blocks (entries_at s left at) b ≡ weight_to_block blocks all b
   pub light : (b : ℕ) → weight_to_block blocks all b ≤ 65535
 
-pub adding-start : {s places blocks weights : List ℕ} {r : ℕ} → CanAdd s places r blocks weights → {f : Fields} → FieldsOf s r f → Adding s blocks (entries_of s r) weights 0 f.count f.entries.at
-adding-start {s} {places} {blocks} {weights} {r} a {f} t =
-    let k = entries-known a.transition in
-    subst (λ (n : ℕ). Adding s blocks (entries_of s r) weights 0 n f.entries.at) (sym t.count)
+pub adding-start : {s places blocks weights : List ℕ} {n count r : ℕ} → Known s n count places → CanAdd s count r blocks weights → {f : Fields} → FieldsOf s r f → {left : ℕ} → left ≡ f.count → Adding s blocks (entries_of s r) weights 0 left f.entries.at
+adding-start {s} {places} {blocks} {weights} {r = r} known a {f} t e =
+    let k = entries-known (known-transition known a.less) in
+    subst (λ (n : ℕ). Adding s blocks (entries_of s r) weights 0 n f.entries.at) (sym (e ∙ t.count))
     (subst (λ (p : ℕ). Adding s blocks (entries_of s r) weights 0 (entry_count_at s (place_of s r)) p) (sym t.entries)
     (record {
       counted = ap length (no-entries (λ b. 0) (λ b. refl) limits.states ∙ sym (entries-same (weight_in weights) (λ b. 0) limits.states (λ b h. a.none.none b h)));
-      walking = walking-all a.transition a.whole a.below;
+      walking = walking-all (known-transition known a.less) a.whole a.below;
       size = a.none.size;
       makes_up = λ b h. omega (arith, a.none.none b h);
       light = λ b. omega (arith, weight-light blocks (entries_of s r) b, k.whole, k.light);
     }))
 
 module _ {s blocks : List ℕ} {all : List Entry} where
-  pub adding-fits : {left at : ℕ} {weights : List ℕ} {count b : ℕ} → Adding s blocks all weights count left at → b < limits.states → weight_in weights b ≤ 65535
-  adding-fits {b = b} h less = omega (arith, h.makes_up b less, h.light b)
-
   one-turn : (left at : ℕ) (weights : List ℕ) (count more : ℕ) (e : read.Entry) (b total : ℕ) → Adding s blocks all weights count (suc left) at → EntryTaken s at e → b ≡ get_or blocks e.state 0 → total ≡ weight_in weights b + e.weight → more + if_same (weight_in weights b) 0 0 1 ≡ count + if_same total 0 0 1 → Adding s blocks all (set weights b total) more left (at + 3)
   unfolding Each entries_at weight_to_block
   one-turn left at weights count more e b total h t q u v =
@@ -308,10 +305,10 @@ module _ {s blocks : List ℕ} {all : List Entry} where
           let here : 0 ≡ if_same (get_or blocks (byte_at s at) 0) i (two_at s (at + 1)) 0 = not_same _ (λ d. p (sym d ∙ sym there)) refl in
           omega (arith, h.makes_up i less, here, get_or-set_other weights b i total 0 p)
 
-  pub adding-turn : (left : ℕ) {at : ℕ} {weights : List ℕ} {count more : ℕ} {e : read.Entry} {b total : ℕ} → Adding s blocks all weights count left at → 0 < left → EntryTaken s at e → b ≡ get_or blocks e.state 0 → total ≡ weight_in weights b + e.weight → more + if_same (weight_in weights b) 0 0 1 ≡ count + if_same total 0 0 1 → Adding s blocks all (set weights b total) more (left - 1) e.next.at
+  pub adding-turn : (left : ℕ) {rest at : ℕ} {weights : List ℕ} {count more : ℕ} {e : read.Entry} {b total : ℕ} → Adding s blocks all weights count left at → left ≡ rest + 1 → EntryTaken s at e → b ≡ get_or blocks e.state 0 → total ≡ weight_in weights b + e.weight → more + if_same (weight_in weights b) 0 0 1 ≡ count + if_same total 0 0 1 → Adding s blocks all (set weights b total) more rest e.next.at
   adding-turn zero h some t q u v = absurd (omega arith)
-  adding-turn (suc left) {at} {weights} {count} {more} {e} {b} {total} h some t q u v =
-      let one : left ≡ suc left - 1 = omega arith in
+  adding-turn (suc left) {rest} {at} {weights} {count} {more} {e} {b} {total} h some t q u v =
+      let one : left ≡ rest = omega arith in
       subst (λ (k : ℕ). Adding s blocks all (set weights b total) more k e.next.at) one
       (subst (λ (p : ℕ). Adding s blocks all (set weights b total) more left p) (sym t.next)
       (one-turn left at weights count more e b total h t q u v))
@@ -413,20 +410,20 @@ pub record Dividing (s blocks weights : List ℕ) (all : List Entry) (g left at 
   pub size : length weights ≡ limits.states
   pub whole : divisor_of g (weights_by_block blocks weights (entries_at s left at)) ≡ divisor_of 0 (weights_by_block blocks weights all)
 
-pub dividing-start : {s places blocks weights : List ℕ} {r : ℕ} → CanDivide s places r blocks weights → {f : Fields} → FieldsOf s r f → Dividing s blocks weights (entries_of s r) 0 f.count f.entries.at
-dividing-start {s} {blocks = blocks} {weights = weights} a {f} t =
+pub dividing-start : {s places blocks weights : List ℕ} {n count r : ℕ} → Known s n count places → CanDivide s count r blocks weights → {f : Fields} → FieldsOf s r f → {left : ℕ} → left ≡ f.count → Dividing s blocks weights (entries_of s r) 0 left f.entries.at
+dividing-start {s} {blocks = blocks} {weights = weights} known a {f} t e =
     record {
-      walking = walking_start a.transition a.whole a.below t;
+      walking = walking_start (known-transition known a.less) a.whole a.below t e;
       size = a.size;
-      whole = ap₂ (λ (n p : ℕ). divisor_of 0 (weights_by_block blocks weights (entries_at s n p))) t.count t.entries;
+      whole = ap₂ (λ (n p : ℕ). divisor_of 0 (weights_by_block blocks weights (entries_at s n p))) (e ∙ t.count) t.entries;
     }
 
 module _ {s blocks weights : List ℕ} {all : List Entry} where
-  pub dividing-turn : (left : ℕ) {g at : ℕ} {e : read.Entry} {b x : ℕ} → Dividing s blocks weights all g left at → 0 < left → EntryTaken s at e → b ≡ get_or blocks e.state 0 → x ≡ divisor g (weight_in weights b) → Dividing s blocks weights all x (left - 1) e.next.at
+  pub dividing-turn : (left : ℕ) {rest g at : ℕ} {e : read.Entry} {b x : ℕ} → Dividing s blocks weights all g left at → left ≡ rest + 1 → EntryTaken s at e → b ≡ get_or blocks e.state 0 → x ≡ divisor g (weight_in weights b) → Dividing s blocks weights all x rest e.next.at
   unfolding entries_at weights_by_block divisor_of
   dividing-turn zero h some t q u = absurd (omega arith)
-  dividing-turn (suc left) {g} {at} {e} {b} {x} h some t q u =
-      let one : suc left - 1 ≡ left = omega arith in
+  dividing-turn (suc left) {rest} {g} {at} {e} {b} {x} h some t q u =
+      let one : rest ≡ left = omega arith in
       record {
         walking = walking-turn (suc left) h.walking some t;
         size = h.size;

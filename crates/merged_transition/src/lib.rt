@@ -10,7 +10,7 @@ ghost use Rattle.merged_transition.specs.MergedTransition.{NoWeights, CanMerge, 
 ghost use Rattle.merged_transition.specs.Weights.{weights_by_block, CanAdd, WeightsOf, CanDivide, CanWriteEntry, WroteEntry, CanWriteEntries, WroteEntries};
 
 use limits::STATES;
-use model::Places;
+use sound_model::SoundModel;
 
 // The weight to each block; all zero between transitions.
 pub type Weights = [u32; STATES];
@@ -44,38 +44,35 @@ fn counted(count: usize, before: usize, after: usize) -> usize
 }
 
 // The weights of the transition r added up by target block. Hands back how many blocks have one.
-fn add_weights(s: &[u8], places: &Places, r: usize, blocks: &[u8], weights: &mut Weights) -> usize
-    requires { CanAdd s.now places.now r blocks.now weights.old }
-    ensures { WeightsOf blocks.now (entries_of s.now r) weights.new result }
+fn add_weights(model: SoundModel, r: usize, blocks: &[u8], weights: &mut Weights) -> usize
+    requires { CanAdd model.file.now model.transitions r blocks.now weights.old }
+    ensures { WeightsOf blocks.now (entries_of model.entry.file.now r) weights.new result }
 {
-    let t = transition::fields_of(s, places, r);
-    let mut left = t.count;
+    let t = model.fields(r);
     let mut place = t.entries;
     let mut count = 0;
-    while 0 < left {
-        let entry = transition::entry_at(s, place);
+    for _ in 0..t.count {
+        let entry = transition::entry_at(model.file, place);
         let b = block_of(blocks, entry.state);
         let weight = weights[b] as usize;
         let sum = weight + entry.weight;
         count = counted(count, weight, sum);
         weights[b] = sum as u32;
         place = entry.next;
-        left -= 1;
     }
     count
 }
 
 // The greatest common divisor of the weights of the blocks that the transition r leads to.
-fn common_divisor(s: &[u8], places: &Places, r: usize, blocks: &[u8], weights: &Weights) -> usize
-    requires { CanDivide s.now places.now r blocks.now weights.now }
-    ensures { result ≡ numbers.divisor_of 0 (weights_by_block blocks.now weights.now (entries_of s.now r)) }
+fn common_divisor(model: SoundModel, r: usize, blocks: &[u8], weights: &Weights) -> usize
+    requires { CanDivide model.file.now model.transitions r blocks.now weights.now }
+    ensures { result ≡ numbers.divisor_of 0 (weights_by_block blocks.now weights.now (entries_of model.entry.file.now r)) }
 {
-    let t = transition::fields_of(s, places, r);
-    let mut left = t.count;
+    let t = model.fields(r);
     let mut place = t.entries;
     let mut g = 0;
-    while 0 < left {
-        let entry = transition::entry_at(s, place);
+    for _ in 0..t.count {
+        let entry = transition::entry_at(model.file, place);
         let b = block_of(blocks, entry.state);
         let weight = weights[b] as usize;
         g = transition_terms::with_weight(g, weight);
@@ -83,7 +80,6 @@ fn common_divisor(s: &[u8], places: &Places, r: usize, blocks: &[u8], weights: &
             return 1;
         }
         place = entry.next;
-        left -= 1;
     }
     g
 }
@@ -126,22 +122,19 @@ fn write_entries(
     ensures { WroteEntries g k weights.old weights.new at out.old out.new result }
 {
     let end = at + 3 * count;
-    let mut b = 0;
     let mut next = at;
-    while b < k {
+    for b in 0..k {
         if next == end {
             return next;
         }
         next = write_entry(weights, b, g, out, next);
-        b += 1;
     }
     next
 }
 
 // The record of the transition r, merged by the blocks, of which there are k, in lowest terms. Hands back the place after it.
 pub fn write_merged(
-    s: &[u8],
-    places: &Places,
+    model: SoundModel,
     r: usize,
     blocks: &[u8],
     k: usize,
@@ -149,13 +142,13 @@ pub fn write_merged(
     out: &mut [u8],
     at: usize,
 ) -> usize
-    requires { CanMerge s.now places.now r blocks.now k weights.old out.old at }
-    ensures { Merged s.now r blocks.now weights.new at out.old out.new result }
+    requires { CanMerge model.file.now model.transitions r blocks.now k weights.old out.old at }
+    ensures { Merged model.entry.file.now r blocks.now weights.new at out.old out.new result }
 {
-    let t = transition::fields_of(s, places, r);
+    let t = model.fields(r);
     let source = block_of(blocks, t.source);
-    let count = add_weights(s, places, r, blocks, weights);
-    let g = common_divisor(s, places, r, blocks, weights);
+    let count = add_weights(model, r, blocks, weights);
+    let g = common_divisor(model, r, blocks, weights);
     let d = divided(t.denominator, g);
     let next = writer::fixed(out, at, source, t.action, d, count);
     write_entries(weights, k, count, g, out, next)

@@ -6,7 +6,6 @@ use Rattle.rules.specs.definitions.Reading.{model_at}
 use Rattle.rules.specs.definitions.BlockCount.{block_count}
 use Rattle.quotient.specs.definitions.Quotient.{from_block, distinct, by_block}
 use Rattle.limits.specs.Sizes.{records}
-use Rattle.transition.specs.Known.{Known}
 use Rattle.merged_transition.specs.MergedTransition.{NoWeights, BlocksBelow}
 use Rattle.merged_transitions.specs.declared.Kept.{Kept}
 
@@ -52,8 +51,7 @@ pub record InBlock (s blocks : List ℕ) (b r start : ℕ) (out : List ℕ) (kep
   pub holds : Holds (before blocks (transitions_in s) b ++ here blocks (transitions_in s) b r) out kept
 
 -- before the transition r is looked at, one of the block b
-pub record CanKeep (s places : List ℕ) (n count : ℕ) (blocks : List ℕ) (k b r : ℕ) (weights out : List ℕ) (start : ℕ) (kept : Kept) : Type 0 where
-  pub known : Known s n count places
+pub record CanKeep (s : List ℕ) (n count : ℕ) (blocks : List ℕ) (k b r : ℕ) (weights out : List ℕ) (start : ℕ) (kept : Kept) : Type 0 where
   pub merging : BlocksBelow n k blocks
   pub block : b < k
   pub less : r < count
@@ -69,8 +67,7 @@ pub record Keeps (s blocks : List ℕ) (b r : ℕ) (weights before after : List 
   pub size : length after ≡ length before
 
 -- before a block's transitions are written, and after them
-pub record CanWrite (s places : List ℕ) (n count : ℕ) (blocks : List ℕ) (k b : ℕ) (heads chain weights out : List ℕ) (kept : Kept) : Type 0 where
-  pub known : Known s n count places
+pub record CanWrite (s : List ℕ) (n count : ℕ) (blocks : List ℕ) (k b : ℕ) (heads chain weights out : List ℕ) (kept : Kept) : Type 0 where
   pub merging : BlocksBelow n k blocks
   pub block : b < k
   pub chained : Chained s blocks count 0 heads chain

@@ -20,7 +20,7 @@ use Rattle.quotient.specs.definitions.Quotient.{merged_transition, from_block, i
 use Rattle.quotient.proofs.argument.QuotientLaws.{merged-few, merged-rules, merged-lowest, each-distinct, each_from, transitions-length}
 use Rattle.limits.specs.Sizes.{records}
 use Rattle.transition.specs.Known.{Known}
-use Rattle.transition.specs.KnownLaws.{known-states, known-transitions, known-transition}
+use Rattle.transition.specs.KnownLaws.{known-states, known-transitions}
 use Rattle.writer.specs.Appends.{Appends}
 use Rattle.writer.specs.AppendsLaws.{front_kept, appended-part, appended-front, transitions-append}
 use Rattle.merged_transition.specs.MergedTransition.{BlocksBelow, CanMerge, Merged}
@@ -121,29 +121,29 @@ skip-others {s} {blocks = blocks} {b} {r} {x} {out = out} {kept} k f h =
     }
 
 -- one of the block b
-module _ {s places : List ℕ} {n count : ℕ} {blocks : List ℕ} {k b r : ℕ} {weights out : List ℕ} {start : ℕ} {kept : Kept} (c : CanKeep s places n count blocks k b r weights out start kept) where
+module _ {s places : List ℕ} {n count : ℕ} {blocks : List ℕ} {k b r : ℕ} {weights out : List ℕ} {start : ℕ} {kept : Kept} (known : Known s n count places) (c : CanKeep s n count blocks k b r weights out start kept) where
   below : r < length (transitions_in s)
-  below = omega (arith, c.less, count-is c.known)
+  below = omega (arith, c.less, count-is known)
 
   abbrev done : List Transition
   done = before blocks (transitions_in s) b ++ here blocks (transitions_in s) b r
 
   next-rules : TransitionRules (length (model_at s).labels) (model_at s).actions (get_or (transitions_in s) r no_transition)
-  next-rules = each_at _ (transitions_in s) r no_transition c.known.sound.transitions below
+  next-rules = each_at _ (transitions_in s) r no_transition known.sound.transitions below
 
-  pub can-merge : CanMerge s places r blocks k weights out kept.size
+  pub can-merge : CanMerge s count r blocks k weights out kept.size
   can-merge =
       record {
-        transition = known-transition c.known c.less;
-        merging = subst (λ (x : ℕ). BlocksBelow x k blocks) c.known.states c.merging;
+        less = c.less;
+        merging = subst (λ (x : ℕ). BlocksBelow x k blocks) known.states c.merging;
         none = c.none;
         room =
-            omega (arith, room blocks (transitions_in s) (shorter c.known c.merging) k b r (blocks-below c.known c.merging) c.block below c.of, few_bytes c.known, c.large, c.held.holds.size, transitions-length done, transition_bytes-length (get_or (transitions_in s) r no_transition), entries_at c.known r c.less);
+            omega (arith, room blocks (transitions_in s) (shorter known c.merging) k b r (blocks-below known c.merging) c.block below c.of, few_bytes known, c.large, c.held.holds.size, transitions-length done, transition_bytes-length (get_or (transitions_in s) r no_transition), entries_at known r c.less);
       }
 
   pub few-kept : kept.count ≤ records
   few-kept =
-      omega (arith, c.held.holds.count, sum_over-length done, sum_over-most (λ (t : Transition). 1) size_of done (each_all _ (λ t. omega (arith, transition_bytes-length t)) done), room blocks (transitions_in s) (shorter c.known c.merging) k b r (blocks-below c.known c.merging) c.block below c.of, few_bytes c.known)
+      omega (arith, c.held.holds.count, sum_over-length done, sum_over-most (λ (t : Transition). 1) size_of done (each_all _ (λ t. omega (arith, transition_bytes-length t)) done), room blocks (transitions_in s) (shorter known c.merging) k b r (blocks-below known c.merging) c.block below c.of, few_bytes known)
 
   module _ {weights' out' : List ℕ} {next : ℕ} (m : Merged s r blocks weights' kept.size out out' next) where
     abbrev added : Transition
@@ -151,7 +151,7 @@ module _ {s places : List ℕ} {n count : ℕ} {blocks : List ℕ} {k b r : ℕ}
 
     appended : Appends (transition_bytes added) kept.size out out' next
     appended =
-        subst (λ (t : Transition). Appends (transition_bytes (merged_transition blocks t)) kept.size out out' next) (sym (transition-at c.known r c.less)) m.appended
+        subst (λ (t : Transition). Appends (transition_bytes (merged_transition blocks t)) kept.size out out' next) (sym (transition-at known r c.less)) m.appended
 
     front : take kept.size out' ≡ transitions_bytes done
     front = front_kept appended ∙ c.held.holds.bytes
@@ -172,11 +172,11 @@ module _ {s places : List ℕ} {n count : ℕ} {blocks : List ℕ} {k b r : ℕ}
           inside = omega (arith, appended.room, appended.size);
           records = middle out' (transitions_bytes (before blocks (transitions_in s) b)) (transitions_bytes (here blocks (transitions_in s) b r)) start kept.size (front ∙ parts) c.held.starts place_is (omega (arith, appended.place, appended.room, appended.size));
           record-bytes = appended-part appended;
-          rules = merged-sound c.known c.merging (get_or (transitions_in s) r no_transition) next-rules;
-          alike = each-distinct (block_count blocks) _ [] (from_block blocks (take r (transitions_in s)) b) (block-sound c.known c.merging b r);
-          lowest = merged-in-lowest c.known c.merging (get_or (transitions_in s) r no_transition) next-rules;
+          rules = merged-sound known c.merging (get_or (transitions_in s) r no_transition) next-rules;
+          alike = each-distinct (block_count blocks) _ [] (from_block blocks (take r (transitions_in s)) b) (block-sound known c.merging b r);
+          lowest = merged-in-lowest known c.merging (get_or (transitions_in s) r no_transition) next-rules;
           all_lowest =
-              each-distinct (block_count blocks) _ [] (from_block blocks (take r (transitions_in s)) b) (block-each c.known c.merging LowestTerms (merged-in-lowest c.known c.merging) b r);
+              each-distinct (block_count blocks) _ [] (from_block blocks (take r (transitions_in s)) b) (block-each known c.merging LowestTerms (merged-in-lowest known c.merging) b r);
         }
 
     one_more : here blocks (transitions_in s) b (r + 1) ≡ here blocks (transitions_in s) b r ++ if_true (is_among (block_count blocks) added (here blocks (transitions_in s) b r)) [] (added ∷ [])
@@ -184,7 +184,7 @@ module _ {s places : List ℕ} {n count : ℕ} {blocks : List ℕ} {k b r : ℕ}
         ap (distinct (block_count blocks) [])
         (from_more blocks b (transitions_in s) r below
         ∙ ap (λ (l : List Transition). from_block blocks (take r (transitions_in s)) b ++ l) (sym (same [] c.of refl)))
-        ∙ distinct_more (block_count blocks) (from_block blocks (take r (transitions_in s)) b) added (each_map _ _ (λ t h. h.positive) (from_block blocks (take r (transitions_in s)) b) (block-sound c.known c.merging b r))
+        ∙ distinct_more (block_count blocks) (from_block blocks (take r (transitions_in s)) b) added (each_map _ _ (λ t h. h.positive) (from_block blocks (take r (transitions_in s)) b) (block-sound known c.merging b r))
 
     -- the same as one before it
     pub keep-repeated : {x : Bool} → x ≡ true → IsRepeated out' start kept.size x → Keeps s blocks b r weights' out out' start kept

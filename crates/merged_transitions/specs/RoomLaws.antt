@@ -1,18 +1,18 @@
 -- The merged records written so far and the next record as it was have room where the model's own records had.
 use Rattle.std.specs.Prelude.{ℕ, zero, suc, ◌+◌, ◌-◌, ◌≤◌, ◌<◌, ◌≡◌, length, get_or, take, drop}
 use Rattle.std.proofs.Math.Path.{refl, ap}
-use Rattle.std.proofs.Common.{sym, ◌∙◌, take-append-drop, take-suc}
+use Rattle.std.proofs.Common.{◌∙◌, take-append-drop, take-suc}
 use mathlib.Core.List.{List, [], ◌∷◌, ◌++◌}
 use Rattle.std.proofs.Math.Seq.{take_all}
 use native.Mathlib.Omega.{arith}
 use Rattle.bisimulation.specs.definitions.Choice.{if_same}
-use Rattle.bisimulation.proofs.argument.ChoiceLaws.{same, either_same}
+use Rattle.bisimulation.proofs.argument.ChoiceLaws.{same}
 use Rattle.bisimulation.specs.definitions.Sum.{sum}
 use Rattle.bisimulation.proofs.argument.SumLaws.{sum_mono}
 use Rattle.rules.specs.definitions.Model.{Transition, transition_bytes, no_transition}
 use Rattle.rules.specs.definitions.SoundModel.{Each, sum_over}
 use Rattle.rules.specs.definitions.BlockCount.{block_count}
-use Rattle.quotient.specs.definitions.Quotient.{merged_transition, from_block, distinct, by_block}
+use Rattle.quotient.specs.definitions.Quotient.{merged_transition, from_block}
 use Rattle.quotient.proofs.argument.KeyedSums.{sum-next, sum_over-append, sum_over-most, sum_at, sum_at-all}
 use Rattle.quotient.proofs.argument.QuotientLaws.{sum-distinct, sum-from, sum-by-block}
 use Rattle.merged_transitions.specs.MergedTransitions.{before, here}

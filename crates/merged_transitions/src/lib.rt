@@ -3,13 +3,12 @@
 
 ghost use Rattle.std.specs.Prelude.{◌≤◌, ◌<◌, length};
 ghost use Rattle.limits.specs.Sizes.{records};
-ghost use Rattle.transition.specs.Known.{Known};
 ghost use Rattle.merged_transition.specs.MergedTransition.{BlocksBelow};
 ghost use Rattle.merged_transitions.specs.MergedTransitions.{Chained, CanKeep, Keeps, CanWrite, Wrote, WroteAll};
 
 use limits::{STATES, TRANSITIONS};
 use merged_transition::Weights;
-use model::Places;
+use sound_model::SoundModel;
 
 // The transitions of the merged model: how many, and how many bytes their records have.
 #[derive(Clone, Copy)]
@@ -25,23 +24,12 @@ type Heads = [u16; STATES];
 type Chain = [u16; TRANSITIONS];
 
 // The transitions chained by block, from the last to the first.
-fn chain_by_block(
-    s: &[u8],
-    n: usize,
-    count: usize,
-    places: &Places,
-    blocks: &[u8],
-    k: usize,
-    heads: &mut Heads,
-    chain: &mut Chain,
-)
-    requires { Known s.now n count places.now × BlocksBelow n k blocks.now × Chained s.now blocks.now count count heads.old chain.old }
-    ensures { Chained s.now blocks.now count 0 heads.new chain.new }
+fn chain_by_block(model: SoundModel, blocks: &[u8], k: usize, heads: &mut Heads, chain: &mut Chain)
+    requires { BlocksBelow model.states k blocks.now × Chained model.file.now blocks.now model.transitions model.transitions heads.old chain.old }
+    ensures { Chained model.entry.file.now blocks.now model.entry.transitions 0 heads.new chain.new }
 {
-    let mut r = count;
-    while 0 < r {
-        r -= 1;
-        let source = transition::fields_of(s, places, r).source;
+    for r in (0..model.transitions).rev() {
+        let source = model.fields(r).source;
         let b = merged_transition::block_of(blocks, source);
         chain[r] = heads[b];
         heads[b] = r as u16;
@@ -50,10 +38,7 @@ fn chain_by_block(
 
 // The transition r of the block b merged and appended, if it is the same as none from `start` on.
 fn keep_of_block(
-    s: &[u8],
-    n: usize,
-    count: usize,
-    places: &Places,
+    model: SoundModel,
     r: usize,
     blocks: &[u8],
     k: usize,
@@ -63,10 +48,10 @@ fn keep_of_block(
     start: usize,
     kept: Kept,
 ) -> Kept
-    requires { CanKeep s.now places.now n count blocks.now k b r weights.old out.old start kept }
-    ensures { Keeps s.now blocks.now b r weights.new out.old out.new start result }
+    requires { CanKeep model.file.now model.states model.transitions blocks.now k b r weights.old out.old start kept }
+    ensures { Keeps model.entry.file.now blocks.now b r weights.new out.old out.new start result }
 {
-    let next = merged_transition::write_merged(s, places, r, blocks, k, weights, out, kept.size);
+    let next = merged_transition::write_merged(model, r, blocks, k, weights, out, kept.size);
     let longer = Kept {
         count: kept.count + 1,
         size: next,
@@ -77,12 +62,10 @@ fn keep_of_block(
     longer
 }
 
-// The transitions of the block b, by original place.
+// The transitions of the block b, by original place. They are a list by numbers in the two tables: a pass over all transitions for each block
+// is slower, and there is no heap.
 fn write_block(
-    s: &[u8],
-    n: usize,
-    count: usize,
-    places: &Places,
+    model: SoundModel,
     blocks: &[u8],
     k: usize,
     b: usize,
@@ -92,46 +75,32 @@ fn write_block(
     out: &mut [u8],
     initial: Kept,
 ) -> Kept
-    requires { CanWrite s.now places.now n count blocks.now k b heads.now chain.now weights.old out.old initial }
-    ensures { Wrote s.now blocks.now b weights.new out.old out.new result }
+    requires { CanWrite model.file.now model.states model.transitions blocks.now k b heads.now chain.now weights.old out.old initial }
+    ensures { Wrote model.entry.file.now blocks.now b weights.new out.old out.new result }
 {
     let start = initial.size;
     let mut kept = initial;
     let mut r = heads[b] as usize;
-    while r < count {
-        kept = keep_of_block(
-            s, n, count, places, r, blocks, k, b, weights, out, start, kept,
-        );
+    while r < model.transitions {
+        kept = keep_of_block(model, r, blocks, k, b, weights, out, start, kept);
         r = chain[r] as usize;
     }
     kept
 }
 
 // The transitions of the merged model, by block, from the start of a buffer on.
-pub fn write_transitions(
-    s: &[u8],
-    n: usize,
-    count: usize,
-    places: &Places,
-    blocks: &[u8],
-    k: usize,
-    out: &mut [u8],
-) -> Kept
-    requires { Known s.now n count places.now × BlocksBelow n k blocks.now × (records ≤ length out.old) }
-    ensures { WroteAll s.now blocks.now k out.old out.new result }
+pub fn write_transitions(model: SoundModel, blocks: &[u8], k: usize, out: &mut [u8]) -> Kept
+    requires { BlocksBelow model.states k blocks.now × (records ≤ length out.old) }
+    ensures { WroteAll model.entry.file.now blocks.now k out.old out.new result }
 {
-    let mut heads = [count as u16; STATES];
+    let mut heads = [model.transitions as u16; STATES];
     let mut chain = [0; TRANSITIONS];
-    chain_by_block(s, n, count, places, blocks, k, &mut heads, &mut chain);
+    chain_by_block(model, blocks, k, &mut heads, &mut chain);
     let mut weights = merged_transition::no_weights();
     let mut kept = Kept { count: 0, size: 0 };
-    let mut block = 0;
-    while block < k {
+    for block in 0..k {
         kept = write_block(
-            s,
-            n,
-            count,
-            places,
+            model,
             blocks,
             k,
             block,
@@ -141,7 +110,6 @@ pub fn write_transitions(
             out,
             kept,
         );
-        block += 1;
     }
     kept
 }

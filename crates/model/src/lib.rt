@@ -8,7 +8,7 @@ ghost use Rattle.limits.specs.Sizes as sizes;
 ghost use Rattle.limits.specs.TermsBy.{limits_by};
 ghost use Rattle.model.specs.Scanned.{scan_of, Scans};
 
-use fault::Fault;
+use fault::{Fault, Refusal};
 use field::Cursor;
 use limits::{PLACES, Terms};
 
@@ -24,12 +24,6 @@ pub struct Model {
     pub end: usize,
 }
 
-#[derive(Clone, Copy)]
-pub enum Scanned {
-    Sound(Model),
-    Refused(Fault),
-}
-
 fn scan_transitions(
     s: &[u8],
     terms: Terms,
@@ -37,29 +31,22 @@ fn scan_transitions(
     m: usize,
     count: usize,
     places: &mut Places,
-) -> Scanned
+) -> Result<Model, Fault>
     requires { (n ≡ states_of s.now) × (8 + n ≤ length s.now) × (count ≤ limits.transitions) × (length places.old ≡ sizes.places) }
     ensures { Scans s.now (scan_transitions (limits_by terms) s.now n m count count 0 0 (8 + n)) result places.new }
 {
-    let mut left = count;
     let mut last = 0;
     let mut entries = 0;
     let mut place = Cursor::new(8 + n);
-    while 0 < left {
-        let t = transition_record::transition_at(s, terms, n, m, last, entries, place);
-        let wrong = t.fault;
-        if wrong.number != 0 {
-            return Scanned::Refused(wrong);
-        }
-        let r = count - left;
+    for r in 0..count {
+        let t = transition_record::transition_at(s, terms, n, m, last, entries, place)?;
         places[r] = place.at;
         last = t.source;
         entries += t.count;
         place = t.next;
-        left -= 1;
     }
     places[count] = place.at;
-    Scanned::Sound(Model {
+    Ok(Model {
         states: n,
         actions: m,
         transitions: count,
@@ -69,15 +56,12 @@ fn scan_transitions(
 
 // Refusals 1 to 8 and 34 from the labels on, or a sound model with the place of each of its transitions. The caller has judged the head, before
 // it makes the table: most of what a refusal at the head costs is a cleared table.
-pub fn scan_model(s: &[u8], terms: Terms, places: &mut Places) -> Scanned
+pub fn scan_model(s: &[u8], terms: Terms, places: &mut Places) -> Result<Model, Fault>
     requires { (length places.old ≡ sizes.places) × ((head_fault limits s.now).number ≡ 0) }
     ensures { Scans s.now (scan_model (limits_by terms) s.now) result places.new }
 {
     let head = model_head::head_at(s);
-    let labels = model_head::labels_fault(s, head.states);
-    if labels.number != 0 {
-        return Scanned::Refused(labels);
-    }
+    model_head::labels_fault(s, head.states)?;
     scan_transitions(
         s,
         terms,
@@ -89,36 +73,30 @@ pub fn scan_model(s: &[u8], terms: Terms, places: &mut Places) -> Scanned
 }
 
 // 9, or the model that fills its file.
-pub fn whole(s: &[u8], m: Model) -> Scanned
+pub fn whole(s: &[u8], m: Model) -> Result<Model, Fault>
     ensures { scan_of result ≡ refuse_bytes_left s.now (sound m.states m.actions m.transitions m.end) }
 {
     if m.end < s.len() {
-        return Scanned::Refused(fault::refusal(9).at(m.end));
+        return Err(Refusal::ModelBytesLeft.fault().at(m.end));
     }
-    Scanned::Sound(m)
+    Ok(m)
 }
 
 // Refusals 1 to 9 and 34 from the labels on, or a sound model that fills the file.
-pub fn scan_whole(s: &[u8], terms: Terms, places: &mut Places) -> Scanned
+pub fn scan_whole(s: &[u8], terms: Terms, places: &mut Places) -> Result<Model, Fault>
     requires { (length places.old ≡ sizes.places) × ((head_fault limits s.now).number ≡ 0) }
     ensures { Scans s.now (scan_whole (limits_by terms) s.now) result places.new }
 {
-    let scanned = scan_model(s, terms, places);
-    match scanned {
-        Scanned::Sound(m) => whole(s, m),
-        Scanned::Refused(wrong) => Scanned::Refused(wrong),
-    }
+    let m = scan_model(s, terms, places)?;
+    whole(s, m)
 }
 
 // Refusals 1 to 9 and 34 of a whole file, its head too, where the table is made already.
-pub fn scan_file(s: &[u8], terms: Terms, places: &mut Places) -> Scanned
+pub fn scan_file(s: &[u8], terms: Terms, places: &mut Places) -> Result<Model, Fault>
     requires { length places.old ≡ sizes.places }
     ensures { Scans s.now (scan_whole (limits_by terms) s.now) result places.new }
 {
-    let wrong = model_head::head_fault(s);
-    if wrong.number != 0 {
-        return Scanned::Refused(wrong);
-    }
+    model_head::head_fault(s)?;
     scan_whole(s, terms, places)
 }
 

@@ -4,10 +4,10 @@
 ghost use Rattle.std.specs.Prelude.{◌+◌, ◌≤◌, ◌<◌, length, ◌≡◌};
 ghost use Rattle.rules.specs.definitions.Limits.{limits};
 ghost use Rattle.rules.specs.definitions.Reading.{head_fault, label_fault, labels_fault, range_fault};
-ghost use Rattle.fault.specs.Faults.{fault_of, Placed};
+ghost use Rattle.fault.specs.Faults.{fault_in, Placed};
 ghost use Rattle.model_head.specs.Head.{HeadAt};
 
-use fault::Fault;
+use fault::{Fault, Refusal};
 use field::Cursor;
 use limits::{ACTIONS, LABEL, STATES, TRANSITIONS};
 
@@ -37,65 +37,53 @@ pub fn head_at(s: &[u8]) -> Head
     }
 }
 
-fn range_fault(n: usize, m: usize, count: usize) -> Fault
-    ensures { fault_of result ≡ range_fault limits n m count }
+fn range_fault(n: usize, m: usize, count: usize) -> Result<(), Fault>
+    ensures { fault_in result ≡ range_fault limits n m count }
 {
     if n == 0 {
-        return fault::refusal(3);
+        return Err(Refusal::ModelHead.fault());
     }
     if STATES < n {
-        return fault::refusal(3);
+        return Err(Refusal::ModelHead.fault());
     }
     if m == 0 {
-        return fault::refusal(3);
+        return Err(Refusal::ModelHead.fault());
     }
     if ACTIONS < m {
-        return fault::refusal(3);
+        return Err(Refusal::ModelHead.fault());
     }
     if TRANSITIONS < count {
-        return fault::refusal(3);
+        return Err(Refusal::ModelHead.fault());
     }
-    fault::none()
+    Ok(())
 }
 
 // Refusals 1 to 3 of the head, which begins the file.
-pub fn head_fault(s: &[u8]) -> Fault
+pub fn head_fault(s: &[u8]) -> Result<(), Fault>
     ensures { Placed (head_fault limits s.now) 0 result }
 {
-    let opened = record::open_model(s, 0, HEAD_MARK, 6);
-    if opened.number != 0 {
-        return opened.at(0);
-    }
+    record::open_model(s, 0, HEAD_MARK, 6)?;
     let head = head_at(s);
-    range_fault(head.states, head.actions, head.transitions).at(0)
+    fault::at_place(range_fault(head.states, head.actions, head.transitions), 0)
 }
 
-fn label_fault(s: &[u8], n: usize) -> Fault
+fn label_fault(s: &[u8], n: usize) -> Result<(), Fault>
     requires { 8 + n ≤ length s.now }
-    ensures { fault_of result ≡ label_fault limits s.now n 8 }
+    ensures { fault_in result ≡ label_fault limits s.now n 8 }
 {
-    let mut left = n;
-    let mut place = Cursor::new(8);
-    while 0 < left {
-        let field = place.byte(s);
-        let label = field.value;
-        if LABEL < label {
-            return fault::refusal(4);
+    for label in &s[8..8 + n] {
+        if LABEL < *label as usize {
+            return Err(Refusal::Label.fault());
         }
-        place = field.next;
-        left -= 1;
     }
-    fault::none()
+    Ok(())
 }
 
 // Refusals 1, 2 and 4 of the n labels, which follow the head.
-pub fn labels_fault(s: &[u8], n: usize) -> Fault
+pub fn labels_fault(s: &[u8], n: usize) -> Result<(), Fault>
     requires { (6 ≤ length s.now) × (n < 256) }
     ensures { Placed (labels_fault limits s.now n) 6 result }
 {
-    let opened = record::open_model(s, 6, LABELS_MARK, 2 + n);
-    if opened.number != 0 {
-        return opened.at(6);
-    }
-    label_fault(s, n).at(6)
+    record::open_model(s, 6, LABELS_MARK, 2 + n)?;
+    fault::at_place(label_fault(s, n), 6)
 }

@@ -1,6 +1,6 @@
 -- Document 01, 'They are kept as a row of one bit for each state': bit u of row v says that the pair (v,u) is related.
 -- Document 02, K7: 'The row of related states now takes two words'.
-use Rattle.std.specs.Prelude.{ℕ, ◌+◌, ◌-◌, ◌*◌, ◌<◌, ◌≤◌, ◌≡◌, Bool, false, List, length, get_or, set}
+use Rattle.std.specs.Prelude.{ℕ, ◌+◌, ◌-◌, ◌*◌, ◌<◌, ◌≤◌, ◌≡◌, Bool, false, Option, None, Some, List, length, get_or, set}
 use Rattle.bisimulation.specs.definitions.Choice.{if_less}
 use Rattle.bisimulation.specs.definitions.Pairs.{Pairs}
 use Rattle.rules.specs.definitions.Limits.{limits}
@@ -69,3 +69,8 @@ copied_rows from u v rows = set (set rows (2 * v) (word_at from u 0)) (2 * v + 1
 -- r is the first state from u on of which f holds; where f holds of none, r is no state
 abbrev pub IsNext : (ℕ → Bool) → ℕ → ℕ → Type 0
 IsNext = IsNextBelow limits.states
+
+-- r is the first state from u on of which f holds, if there is one
+abbrev pub IsNextState : (ℕ → Bool) → ℕ → Option ℕ → Type 0
+IsNextState f u None = IsNext f u limits.states
+IsNextState f u (Some r) = (r < limits.states) × IsNext f u r

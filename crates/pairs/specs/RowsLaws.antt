@@ -1,8 +1,9 @@
 -- The laws of the rows.
 use Prim.Native.Nat.{ℕ, zero, suc, ◌+◌, ◌-◌, ◌*◌, ◌/◌, ◌%◌, ◌^◌, ◌≤◌, ◌<◌}
-use Rattle.std.specs.Prelude.{◌≡◌, Bool, List, length, set, replicate}
+use Rattle.std.specs.Prelude.{◌≡◌, Bool, Option, None, Some, List, length, set, replicate}
+use Rattle.std.specs.Option.{unwrap_or}
 use Rattle.std.proofs.Math.Path.{refl, sym, ap, ap₂}
-use Rattle.std.proofs.Common.{◌∙◌, arith, add-zero, add-suc}
+use Rattle.std.proofs.Common.{◌∙◌, subst, arith, add-zero, add-suc}
 use Rattle.std.proofs.Math.Bool.{true, false, cond}
 use Rattle.std.proofs.Math.Decide.{ℕ_discrete, dec_lt}
 use Rattle.std.proofs.Math.Dec.{eqb}
@@ -17,7 +18,7 @@ use Rattle.rules.specs.definitions.Limits.{limits}
 use Rattle.limits.specs.Sizes.{row_words}
 use Rattle.word.specs.Bits.{word_bits, bit_of, put_bit, AreSame, IsNextBelow}
 use Rattle.word.specs.BitsLaws.{bit_of-none, bit_of-put, bit_of-other}
-use Rattle.pairs.specs.Rows.{row_bits, word_of, bit_in, row_bit, word_at, IsPart, NoRows, HoldsPairs, put_rows, cleared_rows, related_rows, removed_rows, copied_rows, IsNext}
+use Rattle.pairs.specs.Rows.{row_bits, word_of, bit_in, row_bit, word_at, IsPart, NoRows, HoldsPairs, put_rows, cleared_rows, related_rows, removed_rows, copied_rows, IsNext, IsNextState}
 
 -- the bit of u stands in the first word of a row, or in the second
 in-first : (v u : ℕ) → u < word_bits → (word_of v u ≡ 2 * v + 0) × (bit_in u ≡ u)
@@ -253,13 +254,29 @@ module _ (rows : List ℕ) (v : ℕ) where
       go i above below (yes p) = first-is rows v e i p ∙ h.none i above (omega arith)
       go i above below (no p) = next.none i (omega arith) below
 
+  pub later-state : {x u k : ℕ} (r : Option ℕ) → x ≡ word_at rows v 0 → IsNextBelow word_bits (bit_of x) u k → word_bits ≤ k → u < word_bits → IsNextState (row_bit rows v) word_bits r → IsNextState (row_bit rows v) u r
+  later-state None e h l low next = next-later e h l low next
+  later-state (Some r) e h l low next = (next.0, next-later e h l low next.1)
+
+-- no state is the next one
+pub no-state : {f : ℕ → Bool} {u r : ℕ} → IsNext f u r → u ≤ limits.states → limits.states ≤ r → IsNext f u limits.states
+no-state n inside h = record { from = inside; none = λ i above below. n.none i above (omega arith); some = λ l. absurd (omega arith) }
+
+pub none-left : (f : ℕ → Bool) {u : ℕ} → u ≤ limits.states → limits.states ≤ u → IsNext f u limits.states
+none-left f inside h = record { from = inside; none = λ i above below. absurd (omega arith); some = λ l. absurd (omega arith) }
+
+-- the next state as a number, which is no state where there is none
+pub as-number : {f : ℕ → Bool} {u x : ℕ} (r : Option ℕ) → x ≡ unwrap_or r limits.states → IsNextState f u r → IsNext f u x
+as-number {f} {u} None e next = subst (IsNext f u) (sym e) next
+as-number {f} {u} (Some r) e next = subst (IsNext f u) (sym e) next.1
+
 -- two rows have the same bits where their words have: x and y are the first words, p and q the second
 module _ (a b : List ℕ) (v u : ℕ) {x y : ℕ} (xe : x ≡ word_at a v 0) (ye : y ≡ word_at b u 0) where
-  pub first-differs : {t : Bool} → AreSame word_bits (bit_of x) (bit_of y) t → t ≡ false → AreSame row_bits (row_bit a v) (row_bit b u) false
+  pub first-differs : {t : Bool} → AreSame word_bits (bit_of x) (bit_of y) t → t ≡ false → AreSame row_bits (row_bit a v) (row_bit b u) t
   first-differs h e =
       record {
-        alike = λ f. absurd (false-not f);
-        differ = λ f all. h.differ e (λ i l. sym (first-is a v xe i l) ∙ all i (omega arith) ∙ first-is b u ye i l);
+        alike = λ f. absurd (false-not (sym e ∙ f));
+        differ = λ f all. h.differ f (λ i l. sym (first-is a v xe i l) ∙ all i (omega arith) ∙ first-is b u ye i l);
       }
 
   pub words_same : {t r : Bool} {p q : ℕ} → AreSame word_bits (bit_of x) (bit_of y) t → t ≡ true → p ≡ word_at a v 1 → q ≡ word_at b u 1 → AreSame word_bits (bit_of p) (bit_of q) r → AreSame row_bits (row_bit a v) (row_bit b u) r

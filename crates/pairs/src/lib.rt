@@ -1,12 +1,12 @@
 // The related pairs, as a row of one bit for each state. Where the words of a row stand only this crate knows; it hands one out by `part`.
 #![tactic(auto)]
 
-ghost use Rattle.std.specs.Prelude.{◌+◌, ◌*◌, ◌≤◌, ◌<◌, ◌≡◌};
+ghost use Rattle.std.specs.Prelude.{◌+◌, ◌*◌, ◌≤◌, ◌<◌, ◌≡◌, cond};
 ghost use Rattle.bisimulation.specs.definitions.Choice.{count_below};
 ghost use Rattle.rules.specs.definitions.Limits.{limits};
 ghost use Rattle.limits.specs.Sizes.{row_words};
 ghost use Rattle.word.specs.Bits.{word_bits, AreSame};
-ghost use Rattle.pairs.specs.Rows.{row_bits, word_of, bit_in, row_bit, word_at, IsPart, NoRows, cleared_rows, removed_rows, related_rows, copied_rows, IsNext};
+ghost use Rattle.pairs.specs.Rows.{row_bits, word_of, bit_in, row_bit, word_at, IsPart, NoRows, put_rows, removed_rows, related_rows, copied_rows, IsNextState};
 
 use limits::{ROW_WORDS, STATES};
 use word::{BITS, Word};
@@ -61,28 +61,32 @@ pub fn related(rows: &Rows, v: usize, u: usize) -> bool
     word::has(rows[word_of(v, u)], bit_in(u))
 }
 
-// The first state from u on that is related to v, where u has its bit in the second word.
-fn next_in_second(rows: &Rows, v: usize, u: usize) -> usize
+// The first state from u on that is related to v, if there is one, where u has its bit in the second word.
+fn next_in_second(rows: &Rows, v: usize, u: usize) -> Option<usize>
     requires { (v < limits.states) × (word_bits ≤ u) × (u < limits.states) }
-    ensures { IsNext (row_bit rows.now v) u result }
+    ensures { IsNextState (row_bit rows.now v) u result }
 {
-    BITS + word::next_bit(word_at(rows, v, 1), u - BITS)
+    let second = word::next_bit(word_at(rows, v, 1), u - BITS);
+    if second < BITS {
+        return Some(BITS + second);
+    }
+    None
 }
 
-// The first state from u on that is related to v, no number below STATES where there is none.
-pub fn next_related(rows: &Rows, v: usize, u: usize) -> usize
+// The first state from u on that is related to v, if there is one.
+pub fn next_related(rows: &Rows, v: usize, u: usize) -> Option<usize>
     requires { (v < limits.states) × (u ≤ limits.states) }
-    ensures { IsNext (row_bit rows.now v) u result }
+    ensures { IsNextState (row_bit rows.now v) u result }
 {
     if STATES <= u {
-        return u;
+        return None;
     }
     if BITS <= u {
         return next_in_second(rows, v, u);
     }
     let first = word::next_bit(word_at(rows, v, 0), u);
     if first < BITS {
-        return first;
+        return Some(first);
     }
     next_in_second(rows, v, BITS)
 }
@@ -100,19 +104,21 @@ pub fn same_in(a: &Rows, v: usize, b: &Rows, u: usize) -> bool
     requires { (v < limits.states) × (u < limits.states) }
     ensures { AreSame row_bits (row_bit a.now v) (row_bit b.now u) result }
 {
-    if !word::same(word_at(a, v, 0), word_at(b, u, 0)) {
-        return false;
-    }
-    word::same(word_at(a, v, 1), word_at(b, u, 1))
+    word::same(word_at(a, v, 0), word_at(b, u, 0)) && word::same(word_at(a, v, 1), word_at(b, u, 1))
 }
 
-// Clears the bit of (v,u).
-fn clear(rows: &mut Rows, v: usize, u: usize)
+// Makes the bit of (v,u) tell whether the pair is related.
+fn put(rows: &mut Rows, v: usize, u: usize, related: bool)
     requires { (v < limits.states) × (u < limits.states) }
-    ensures { rows.new ≡ cleared_rows v u rows.old }
+    ensures { rows.new ≡ put_rows (cond related 1 0) v u rows.old }
 {
-    let cleared = word_of(v, u);
-    rows[cleared] = word::without(rows[cleared], bit_in(u));
+    let at = word_of(v, u);
+    let bit = bit_in(u);
+    rows[at] = if related {
+        word::with(rows[at], bit)
+    } else {
+        word::without(rows[at], bit)
+    };
 }
 
 // Removes (s,t) and (t,s).
@@ -120,8 +126,8 @@ pub fn remove(rows: &mut Rows, s: usize, t: usize)
     requires { (s < limits.states) × (t < limits.states) }
     ensures { rows.new ≡ removed_rows s t rows.old }
 {
-    clear(rows, t, s);
-    clear(rows, s, t);
+    put(rows, t, s, false);
+    put(rows, s, t, false);
 }
 
 // Sets the bit of (v,u).
@@ -129,8 +135,7 @@ pub fn relate(rows: &mut Rows, v: usize, u: usize)
     requires { (v < limits.states) × (u < limits.states) }
     ensures { rows.new ≡ related_rows v u rows.old }
 {
-    let set = word_of(v, u);
-    rows[set] = word::with(rows[set], bit_in(u));
+    put(rows, v, u, true);
 }
 
 // Makes row v that of row u of the other rows.

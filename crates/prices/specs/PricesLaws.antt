@@ -1,13 +1,13 @@
 -- Laws of the tables of prices and of the sums over entries.
 use Prim.Native.Nat.{ℕ, zero, suc, ◌+◌, ◌*◌, ◌-◌, ◌^◌, ◌≤◌, ◌<◌}
-use Rattle.std.specs.Prelude.{◌≡◌, Bool, true, false, not, List, [], ◌∷◌, length, set, ℤ, negsuc, ◌+ℤ◌, ◌*ℤ◌, nat_abs, T, ltb}
+use Rattle.std.specs.Prelude.{◌≡◌, Bool, true, false, not, List, [], ◌∷◌, ◌++◌, length, set, ℤ, negsuc, ◌+ℤ◌, ◌*ℤ◌, nat_abs, T, ltb}
 use Rattle.std.proofs.Math.Path.{sym, ap, ap₂}
-use Rattle.std.proofs.Common.{◌∙◌, subst, length-set, get_or-set_same, get_or-set_other, ltb→lt, nltb→le, to_z-of_z, arith}
+use Rattle.std.proofs.Common.{◌∙◌, subst, below_more, get_or-set_same, get_or-set_other, ltb→lt, nltb→le, to_z-of_z, arith}
+use Rattle.std.proofs.Math.ListN.{get_or-append}
 use Rattle.std.proofs.Math.IntN.{pos, +ℤ_assoc, +ℤ_idl, +ℤ_idr}
 use Rattle.std.specs.Int.Signed.{mag}
 use Rattle.std.specs.Int.{w32, w64}
 use mir.Val.{SFits, to_z, of_z, sel}
-use Rattle.std.proofs.Math.Decide.{ℕ_discrete}
 use Rattle.bisimulation.specs.definitions.Prices.{price_of_targets}
 use Rattle.rules.specs.definitions.Limits.{limits}
 use Rattle.rules.specs.definitions.Bytes.{signed_at}
@@ -27,27 +27,34 @@ use Rattle.signed.specs.TermsLaws.{abs-add, abs-term, mag-abs, term_is, term_fit
 use Rattle.prices.specs.Prices.{HoldsPrices, SmallPrices, price_in, IsPrice, HasPrice, Summable, IsSum}
 use Rattle.prices.specs.Adding.{Summing}
 
--- a table holds no price at first
-pub none-held : (X : ℕ → ℤ) (table : List ℤ) → length table ≡ limits.states → HoldsPrices 0 X table
-none-held X table e = record { size = e; held = λ i h. absurd (omega arith); small = λ i h. absurd (omega arith) }
+-- the first m of a list are prices of X, of four bytes each
+pub record Filled (X : ℕ → ℤ) (m : ℕ) (items : List ℤ) : Type 0 where
+  pub held : (i : ℕ) → i < m → price_in items i ≡ X i
+  pub small : (i : ℕ) → i < m → mag (price_in items i) < 2 ^ 31
+
+-- none at first
+pub filled-none : (X : ℕ → ℤ) (items : List ℤ) → Filled X 0 items
+filled-none X items = record { held = λ i h. absurd (omega arith); small = λ i h. absurd (omega arith) }
 
 -- one more price
-one-more-held : (X : ℕ → ℤ) (table : List ℤ) (n : ℕ) (z : ℤ) → HoldsPrices n X table → n < limits.states → z ≡ X n → mag z < 2 ^ 31 → HoldsPrices (n + 1) X (set table n z)
-one-more-held X table n z h room e small =
-    record {
-      size = length-set table n z ∙ h.size;
-      held = go (λ i y. y ≡ X i) e h.held;
-      small = go (λ i y. mag y < 2 ^ 31) small h.small;
-    }
+filled-more : {X : ℕ → ℤ} {m : ℕ} {items : List ℤ} (z : ℤ) → Filled X m items → m < length items → z ≡ X m → mag z < 2 ^ 31 → Filled X (m + 1) (set items m z)
+filled-more {X} {m} {items} z f room e small =
+    record { held = go (λ i y. y ≡ X i) e f.held; small = go (λ i y. mag y < 2 ^ 31) small f.small }
   where
-    go : (P : ℕ → ℤ → Type 0) → P n z → ((i : ℕ) → i < n → P i (price_in table i)) → (i : ℕ) → i < n + 1 → P i (price_in (set table n z) i)
-    go P here before i less = at (ℕ_discrete i n)
-      where
-        at : Dec (i ≡ n) → P i (price_in (set table n z) i)
-        at (yes q) =
-            subst (λ (k : ℕ). P k (price_in (set table n z) k)) (sym q)
-            (subst (P n) (sym (get_or-set_same table n z (pos 0) (omega (arith, h.size)))) here)
-        at (no q) = subst (P i) (sym (get_or-set_other table n i z (pos 0) q)) (before i (omega arith))
+    go : (P : ℕ → ℤ → Type 0) → P m z → ((i : ℕ) → i < m → P i (price_in items i)) → (i : ℕ) → i < m + 1 → P i (price_in (set items m z) i)
+    go P here before =
+        below_more (λ (i : ℕ). P i (price_in (set items m z) i)) m
+        (λ i less. subst (P i) (sym (get_or-set_other items m i z (pos 0) (λ e. omega arith))) (before i less))
+        (subst (P m) (sym (get_or-set_same items m z (pos 0) room)) here)
+
+-- a table whose first n places are those
+pub filled-holds : {X : ℕ → ℤ} {n : ℕ} {items : List ℤ} (rest : List ℤ) → Filled X n items → length items ≡ n → length (items ++ rest) ≡ limits.states → HoldsPrices n X (items ++ rest)
+filled-holds {items = items} rest f size whole =
+    record {
+      size = whole;
+      held = λ i less. get_or-append items rest (pos 0) i (omega arith) ∙ f.held i less;
+      small = λ i less. subst (λ (z : ℤ). mag z < 2 ^ 31) (sym (get_or-append items rest (pos 0) i (omega arith))) (f.small i less);
+    }
 
 -- and its prices are small
 pub prices-small : {n : ℕ} {X : ℕ → ℤ} {table : List ℤ} → HoldsPrices n X table → SmallPrices n table
@@ -72,15 +79,14 @@ price-read p h = ap (λ (z : ℤ). to_z w64 (of_z w64 z)) (p.is h) ∙ price-bac
 pub sum_back : {es : List Entry} {table : List ℤ} {z : ℤ} → IsSum es table z → to_z w64 (of_z w64 z) ≡ z
 sum_back {z = z} h = to_z-of_z {w = w64} (record { sfits = omega (arith, h.small, mag-abs z) })
 
--- a price that was read from a file, as it goes into a table
+-- a price that was read from a file, as it goes into a list
 module _ {s : List ℕ} {at : ℕ} {p : Price} (read : Priced s at p) where
   pub read_fits : SFits w32 (to_z w64 (of_z w64 p.value))
   read_fits = rw (price-back p.value read.small) (record { sfits = omega (arith, read.small) })
 
-  pub read_held : {X : ℕ → ℤ} {table : List ℤ} {n : ℕ} → HoldsPrices n X table → n < limits.states → signed_at s at ≡ X n → HoldsPrices (n + 1) X (set table n (to_z w32 (of_z w32 (to_z w64 (of_z w64 p.value)))))
-  read_held {X} {table} {n} h room e =
-      rw (to_z-of_z read_fits, price-back p.value read.small)
-      (one-more-held X table n p.value h room (read.value ∙ e) read.small)
+  pub read_filled : {X : ℕ → ℤ} {m : ℕ} {items : List ℤ} → Filled X m items → m < length items → signed_at s at ≡ X m → Filled X (m + 1) (set items m (to_z w32 (of_z w32 (to_z w64 (of_z w64 p.value)))))
+  read_filled f room e =
+      rw (to_z-of_z read_fits, price-back p.value read.small) (filled-more p.value f room (read.value ∙ e) read.small)
 
 -- d times a price, as the machine multiplies them, fits
 module _ {table : List ℤ} {v : ℕ} {price : ℤ} (d : ℕ) (p : IsPrice table v price) (light : d < 65536) (small : mag (price_in table v) < 2 ^ 31) where

@@ -33,14 +33,11 @@ pub fn prices_at(s: &[u8], at: usize, n: usize, out: &mut Prices)
     requires { (n ≤ limits.states) × (at + 4 * n ≤ length s.now) × (length out.old ≡ limits.states) }
     ensures { HoldsPrices n (λ i. signed_at s.now (at + 4 * i)) out.new }
 {
-    let mut i = 0;
     let mut place = Cursor::new(at);
-    while i < n {
+    for price in &mut out[..n] {
         let field = place.price(s);
-        let value = field.value as i32;
-        out[i] = value;
+        *price = field.value as i32;
         place = field.next;
-        i += 1;
     }
 }
 
@@ -51,11 +48,7 @@ pub fn same_price(s: &[u8], at: usize, n: usize, out: &mut Prices)
 {
     let field = Cursor::new(at).price(s);
     let price = field.value as i32;
-    let mut v = 0;
-    while v < n {
-        out[v] = price;
-        v += 1;
-    }
+    out[..n].fill(price);
 }
 
 // The price of a state in a table.
@@ -72,15 +65,13 @@ pub fn sum_of(s: &[u8], at: usize, count: usize, prices: &Prices) -> i64
     requires { Summable s.now count at prices.now }
     ensures { IsSum (entries_at s.now count at) prices.now result }
 {
-    let mut unread = count;
     let mut place = Cursor::new(at);
     let mut sum = 0;
-    while 0 < unread {
+    for _ in 0..count {
         let entry = transition::entry_at(s, place);
         let price = price_of(prices, entry.state);
         sum = signed::with_term(sum, entry.weight, price);
         place = entry.next;
-        unread -= 1;
     }
     sum
 }
@@ -141,18 +132,16 @@ pub fn sums_of(s: &[u8], at: usize, count: usize, first: &Prices, second: &Price
     requires { Summable s.now count at first.now × Summable s.now count at second.now }
     ensures { IsSum (entries_at s.now count at) first.now result.first × IsSum (entries_at s.now count at) second.now result.second }
 {
-    let mut left = count;
     let mut sums = Running {
         first: 0,
         second: 0,
         next: Cursor::new(at),
     };
-    while 3 < left {
+    for _ in 0..count / 4 {
         let half = with_two(s, sums, first, second);
         sums = with_two(s, half, first, second);
-        left -= 4;
     }
-    let all = with_rest(s, sums, first, second, left);
+    let all = with_rest(s, sums, first, second, count % 4);
     Sums {
         first: all.first,
         second: all.second,

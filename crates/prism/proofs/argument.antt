@@ -1,5 +1,6 @@
 -- Laws and theorems: the argument, which the prover has read.
 pub mod PairTable
+pub mod Table
 pub mod MappedLists
 pub mod NameLaws
 pub mod PieceLaws

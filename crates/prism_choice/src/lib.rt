@@ -9,8 +9,14 @@ ghost use Rattle.prism_choice.specs.Targets.{targets_in, over_divisor, TargetsFi
 
 use limits::STATES;
 
-// The targets of a choice, each with its ten-thousandths.
-pub type Targets = [usize; 2 * STATES];
+// A target of a choice, with its ten-thousandths.
+#[derive(Clone, Copy)]
+pub struct Target {
+    pub state: usize,
+    pub parts: usize,
+}
+
+pub type Targets = [Target; STATES];
 
 // The entries of a choice, their weights divided, appended.
 fn write_targets(
@@ -23,11 +29,9 @@ fn write_targets(
     requires { TargetsFit targets.now count × (1 ≤ divisor) × (at + 3 * count ≤ length records.old) }
     ensures { Appends (entries_bytes (map (entry_over divisor) (targets_in targets.now count))) at records.old records.new result }
 {
-    let mut i = 0;
     let mut next = at;
-    while i < count {
-        next = writer::entry(records, next, targets[2 * i], targets[2 * i + 1] / divisor);
-        i += 1;
+    for target in &targets[..count] {
+        next = writer::entry(records, next, target.state, target.parts / divisor);
     }
     next
 }

@@ -1,11 +1,11 @@
 -- Laws of a line and of the head: their fields are the pieces at the spaces.
-use Rattle.std.specs.Prelude.{ℕ, ◌+◌, ◌-◌, ◌≤◌, ◌<◌, Bool, true, false, eqb, length, take, drop}
+use Rattle.std.specs.Prelude.{Option, None, Some, ℕ, ◌+◌, ◌-◌, ◌≤◌, ◌<◌, Bool, true, false, eqb, length, take, drop}
 use Rattle.std.proofs.Math.Path.{◌≡◌, refl, ap}
-use Rattle.std.proofs.Common.{sym, ◌∙◌, subst, inl, inr, length-drop, drop_of_length-le, take_all, eq-eqb, eqb-true, arith}
+use Rattle.std.proofs.Common.{sym, ◌∙◌, ap₂, inl, inr, length-drop, drop_of_length-le, take_all, eq-eqb, eqb-true, arith}
 use mathlib.Core.List.{List, [], ◌∷◌}
 use Rattle.std.proofs.Math.Decide.{ℕ_discrete, dec_lt}
 use Rattle.bisimulation.specs.definitions.Choice.{both}
-use Rattle.bisimulation.proofs.argument.ChoiceLaws.{less, not_less, not_same, is_true, is_false, either_true, past_less, past_same, kept_true, one-test, both_true, true-both}
+use Rattle.bisimulation.proofs.argument.ChoiceLaws.{less, not_less, not_same, is_true, is_false, either_true, past_less, past_same, kept_true, one-test, false-not, both_true, true-both}
 use Rattle.numbers.specs.definitions.Decimal.{value_of, is_number}
 use Rattle.numbers.proofs.argument.DecimalLaws.{number_digits}
 use Rattle.rules.specs.definitions.Limits.{limits}
@@ -17,101 +17,79 @@ use Rattle.prism.proofs.argument.LineLaws.{name-shown, shown-without, good-not}
 use Rattle.prism.proofs.argument.HeadLaws.{HeadRules, head-not}
 use Rattle.prism.proofs.argument.GoesOnLaws.{GoesOn, goes-on-pieces}
 use Rattle.text_fields.specs.Fields.{PieceEnds, number_below}
-use Rattle.text_fields.specs.FieldLaws.{ends-parted, ends_last, number-value, number_small, no_number, small-number, parts-most}
-use Rattle.prism_line.specs.LineRead.{capped, SameLine, Unfit, LineRead, HeadRead}
-use Rattle.prism_line.specs.LineParts.{NoLine, TwoFields, none_head, head_within}
-use Rattle.prism_line.specs.declared.Line.{Line}
-use Rattle.prism_line.specs.declared.Head.{Head}
+use Rattle.text_fields.specs.FieldLaws.{ends-parted, ends_last, number_small, small-number, parts-most}
+use Rattle.prism_line.specs.LineRead.{FormRead, LineRead, HeadIs}
+use Rattle.prism_line.specs.LineParts.{TwoFields, RestIs, RestRead}
+use Rattle.prism_line.specs.declared.Rest.{Rest}
 
--- the line is broken, and so is what was read; or its fields are those that were read
-data LineIs (s : List ℕ) (r : Line) : Type 0 where
-  none : read_line s ≡ prism.broken → r.parts ≡ 0 → LineIs s r
-  some : (a b t p : List ℕ) → read_line s ≡ line_by a b t p (drop r.name s) → r.source ≡ number_below 65536 a → r.choice ≡ number_below 65536 b → r.target ≡ number_below 65536 t → r.parts ≡ ten_thousandths p → LineIs s r
+-- a number that is none, or too high, is not below 65,536
+number-high : (bs : List ℕ) → number_below 65536 bs ≡ 65536 → is_number bs ≡ true → 65536 ≤ value_of bs
+number-high bs e n = go (dec_lt (value_of bs) 65536)
+  where
+    go : Dec (value_of bs < 65536) → 65536 ≤ value_of bs
+    go (yes h) = absurd (omega (arith, number_small 65536 bs n h))
+    go (no h) = omega arith
 
-number-capped : {v : ℕ} (bs : List ℕ) → v ≡ number_below 65536 bs → is_number bs ≡ true → v ≡ capped (value_of bs)
-unfolding capped
-number-capped bs e n = e ∙ sym (number-value 65536 bs n)
+-- what the fields of a line tell
+record Told (a b : List ℕ) (fields : List (List ℕ)) (x : prism.Line) : Type 0 where
+  third : List ℕ
+  fourth : List ℕ
+  more : List (List ℕ)
+  whole : fields ≡ third ∷ fourth ∷ more
+  is_source : is_number a ≡ true
+  is_choice : is_number b ≡ true
+  is_target : is_number third ≡ true
+  source : value_of a ≡ x.source
+  choice : value_of b ≡ x.choice
+  target : value_of third ≡ x.target
+  some : ten_thousandths fourth ≡ 0 → ⊥
 
-is-good : (s : List ℕ) (r : Line) → LineIs s r → (x : prism.Line) → read_line s ≡ prism.good x → SameLine s x r
+by-line : (a b t p name : List ℕ) (more : List (List ℕ)) (x : prism.Line) → line_by a b t p name ≡ prism.good x → Told a b (t ∷ p ∷ more) x
 unfolding line_by
-is-good s r (none e p) x g = absurd (good-not x (sym g ∙ e))
-is-good s r (some a b t p e source choice target parts) x g =
-    let n1 = kept_true _ prism.broken (is_number a) (good-not x) (sym g ∙ e) in
+by-line a b t p name more x g =
+    let n1 = kept_true _ prism.broken (is_number a) (good-not x) (sym g) in
     let n2 = kept_true _ prism.broken (is_number b) (good-not x) n1.1 in
     let n3 = kept_true _ prism.broken (is_number t) (good-not x) n2.1 in
     let n4 = past_same prism.broken _ (ten_thousandths p) 0 (good-not x) n3.1 in
-    let whole : record { source = value_of a; choice = value_of b; target = value_of t; parts = ten_thousandths p; name = drop r.name s } ≡ x = cc n4.1 in
-    subst (λ (y : prism.Line). SameLine s y r) whole
-    (record { source = number-capped a source n1.0; choice = number-capped b choice n2.0; target = number-capped t target n3.0; parts = parts; name = refl })
+    let whole : record { source = value_of a; choice = value_of b; target = value_of t; parts = ten_thousandths p; name = name } ≡ x = cc n4.1 in
+    record {
+      third = t;
+      fourth = p;
+      more = more;
+      whole = refl;
+      is_source = n1.0;
+      is_choice = n2.0;
+      is_target = n3.0;
+      source = ap (λ (y : prism.Line). y.source) whole;
+      choice = ap (λ (y : prism.Line). y.choice) whole;
+      target = ap (λ (y : prism.Line). y.target) whole;
+      some = n4.0;
+    }
 
-is-broken : (s : List ℕ) (r : Line) → LineIs s r → read_line s ≡ prism.broken → Unfit r
-unfolding line_by Unfit
-is-broken s r (none e p) g = inl p
-is-broken s r (some a b t p e source choice target parts) g = go (is_number a) (is_number b) (is_number t) (ℕ_discrete (ten_thousandths p) 0) refl refl refl
-  where
-    go : (x y z : Bool) → Dec (ten_thousandths p ≡ 0) → is_number a ≡ x → is_number b ≡ y → is_number t ≡ z → Unfit r
-    go false y z d n1 n2 n3 = inr (inl (omega (arith, no_number 65536 a n1)))
-    go true false z d n1 n2 n3 = inr (inr (inl (omega (arith, no_number 65536 b n2))))
-    go true true false d n1 n2 n3 = inr (inr (inr (omega (arith, no_number 65536 t n3))))
-    go true true true (yes q) n1 n2 n3 = inl (parts ∙ q)
-    go true true true (no m) n1 n2 n3 =
-        absurd (good-not _ (is_true _ n1 (is_true _ n2 (is_true _ n3 (not_same _ m refl))) ∙ sym e ∙ g))
+tells : (a b : List ℕ) (fields : List (List ℕ)) (x : prism.Line) → fields_line (a ∷ b ∷ fields) ≡ prism.good x → Told a b fields x
+unfolding fields_line line_by
+tells a b [] x g = absurd (good-not x (sym g))
+tells a b (t ∷ []) x g = absurd (good-not x (sym g))
+tells a b (t ∷ p ∷ name ∷ more ∷ ps) x g = absurd (good-not x (sym g))
+tells a b (t ∷ p ∷ []) x g = by-line a b t p [] [] x g
+tells a b (t ∷ p ∷ name ∷ []) x g = by-line a b t p name (name ∷ []) x (sym (kept_true _ prism.broken (is_name name) (good-not x) (sym g)).1)
 
-is-most : (s : List ℕ) (r : Line) → LineIs s r → r.parts ≤ 10000
-is-most s r (none e p) = omega arith
-is-most s r (some a b t p e source choice target parts) = omega (arith, parts-most p)
-
--- what a line with source and choice begins with
-abbrev Prefix : List ℕ → Line → Type 0
-Prefix s r = (c : Choice) → c.source < 65536 → c.number < 65536 → goes_on (begun c) s ≡ both (eqb r.source c.source) (eqb r.choice c.number)
-
-prefix-none : (s : List ℕ) (r : Line) → r.source ≡ 65536 → ((c : Choice) → GoesOn c (pieces 0x20 s) → ⊥) → Prefix s r
-prefix-none s r e n c low small =
-    one-test _ _ (λ g. absurd (n c ((goes-on-pieces c s).0 g)))
-    (λ t. let q : r.source ≡ c.source = eqb-true _ _ (both_true (eqb r.source c.source) (eqb r.choice c.number) t).0 in absurd (omega arith))
-
-prefix-two : (s : List ℕ) (r : Line) (a b rest : List ℕ) → pieces 0x20 s ≡ a ∷ b ∷ pieces 0x20 rest → r.source ≡ number_below 65536 a → r.choice ≡ number_below 65536 b → Prefix s r
-prefix-two s r a b rest whole source choice c low small = one-test _ _ there back
-  where
-    there : goes_on (begun c) s ≡ true → both (eqb r.source c.source) (eqb r.choice c.number) ≡ true
-    there g =
-        let on = (goes-on-pieces c s).0 g in
-        let f : on.first ≡ a = cc (on.whole, whole) in
-        let h : on.second ≡ b = cc (on.whole, whole) in
-        let v : value_of a ≡ c.source = sym (ap value_of f) ∙ on.source in
-        let w : value_of b ≡ c.number = sym (ap value_of h) ∙ on.number in
-        true-both
-        (eq-eqb _ _ (source ∙ sym (number_small 65536 a (sym (ap is_number f) ∙ on.is_source) (omega arith)) ∙ v))
-        (eq-eqb _ _ (choice ∙ sym (number_small 65536 b (sym (ap is_number h) ∙ on.is_choice) (omega arith)) ∙ w))
-
-    back : both (eqb r.source c.source) (eqb r.choice c.number) ≡ true → goes_on (begun c) s ≡ true
-    back t = go (pieces 0x20 rest) refl
-      where
-        go : (ps : List (List ℕ)) → pieces 0x20 rest ≡ ps → goes_on (begun c) s ≡ true
-        go [] q = absurd (pieces-some 0x20 rest q)
-        go (x ∷ xs) q =
-            let k = both_true (eqb r.source c.source) (eqb r.choice c.number) t in
-            let f : r.source ≡ c.source = eqb-true _ _ k.0 in
-            let h : r.choice ≡ c.number = eqb-true _ _ k.1 in
-            let v = small-number 65536 a source (omega arith) in
-            let w = small-number 65536 b choice (omega arith) in
-            (goes-on-pieces c s).1 (record { first = a; second = b; third = x; more = xs; whole = whole ∙ ap (λ (l : List (List ℕ)). a ∷ b ∷ l) q; is_source = v.0; source = v.1 ∙ f; is_choice = w.0; number = w.1 ∙ h })
-
--- so what was read is the line
-read-so : (s : List ℕ) (r : Line) → Prefix s r → LineIs s r → r.name ≤ length s → LineRead s r
-read-so s r prefix is inside =
-    record { prefix = prefix; good = is-good s r is; broken = is-broken s r is; inside = inside; most = is-most s r is }
-
-read_none : (s : List ℕ) (r : Line) → NoLine 65536 65536 r → read_line s ≡ prism.broken → ((c : Choice) → GoesOn c (pieces 0x20 s) → ⊥) → LineRead s r
-read_none s r w e n = read-so s r (prefix-none s r w.source n) (none e w.parts) (omega (arith, w.name))
+-- no line begins with two numbers
+module _ (s : List ℕ) (broken : read_line s ≡ prism.broken) (n : (c : Choice) → GoesOn c (pieces 0x20 s) → ⊥) where
+  read_none : LineRead s None
+  read_none =
+      record {
+        prefix = λ c low few. one-test _ _ (λ g. absurd (n c ((goes-on-pieces c s).0 g))) (λ f. absurd (false-not f));
+        form = λ x g. absurd (good-not x (sym g ∙ broken));
+      }
 
 -- one field, or two
 module _ (s : List ℕ) (first : ℕ) (end : PieceEnds s 0 0x20 first) where
-  pub one_field : first ≡ length s → {r : Line} → NoLine 65536 65536 r → LineRead s r
+  pub one_field : first ≡ length s → LineRead s None
   unfolding read_line fields_line
-  one_field e {r} w =
+  one_field e =
       let whole = ends_last end e in
-      read_none s r w (ap fields_line whole) (λ c g. let z : ◌≡◌ {A = ℕ} 0 1 = cc (g.whole, whole) in omega arith)
+      read_none s (ap fields_line whole) (λ c g. let z : ◌≡◌ {A = ℕ} 0 1 = cc (g.whole, whole) in omega arith)
 
   module _ (more : first ≡ length s → ⊥) where
     first-parted : pieces 0x20 s ≡ take first s ∷ pieces 0x20 (drop (first + 1) s)
@@ -123,15 +101,101 @@ module _ (s : List ℕ) (first : ℕ) (end : PieceEnds s 0 0x20 first) where
       second-last : second ≡ length s → pieces 0x20 s ≡ take first s ∷ take (second - (first + 1)) (drop (first + 1) s) ∷ []
       second-last e = first-parted ∙ ap (λ (l : List (List ℕ)). take first s ∷ l) (ends_last next e)
 
-      pub two_fields : second ≡ length s → {r : Line} → NoLine 65536 65536 r → LineRead s r
+      pub two_fields : second ≡ length s → LineRead s None
       unfolding read_line fields_line
-      two_fields e {r} w =
+      two_fields e =
           let whole = second-last e in
-          read_none s r w (ap fields_line whole) (λ c g. let z : ◌≡◌ {A = ℕ} 0 1 = cc (g.whole, whole) in omega arith)
+          read_none s (ap fields_line whole) (λ c g. let z : ◌≡◌ {A = ℕ} 0 1 = cc (g.whole, whole) in omega arith)
 
       pub fields-two : (second ≡ length s → ⊥) → TwoFields s first second
       fields-two n =
           record { order = omega (arith, next.after); within = omega (arith, next.within); fields = first-parted ∙ ap (λ (l : List (List ℕ)). take first s ∷ l) (ends-parted next n) }
+
+-- more of them
+module _ {s : List ℕ} {first second : ℕ} (two : TwoFields s first second) where
+  abbrev one : List ℕ
+  one = take first s
+
+  abbrev other : List ℕ
+  other = take (second - (first + 1)) (drop (first + 1) s)
+
+  abbrev behind : List (List ℕ)
+  behind = pieces 0x20 (drop (second + 1) s)
+
+  its-fields : read_line s ≡ fields_line (one ∷ other ∷ behind)
+  unfolding read_line
+  its-fields = ap fields_line two.fields
+
+  -- what a line with a source and a choice begins with
+  begins : {c : Choice} → GoesOn c (pieces 0x20 s) → ((is_number one ≡ true) × (value_of one ≡ c.source)) × ((is_number other ≡ true) × (value_of other ≡ c.number))
+  begins {c} on =
+      let f : on.first ≡ one = cc (on.whole, two.fields) in
+      let h : on.second ≡ other = cc (on.whole, two.fields) in
+      ((sym (ap is_number f) ∙ on.is_source, sym (ap value_of f) ∙ on.source), (sym (ap is_number h) ∙ on.is_choice, sym (ap value_of h) ∙ on.number))
+
+  -- one of them is no number, or too high
+  pub no-source : number_below 65536 one ≡ 65536 → LineRead s None
+  no-source e =
+      record {
+        prefix = λ c low few.
+            one-test _ _
+            (λ g. let k = (begins ((goes-on-pieces c s).0 g)).0 in absurd (omega (arith, number-high one e k.0)))
+            (λ f. absurd (false-not f));
+        form = λ x g. let t = tells one other behind x (sym its-fields ∙ g) in inl (omega (arith, number-high one e t.is_source, t.source));
+      }
+
+  pub no-choice : number_below 65536 other ≡ 65536 → LineRead s None
+  no-choice e =
+      record {
+        prefix = λ c low few.
+            one-test _ _
+            (λ g. let k = (begins ((goes-on-pieces c s).0 g)).1 in absurd (omega (arith, number-high other e k.0)))
+            (λ f. absurd (false-not f));
+        form = λ x g.
+            let t = tells one other behind x (sym its-fields ∙ g) in
+            inr (omega (arith, number-high other e t.is_choice, t.choice));
+      }
+
+  -- both are read
+  module _ {v w : ℕ} (source : (v ≡ number_below 65536 one) × (v < 65536)) (choice : (w ≡ number_below 65536 other) × (w < 65536)) where
+    first-is : (is_number one ≡ true) × (value_of one ≡ v)
+    first-is = small-number 65536 one source.0 source.1
+
+    second-is : (is_number other ≡ true) × (value_of other ≡ w)
+    second-is = small-number 65536 other choice.0 choice.1
+
+    begins-two : (c : Choice) → goes_on (begun c) s ≡ both (eqb v c.source) (eqb w c.number)
+    begins-two c = one-test _ _ there (back behind refl)
+      where
+        there : goes_on (begun c) s ≡ true → both (eqb v c.source) (eqb w c.number) ≡ true
+        there g =
+            let k = begins ((goes-on-pieces c s).0 g) in
+            true-both (eq-eqb _ _ (sym first-is.1 ∙ k.0.1)) (eq-eqb _ _ (sym second-is.1 ∙ k.1.1))
+
+        back : (ps : List (List ℕ)) → behind ≡ ps → both (eqb v c.source) (eqb w c.number) ≡ true → goes_on (begun c) s ≡ true
+        back [] q t = absurd (pieces-some 0x20 (drop (second + 1) s) q)
+        back (x ∷ xs) q t =
+            let k = both_true (eqb v c.source) (eqb w c.number) t in
+            let f : v ≡ c.source = eqb-true _ _ k.0 in
+            let h : w ≡ c.number = eqb-true _ _ k.1 in
+            (goes-on-pieces c s).1 (record { first = one; second = other; third = x; more = xs; whole = two.fields ∙ ap (λ (l : List (List ℕ)). one ∷ other ∷ l) q; is_source = first-is.0; source = first-is.1 ∙ f; is_choice = second-is.0; number = second-is.1 ∙ h })
+
+    form-of : (r : Option Rest) → RestRead behind s r → FormRead s (Some (record { source = v; choice = w; rest = r }))
+    form-of None none =
+        λ x g. none one other x (sym its-fields ∙ g)
+    form-of (Some r) k =
+        record {
+          good =
+              its-fields
+              ∙ k.line one other first-is.0 second-is.0
+              ∙ ap₂ (λ (a b : ℕ). prism.good (record { source = a; choice = b; target = r.target; parts = r.parts; name = drop r.name s })) first-is.1 second-is.1;
+          some = k.some;
+          most = k.most;
+          inside = k.inside;
+        }
+
+    pub line-read : (r : Option Rest) → RestRead behind s r → LineRead s (Some (record { source = v; choice = w; rest = r }))
+    line-read r k = record { prefix = λ c low few. begins-two c; form = form-of r k }
 
 -- the part of the bytes from a place on
 to_end : (s : List ℕ) (at : ℕ) → take (length s - at) (drop at s) ≡ drop at s
@@ -154,77 +218,91 @@ unnamed-fields a b t p rest e = go (pieces 0x20 rest) refl
     go (x ∷ y ∷ ys) q = refl
 
 -- the fields behind the two first
-module _ {s : List ℕ} {first second : ℕ} (two : TwoFields s first second) {v w : ℕ} (source : v ≡ number_below 65536 (take first s)) (choice : w ≡ number_below 65536 (take (second - (first + 1)) (drop (first + 1) s))) where
-  abbrev one : List ℕ
-  one = take first s
+module _ {s : List ℕ} {from third : ℕ} (end : PieceEnds s from 0x20 third) where
+  abbrev third-field : List ℕ
+  third-field = take (third - from) (drop from s)
 
-  abbrev other : List ℕ
-  other = take (second - (first + 1)) (drop (first + 1) s)
+  pub three-fields : third ≡ length s → RestRead (pieces 0x20 (drop from s)) s None
+  unfolding fields_line
+  three-fields e a b x g =
+      absurd (good-not x (sym g ∙ ap (λ (l : List (List ℕ)). fields_line (a ∷ b ∷ l)) (ends_last end e)))
 
-  no_line : (r : Line) → NoLine v w r → read_line s ≡ prism.broken → LineRead s r
-  no_line r n e =
-      read-so s r (prefix-two s r one other (drop (second + 1) s) two.fields (n.source ∙ source) (n.choice ∙ choice)) (none e n.parts) (omega (arith, n.name))
+  module _ (more : third ≡ length s → ⊥) where
+    with-third : pieces 0x20 (drop from s) ≡ third-field ∷ pieces 0x20 (drop (third + 1) s)
+    with-third = ends-parted end more
 
-  module _ {third : ℕ} (end : PieceEnds s (second + 1) 0x20 third) where
-    pub three-fields : third ≡ length s → {r : Line} → NoLine v w r → LineRead s r
-    unfolding read_line fields_line
-    three-fields e {r} n =
-        no_line r n (ap fields_line (two.fields ∙ ap (λ (l : List (List ℕ)). one ∷ other ∷ l) (ends_last end e)))
+    pub no-target : number_below 65536 third-field ≡ 65536 → RestRead (pieces 0x20 (drop from s)) s None
+    no-target e a b x g =
+        let t = tells a b _ x g in
+        let f : t.third ≡ third-field = cc (t.whole, with-third) in
+        let n = number-high third-field e (sym (ap is_number f) ∙ t.is_target) in
+        omega (arith, n, ap value_of f, t.target)
 
-    module _ (more : third ≡ length s → ⊥) {fourth : ℕ} (next : PieceEnds s (third + 1) 0x20 fourth) {t p : ℕ} (target : t ≡ number_below 65536 (take (third - (second + 1)) (drop (second + 1) s))) (parts : p ≡ ten_thousandths (take (fourth - (third + 1)) (drop (third + 1) s))) where
-      abbrev third-field : List ℕ
-      third-field = take (third - (second + 1)) (drop (second + 1) s)
-
+    module _ {fourth : ℕ} (next : PieceEnds s (third + 1) 0x20 fourth) where
       abbrev fourth-field : List ℕ
       fourth-field = take (fourth - (third + 1)) (drop (third + 1) s)
 
-      abbrev line : ℕ → Line
-      line name = record { source = v; choice = w; target = t; parts = p; name = name }
+      with-fourth : (ps : List (List ℕ)) → pieces 0x20 (drop (third + 1) s) ≡ fourth-field ∷ ps → pieces 0x20 (drop from s) ≡ third-field ∷ fourth-field ∷ ps
+      with-fourth ps e = with-third ∙ ap (λ (l : List (List ℕ)). third-field ∷ l) e
 
-      with-fourth : (ps : List (List ℕ)) → pieces 0x20 (drop (third + 1) s) ≡ fourth-field ∷ ps → pieces 0x20 s ≡ one ∷ other ∷ third-field ∷ fourth-field ∷ ps
-      with-fourth ps e =
-          two.fields ∙ ap (λ (l : List (List ℕ)). one ∷ other ∷ l) (ends-parted end more ∙ ap (λ (l : List (List ℕ)). third-field ∷ l) e)
+      next-field : (f : List ℕ) (ps : List (List ℕ)) → pieces 0x20 (drop (third + 1) s) ≡ f ∷ ps → f ≡ fourth-field
+      next-field f ps e = go (ℕ_discrete fourth (length s))
+        where
+          go : Dec (fourth ≡ length s) → f ≡ fourth-field
+          go (yes q) = let z = ends_last next q in cc (e, z)
+          go (no q) = let z = ends-parted next q in cc (e, z)
 
-      its-line : (name : ℕ) → name ≤ length s → read_line s ≡ line_by one other third-field fourth-field (drop name s) → LineRead s (line name)
-      its-line name inside e =
-          read-so s (line name) (prefix-two s (line name) one other (drop (second + 1) s) two.fields source choice)
-          (some one other third-field fourth-field e source choice target parts) inside
+      pub no-parts : ten_thousandths fourth-field ≡ 0 → RestRead (pieces 0x20 (drop from s)) s None
+      no-parts e a b x g =
+          let t = tells a b _ x g in
+          let f : pieces 0x20 (drop (third + 1) s) ≡ t.fourth ∷ t.more = cc (t.whole, with-third) in
+          absurd (t.some (ap ten_thousandths (next-field t.fourth t.more f) ∙ e))
 
-      pub four-fields : fourth ≡ length s → LineRead s (line fourth)
-      unfolding read_line fields_line
-      four-fields e =
-          its-line fourth (omega arith)
-          (ap fields_line (with-fourth [] (ends_last next e)) ∙ ap (line_by one other third-field fourth-field) (sym (drop_of_length-le s {i = fourth} (omega arith))))
+      module _ {v p : ℕ} (target : (v ≡ number_below 65536 third-field) × (v < 65536)) (parts : (p ≡ ten_thousandths fourth-field) × (1 ≤ p)) where
+        its-rest : (name : ℕ) → name ≤ length s → ((a b : List ℕ) → fields_line (a ∷ b ∷ pieces 0x20 (drop from s)) ≡ line_by a b third-field fourth-field (drop name s)) → RestIs (pieces 0x20 (drop from s)) s (record { target = v; parts = p; name = name })
+        unfolding line_by
+        its-rest name inside e =
+            let k = small-number 65536 third-field target.0 target.1 in
+            record {
+              line = λ a b n m.
+                  e a b
+                  ∙ sym (is_true _ n (is_true _ m (is_true _ k.0 (not_same _ (λ z. omega (arith, parts.0, parts.1)) refl))))
+                  ∙ ap₂ (λ (x y : ℕ). prism.good (record { source = value_of a; choice = value_of b; target = x; parts = y; name = drop name s })) k.1 (sym parts.0);
+              some = parts.1;
+              most = omega (arith, parts-most fourth-field, parts.0);
+              inside = inside;
+            }
 
-      module _ (n : fourth ≡ length s → ⊥) {shown : Bool} (name : shown ≡ is_name (take (length s - (fourth + 1)) (drop (fourth + 1) s))) where
-        last_name : is_name (drop (fourth + 1) s) ≡ shown
-        last_name = sym (name ∙ ap is_name (to_end s (fourth + 1)))
+        pub four-fields : fourth ≡ length s → RestIs (pieces 0x20 (drop from s)) s (record { target = v; parts = p; name = fourth })
+        unfolding fields_line
+        four-fields e =
+            its-rest fourth (omega arith)
+            (λ a b. ap (λ (l : List (List ℕ)). fields_line (a ∷ b ∷ l)) (with-fourth [] (ends_last next e)) ∙ ap (line_by a b third-field fourth-field) (sym (drop_of_length-le s {i = fourth} (omega arith))))
 
-        pub five-fields : shown ≡ true → LineRead s (line (fourth + 1))
-        unfolding read_line
-        five-fields e =
-            its-line (fourth + 1) (omega (arith, next.within))
-            (ap fields_line (with-fourth _ (ends-parted next n)) ∙ named-fields one other third-field fourth-field (drop (fourth + 1) s) (last_name ∙ e))
+        module _ (n : fourth ≡ length s → ⊥) {shown : Bool} (name : shown ≡ is_name (take (length s - (fourth + 1)) (drop (fourth + 1) s))) where
+          last_name : is_name (drop (fourth + 1) s) ≡ shown
+          last_name = sym (name ∙ ap is_name (to_end s (fourth + 1)))
 
-        pub no_fields : shown ≡ false → {r : Line} → NoLine v w r → LineRead s r
-        unfolding read_line
-        no_fields e {r} b =
-            no_line r b (ap fields_line (with-fourth _ (ends-parted next n)) ∙ unnamed-fields one other third-field fourth-field (drop (fourth + 1) s) (last_name ∙ e))
+          pub five-fields : shown ≡ true → RestIs (pieces 0x20 (drop from s)) s (record { target = v; parts = p; name = fourth + 1 })
+          five-fields e =
+              its-rest (fourth + 1) (omega (arith, next.within))
+              (λ a b. ap (λ (l : List (List ℕ)). fields_line (a ∷ b ∷ l)) (with-fourth _ (ends-parted next n)) ∙ named-fields a b third-field fourth-field (drop (fourth + 1) s) (last_name ∙ e))
+
+          pub no-name : shown ≡ false → RestRead (pieces 0x20 (drop from s)) s None
+          no-name e a b x g =
+              absurd (good-not x (sym g
+              ∙ ap (λ (l : List (List ℕ)). fields_line (a ∷ b ∷ l)) (with-fourth _ (ends-parted next n))
+              ∙ unnamed-fields a b third-field fourth-field (drop (fourth + 1) s) (last_name ∙ e)))
 
 -- the head
-module _ (s : List ℕ) where
-  no-head : (r : Head) → r ≡ none_head → read_head limits s ≡ prism.no_head → HeadRead s r
-  no-head r e n =
-      subst (HeadRead s) (sym e)
-      (record { good = λ h. absurd (omega arith); broken = λ q. n; states = omega arith; choices = omega arith; transitions = omega arith })
-
-  pub head-one : (first : ℕ) → PieceEnds s 0 0x20 first → first ≡ length s → {r : Head} → r ≡ none_head → HeadRead s r
+module _ (s : List ℕ) (first : ℕ) (end : PieceEnds s 0 0x20 first) where
+  pub head-one : first ≡ length s → read_head limits s ≡ prism.no_head
   unfolding read_head fields_head
-  head-one first end e {r} n = no-head r n (ap (fields_head limits) (ends_last end e))
+  head-one e = ap (fields_head limits) (ends_last end e)
 
-  pub head-two : (first : ℕ) → (end : PieceEnds s 0 0x20 first) → (more : first ≡ length s → ⊥) → (second : ℕ) → PieceEnds s (first + 1) 0x20 second → second ≡ length s → {r : Head} → r ≡ none_head → HeadRead s r
+  pub head-two : (more : first ≡ length s → ⊥) → (second : ℕ) → PieceEnds s (first + 1) 0x20 second → second ≡ length s → read_head limits s ≡ prism.no_head
   unfolding read_head fields_head
-  head-two first end more second next e {r} n = no-head r n (ap (fields_head limits) (second-last s first end more second next e))
+  head-two more second next e = ap (fields_head limits) (second-last s first end more second next e)
 
 -- what is behind the second field is the third, or the head is at fault
 module _ (a b rest : List ℕ) where
@@ -268,88 +346,59 @@ numbers-by a b t h e =
     let n7 = past_less prism.no_head _ limits.entries (value_of t) (head-not h) n6.1 in
     record { one = n1.0; other = n2.0; third = n3.0; rules = record { some_state = omega (arith, n4.0); states = n5.0; choices = n6.0; transitions = n7.0 } }
 
--- where none passes its limit
-within-numbers : (n c t : ℕ) (r : Head) → r ≡ head_within n c t → 1 ≤ r.states → (n ≤ limits.states) × (c ≤ limits.transitions) × (t ≤ limits.entries) × (r ≡ record { states = n; choices = c; transitions = t })
-unfolding head_within
-within-numbers n c t r e h =
-    let not : r ≡ none_head → ⊥ = λ q. let z : r.states ≡ 0 = ap (λ (x : Head). x.states) q in omega arith in
-    let a = past_less none_head _ limits.states n not e in
-    let b = past_less none_head _ limits.transitions c not a.1 in
-    let d = past_less none_head _ limits.entries t not b.1 in
-    (a.0, b.0, d.0, d.1)
-
-numbers-within : (n c t : ℕ) (r : Head) → r ≡ head_within n c t → n ≤ limits.states → c ≤ limits.transitions → t ≤ limits.entries → r ≡ record { states = n; choices = c; transitions = t }
-unfolding head_within
-numbers-within n c t r e p q w = e ∙ sym (not_less _ p (not_less _ q (not_less _ w refl)))
-
--- in every case its numbers are within the limits
-record Small (r : Head) : Type 0 where
-  states : r.states ≤ limits.states
-  choices : r.choices ≤ limits.transitions
-  transitions : r.transitions ≤ limits.entries
-
-within-small : (n c t : ℕ) (r : Head) → r ≡ head_within n c t → Small r
-unfolding head_within
-within-small n c t r e = subst Small (sym e) (go (dec_lt limits.states n) (dec_lt limits.transitions c) (dec_lt limits.entries t))
-  where
-    no-numbers : Small none_head
-    no-numbers = record { states = omega arith; choices = omega arith; transitions = omega arith }
-
-    go : Dec (limits.states < n) → Dec (limits.transitions < c) → Dec (limits.entries < t) → Small (head_within n c t)
-    go (yes h) d f = subst Small (less _ h refl) no-numbers
-    go (no h) (yes k) f = subst Small (not_less _ (omega arith) (less _ k refl)) no-numbers
-    go (no h) (no k) (yes l) = subst Small (not_less _ (omega arith) (not_less _ (omega arith) (less _ l refl))) no-numbers
-    go (no h) (no k) (no l) =
-        subst Small (not_less _ (omega arith) (not_less _ (omega arith) (not_less _ (omega arith) refl))) (record { states = omega arith; choices = omega arith; transitions = omega arith })
-
 -- three fields or more
-module _ {s : List ℕ} {first second : ℕ} (two : TwoFields s first second) {n c t : ℕ} (states : n ≡ number_below 65536 (take first s)) (choices : c ≡ number_below 65536 (take (second - (first + 1)) (drop (first + 1) s))) (last : t ≡ number_below 65536 (take (length s - (second + 1)) (drop (second + 1) s))) where
-  abbrev n_field : List ℕ
-  n_field = take first s
+module _ {s : List ℕ} {first second : ℕ} (two : TwoFields s first second) where
+  abbrev last : List ℕ
+  last = take (length s - (second + 1)) (drop (second + 1) s)
 
-  abbrev c-field : List ℕ
-  c-field = take (second - (first + 1)) (drop (first + 1) s)
-
-  abbrev t-field : List ℕ
-  t-field = drop (second + 1) s
-
-  transitions : t ≡ number_below 65536 t-field
-  transitions = last ∙ ap (number_below 65536) (to_end s (second + 1))
-
-  head-whole : read_head limits s ≡ fields_head limits (n_field ∷ c-field ∷ pieces 0x20 t-field)
+  head-whole : read_head limits s ≡ fields_head limits (one two ∷ other two ∷ pieces 0x20 last)
   unfolding read_head
-  head-whole = ap (fields_head limits) two.fields
+  head-whole =
+      ap (fields_head limits) two.fields
+      ∙ ap (λ (l : List ℕ). fields_head limits (one two ∷ other two ∷ pieces 0x20 l)) (sym (to_end s (second + 1)))
 
-  head-numbers : (r : Head) → r ≡ head_within n c t → 1 ≤ r.states → read_head limits s ≡ prism.head (record { states = r.states; choices = r.choices; transitions = r.transitions })
-  head-numbers r e h =
-      let k = within-numbers n c t r e h in
-      let x = small-number 65536 n_field states (omega (arith, k.0)) in
-      let y = small-number 65536 c-field choices (omega (arith, k.1)) in
-      let z = small-number 65536 t-field transitions (omega (arith, k.2)) in
-      let p : value_of n_field ≡ r.states = x.1 ∙ sym (ap (λ (q : Head). q.states) k.3) in
-      let q : value_of c-field ≡ r.choices = y.1 ∙ sym (ap (λ (q : Head). q.choices) k.3) in
-      let w : value_of t-field ≡ r.transitions = z.1 ∙ sym (ap (λ (q : Head). q.transitions) k.3) in
-      head-whole ∙ three-numbers n_field c-field t-field z.0
-      ∙ by-numbers n_field c-field t-field (record { one = x.0; other = y.0; third = z.0; rules = record { some_state = omega arith; states = omega (arith, k.0, x.1); choices = omega (arith, k.1, y.1); transitions = omega (arith, k.2, z.1) } })
-      ∙ (λ i. prism.head (record { states = p i; choices = q i; transitions = w i }))
-
-  head-broken : (r : Head) → r ≡ head_within n c t → r.states ≡ 0 → read_head limits s ≡ prism.no_head
-  head-broken r e q = go (is_number t-field) refl (head_by limits n_field c-field t-field) refl
+  -- its numbers are those of a head, or it is at fault
+  pub head-none : ((is_number (one two) ≡ true) → (is_number (other two) ≡ true) → (is_number last ≡ true) → HeadRules limits (record { states = value_of (one two); choices = value_of (other two); transitions = value_of last }) → ⊥) → read_head limits s ≡ prism.no_head
+  head-none n = go (is_number last) refl (head_by limits (one two) (other two) last) refl
     where
-      go : (b : Bool) → is_number t-field ≡ b → (h : ReadHead) → head_by limits n_field c-field t-field ≡ h → read_head limits s ≡ prism.no_head
-      go false m h g = head-whole ∙ no-numbers n_field c-field t-field m
-      go true m prism.no_head g = head-whole ∙ three-numbers n_field c-field t-field m ∙ g
+      go : (b : Bool) → is_number last ≡ b → (h : ReadHead) → head_by limits (one two) (other two) last ≡ h → read_head limits s ≡ prism.no_head
+      go false m h g = head-whole ∙ no-numbers (one two) (other two) last m
+      go true m prism.no_head g = head-whole ∙ three-numbers (one two) (other two) last m ∙ g
       go true m (prism.head x) g =
-          let numbers = numbers-by n_field c-field t-field x g in
-          let w = numbers.rules in
-          let a = states ∙ sym (number_small 65536 n_field numbers.one (omega (arith, w.states))) in
-          let b = choices ∙ sym (number_small 65536 c-field numbers.other (omega (arith, w.choices))) in
-          let d = transitions ∙ sym (number_small 65536 t-field numbers.third (omega (arith, w.transitions))) in
-          let f = numbers-within n c t r e (omega (arith, w.states)) (omega (arith, w.choices)) (omega (arith, w.transitions)) in
-          let z : r.states ≡ n = ap (λ (y : Head). y.states) f in
-          absurd (omega (arith, w.some_state))
+          let w = numbers-by (one two) (other two) last x g in absurd (n w.one w.other w.third w.rules)
 
-  pub head-fields : {r : Head} → r ≡ head_within n c t → HeadRead s r
-  head-fields {r} e =
-      let k = within-small n c t r e in
-      record { good = head-numbers r e; broken = head-broken r e; states = k.states; choices = k.choices; transitions = k.transitions }
+  pub no-states : number_below 65536 (one two) ≡ 65536 → read_head limits s ≡ prism.no_head
+  no-states e = head-none (λ a b c r. omega (arith, number-high (one two) e a, r.states))
+
+  pub no-choices : number_below 65536 (other two) ≡ 65536 → read_head limits s ≡ prism.no_head
+  no-choices e = head-none (λ a b c r. omega (arith, number-high (other two) e b, r.choices))
+
+  pub no-transitions : number_below 65536 last ≡ 65536 → read_head limits s ≡ prism.no_head
+  no-transitions e = head-none (λ a b c r. omega (arith, number-high last e c, r.transitions))
+
+  module _ {n c t : ℕ} (states : (n ≡ number_below 65536 (one two)) × (n < 65536)) (choices : (c ≡ number_below 65536 (other two)) × (c < 65536)) (transitions : (t ≡ number_below 65536 last) × (t < 65536)) where
+    p : (is_number (one two) ≡ true) × (value_of (one two) ≡ n)
+    p = small-number 65536 (one two) states.0 states.1
+
+    q : (is_number (other two) ≡ true) × (value_of (other two) ≡ c)
+    q = small-number 65536 (other two) choices.0 choices.1
+
+    w : (is_number last ≡ true) × (value_of last ≡ t)
+    w = small-number 65536 last transitions.0 transitions.1
+
+    -- they pass a limit, or are those of the head
+    pub head-beyond : (HeadRules limits (record { states = n; choices = c; transitions = t }) → ⊥) → read_head limits s ≡ prism.no_head
+    head-beyond over = head-none (λ a b d r. over (record { some_state = omega (arith, r.some_state, p.1); states = omega (arith, r.states, p.1); choices = omega (arith, r.choices, q.1); transitions = omega (arith, r.transitions, w.1) }))
+
+    pub head-is : 1 ≤ n → n ≤ limits.states → c ≤ limits.transitions → t ≤ limits.entries → HeadIs s (record { states = n; choices = c; transitions = t })
+    head-is some few less low =
+        record {
+          good =
+              head-whole ∙ three-numbers (one two) (other two) last w.0
+              ∙ by-numbers (one two) (other two) last (record { one = p.0; other = q.0; third = w.0; rules = record { some_state = omega (arith, p.1); states = omega (arith, p.1); choices = omega (arith, q.1); transitions = omega (arith, w.1) } })
+              ∙ (λ i. prism.head (record { states = p.1 i; choices = q.1 i; transitions = w.1 i }));
+          some = some;
+          states = few;
+          choices = less;
+          transitions = low;
+        }

@@ -1,17 +1,18 @@
 -- Laws of names kept as places in the text, and of their numbers.
-use Prim.Native.Nat.{ℕ, zero, suc, ◌+◌, ◌*◌, ◌-◌, ◌≤◌, ◌<◌}
-use Rattle.std.specs.Prelude.{◌≡◌, true, false, length, take, drop, get_or, set}
+use Prim.Native.Nat.{ℕ, zero, suc, ◌+◌, ◌-◌, ◌≤◌, ◌<◌}
+use Rattle.std.specs.Prelude.{◌≡◌, true, false, length, take, drop, set}
 use Rattle.std.proofs.Math.Path.{refl, sym, ap}
-use Rattle.std.proofs.Common.{◌∙◌, subst, length-drop, length-take-le, add-one, arith}
+use Rattle.std.proofs.Common.{◌∙◌, subst, length-set, length-drop, length-take-le, add-one, arith}
 use mathlib.Core.List.{List, [], ◌∷◌, ◌++◌}
 use Rattle.std.proofs.Math.Decide.{ℕ_discrete}
 use Rattle.bisimulation.specs.definitions.Choice.{if_true}
 use Rattle.bisimulation.proofs.argument.ChoiceLaws.{less, not_less, is_true, is_false}
 use Rattle.rules.specs.definitions.Limits.{limits}
 use Rattle.prism.specs.definitions.Reading.{same_bytes, place_among, action_of, with_name}
-use Rattle.prism.proofs.argument.PairTable.{PairSet, pair_set, each_more, Paired, paired-length, paired-next, paired-more}
+use Rattle.prism.proofs.argument.Table.{each_more, Listed, listed-length, listed-next, listed-more}
 use Rattle.prism.proofs.argument.NameLaws.{place-stays, place-behind, action-place, action-most, with-count}
-use Rattle.prism_names.specs.Names.{between, names_in, KnownNames, NameKept}
+use Rattle.prism_names.specs.Names.{between, placed_at, names_in, KnownNames, NameKept}
+use Rattle.prism_names.specs.declared.Name.{Name}
 
 module _ (names : List (List ℕ)) (name : List ℕ) where
   -- the names with one more are within a limit where its action is
@@ -33,21 +34,21 @@ action-none names text from to e =
     let none : 0 ≡ to - from = omega arith in ap (λ (k : ℕ). action_of names (take k (drop from text))) none
 
 -- the names of a table
-abbrev pub name_at : (text table : List ℕ) (i : ℕ) → List ℕ
-name_at text table i = between text (get_or table (2 * i) 0) (get_or table (2 * i + 1) 0)
+abbrev pub bytes_of : (text : List ℕ) → Name → List ℕ
+bytes_of text n = between text n.from n.to
 
-names-paired : (text : List ℕ) → Paired (between text) (names_in text)
+names-listed : (text : List ℕ) → Listed (record { from = 0; to = 0 }) (bytes_of text) (names_in text)
 unfolding names_in
-names-paired text = record { none = λ table. refl; next = λ table i. refl }
+names-listed text = record { none = λ table. refl; next = λ table i. refl }
 
-module _ (text table : List ℕ) where
+module _ (text : List ℕ) (table : List Name) where
   -- they are as many as are counted
   pub names-length : (count : ℕ) → length (names_in text table count) ≡ count
-  names-length = paired-length (names-paired text) table
+  names-length = listed-length (names-listed text) table
 
   -- one more
-  pub names-next : (i : ℕ) → names_in text table (i + 1) ≡ names_in text table i ++ (name_at text table i ∷ [])
-  names-next = paired-next (names-paired text) table
+  pub names-next : (i : ℕ) → names_in text table (i + 1) ≡ names_in text table i ++ (bytes_of text (placed_at table i) ∷ [])
+  names-next = listed-next (names-listed text) table
 
   -- an action is at most one more than the names
   pub action-few : (count : ℕ) (name : List ℕ) → action_of (names_in text table count) name ≤ count + 1
@@ -63,22 +64,22 @@ module _ (text table : List ℕ) where
   new_none name = record { place = refl }
 
   module _ {name : List ℕ} {i : ℕ} (h : NewTo name i) where
-    after : place_among (names_in text table (i + 1)) name ≡ i + if_true (same_bytes (name_at text table i) name) 1 2
+    after : place_among (names_in text table (i + 1)) name ≡ i + if_true (same_bytes (bytes_of text (placed_at table i)) name) 1 2
     unfolding place_among
     after =
         ap (λ (xs : List (List ℕ)). place_among xs name) (names-next i)
         ∙ place-behind (names_in text table i) _ name (omega (arith, h.place, names-length i))
-        ∙ ap (λ (k : ℕ). k + if_true (same_bytes (name_at text table i) name) 1 2) (names-length i)
+        ∙ ap (λ (k : ℕ). k + if_true (same_bytes (bytes_of text (placed_at table i)) name) 1 2) (names-length i)
 
     -- it is new to one more where that is another
-    pub new-more : same_bytes (name_at text table i) name ≡ false → NewTo name (i + 1)
+    pub new-more : same_bytes (bytes_of text (placed_at table i)) name ≡ false → NewTo name (i + 1)
     new-more e = record { place = after ∙ omega (arith, is_false {X = ℕ} {z = 2} {y = 2} 1 e refl) }
 
-    found : same_bytes (name_at text table i) name ≡ true → place_among (names_in text table (i + 1)) name ≡ i + 1
+    found : same_bytes (bytes_of text (placed_at table i)) name ≡ true → place_among (names_in text table (i + 1)) name ≡ i + 1
     found e = after ∙ omega (arith, is_true {X = ℕ} {z = 1} {x = 1} 2 e refl)
 
     -- it has the place of the name that it is the same as
-    pub found_at : same_bytes (name_at text table i) name ≡ true → (count : ℕ) → i < count → place_among (names_in text table count) name ≡ i + 1
+    pub found_at : same_bytes (bytes_of text (placed_at table i)) name ≡ true → (count : ℕ) → i < count → place_among (names_in text table count) name ≡ i + 1
     unfolding names_in
     found_at e zero less = absurd (omega arith)
     found_at e (suc n) less = go (ℕ_discrete i n) (found_at e n)
@@ -95,7 +96,7 @@ module _ (text table : List ℕ) where
     placed = action-place _ (between text from to) (omega (arith, between-length text from to inside))
 
     -- a known name has its place for an action
-    pub action-known : {i : ℕ} → NewTo (between text from to) i → i < count → true ≡ same_bytes (name_at text table i) (between text from to) → i + 1 ≡ action_of (names_in text table count) (between text from to)
+    pub action-known : {i : ℕ} → NewTo (between text from to) i → i < count → true ≡ same_bytes (bytes_of text (placed_at table i)) (between text from to) → i + 1 ≡ action_of (names_in text table count) (between text from to)
     action-known h less e = sym (placed ∙ found_at h (sym e) count less)
 
     -- a new one is numbered next
@@ -104,22 +105,23 @@ module _ (text table : List ℕ) where
         sym (placed ∙ ap (λ (k : ℕ). place_among (names_in text table k) (between text from to)) (sym e) ∙ h.place ∙ ap (λ (k : ℕ). k + 1) e)
 
 -- no names yet
-pub known-none : {text table : List ℕ} → length table ≡ 2 * limits.actions → KnownNames text table 0
+pub known-none : {text : List ℕ} {table : List Name} → length table ≡ limits.actions → KnownNames text table 0
 known-none e =
     record { size = e; most = omega arith; order = λ i low. absurd (omega arith); inside = λ i low. absurd (omega arith) }
 
 -- one more name in the table
-known_more : (text : List ℕ) {before after : List ℕ} {count from to : ℕ} → PairSet before after count from to → KnownNames text before count → count + 1 < limits.actions → from ≤ to → to ≤ length text → KnownNames text after (count + 1)
-known_more text p h few less inside =
+known_more : (text : List ℕ) (table : List Name) (count from to : ℕ) → KnownNames text table count → count + 1 < limits.actions → from ≤ to → to ≤ length text → KnownNames text (set table count (record { from = from; to = to })) (count + 1)
+known_more text table count from to h few less inside =
+    let room : count < length table = omega (arith, h.size) in
     record {
-      size = p.size ∙ h.size;
+      size = length-set table count _ ∙ h.size;
       most = few;
-      order = each_more p (λ (x y : ℕ). x ≤ y) h.order less;
-      inside = each_more p (λ (x y : ℕ). y ≤ length text) h.inside inside;
+      order = each_more _ table count _ room (λ (n : Name). n.from ≤ n.to) h.order less;
+      inside = each_more _ table count _ room (λ (n : Name). n.to ≤ length text) h.inside inside;
     }
 
 -- a known name, or none: the table stays
-pub name-known : (table : List ℕ) {count action : ℕ} (from to : ℕ) → action ≤ count → NameKept table table count action from to count
+pub name-known : (table : List Name) {count action : ℕ} (from to : ℕ) → action ≤ count → NameKept table table count action from to count
 unfolding with_name
 name-known table {count} from to h =
     record {
@@ -128,17 +130,14 @@ name-known table {count} from to h =
     }
 
 -- a new one
-pub name_new : (table : List ℕ) (count action from to : ℕ) → count < action → action ≤ count + 1 → action < limits.actions → NameKept table (set (set table (2 * count) from) (2 * count + 1) to) count action from to action
+pub name_new : (table : List Name) (count action from to : ℕ) → count < action → action ≤ count + 1 → action < limits.actions → NameKept table (set table count (record { from = from; to = to })) count action from to action
 unfolding with_name
 name_new table count action from to new next few =
-    subst (λ (n : ℕ). NameKept table (set (set table (2 * count) from) (2 * count + 1) to) count action from to n) one
+    subst (λ (n : ℕ). NameKept table (set table count (record { from = from; to = to })) count action from to n) one
     (record {
-      known = λ text k less inside. known_more text (told k) k (omega arith) less inside;
-      names = λ text k e. less _ (omega (arith, e, names-length text table count)) (paired-more (names-paired text) (told k));
+      known = λ text k less inside. known_more text table count from to k (omega arith) less inside;
+      names = λ text k e. less _ (omega (arith, e, names-length text table count)) (listed-more (names-listed text) table count _ (omega (arith, k.size)));
     })
   where
     one : count + 1 ≡ action
     one = omega arith
-
-    told : {text : List ℕ} → KnownNames text table count → PairSet table (set (set table (2 * count) from) (2 * count + 1) to) count from to
-    told k = pair_set table count from to (omega (arith, k.size))

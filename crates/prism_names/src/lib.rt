@@ -8,8 +8,14 @@ ghost use Rattle.prism_names.specs.Names.{between, names_in, KnownNames, NameKep
 
 use limits::ACTIONS;
 
-// For each name its beginning and its end in the text.
-pub type Names = [usize; 2 * ACTIONS];
+// Where a name begins and ends in the text.
+#[derive(Clone, Copy)]
+pub struct Name {
+    pub from: usize,
+    pub to: usize,
+}
+
+pub type Names = [Name; ACTIONS];
 
 // The action of the name at these places of the text, 0 where it is empty; one more than there are names where it is new.
 pub fn action_of(text: &[u8], names: &Names, count: usize, from: usize, to: usize) -> usize
@@ -19,14 +25,11 @@ pub fn action_of(text: &[u8], names: &Names, count: usize, from: usize, to: usiz
     if from == to {
         return 0;
     }
-    let mut i = 0;
-    while i < count {
-        let start = names[2 * i];
-        let end = names[2 * i + 1];
-        if text_fields::same(&text[start..end], &text[from..to]) {
+    for i in 0..count {
+        let name = names[i];
+        if text_fields::same(&text[name.from..name.to], &text[from..to]) {
             return i + 1;
         }
-        i += 1;
     }
     count + 1
 }
@@ -39,7 +42,6 @@ pub fn with_name(names: &mut Names, count: usize, action: usize, from: usize, to
     if action <= count {
         return count;
     }
-    names[2 * count] = from;
-    names[2 * count + 1] = to;
+    names[count] = Name { from, to };
     action
 }

@@ -1,26 +1,28 @@
 -- A line is at fault, or taken, as the definition has it.
-use Rattle.std.specs.Prelude.{ℕ, zero, suc, ◌+◌, ◌*◌, ◌-◌, ◌≤◌, ◌<◌, ◌≡◌, true, length, take, drop, set}
+use Rattle.std.specs.Prelude.{ℕ, zero, suc, ◌+◌, ◌-◌, ◌≤◌, ◌≡◌, true, Option, None, Some, MatchOption, length, take, drop, set}
 use Rattle.std.proofs.Math.Path.{refl, sym, ap, subst}
 use Rattle.std.proofs.Common.{◌∙◌, ap₂, ⊎_elim, length-drop, drop-drop, length-take-le, take_all, arith}
-use Rattle.std.proofs.Math.Bool.{false}
+use Rattle.std.proofs.Math.Bool.{Bool, false}
 use mathlib.Core.List.{List, [], ◌∷◌}
 use Rattle.std.proofs.Math.Nat.{sub-zero}
-use Rattle.bisimulation.specs.definitions.Choice.{if_true}
-use Rattle.bisimulation.proofs.argument.ChoiceLaws.{is_true, is_false, false-not}
+use Rattle.bisimulation.proofs.argument.ChoiceLaws.{not_less, either_less, is_true, is_false}
 use Rattle.rules.specs.definitions.Limits.{limits}
 use Rattle.prism.specs.definitions.Lines as prism
 use Rattle.prism.specs.definitions.Lines.{ReadLine, good, broken, read_line}
 use Rattle.prism.specs.definitions.Reading as reading
-use Rattle.prism.specs.definitions.Reading.{Choice, action_of, fault, read, step_read, with_extended, with_begun}
+use Rattle.prism.specs.definitions.Reading.{Choice, action_of, fault, read, step_read}
 use Rattle.prism_line.specs.declared.Line.{Line}
-use Rattle.prism_line.specs.LineRead.{Unfit}
+use Rattle.prism_line.specs.declared.Rest.{Rest}
+use Rattle.prism_names.specs.declared.Name.{Name}
+use Rattle.prism_choice.specs.declared.Target.{Target}
+use Rattle.prism_line.specs.LineRead.{OnlyLines, WholeRead, begins_so}
 use Rattle.prism_names.specs.Names.{between, names_in}
 use Rattle.prism_names.specs.NamesLaws.{action-few}
+use Rattle.prism_step.specs.declared.Begun.{Begun}
 use Rattle.prism_step.specs.declared.Progress.{Progress}
-use Rattle.prism_step.specs.declared.Stepped.{Stepped}
-use Rattle.prism_step.specs.Progressing.{choice_in, progress_in, Holds, goes_on_by, fits_by, extends_by, extended_by, begins_by, begun_by, Extended, Began, CanStep, Takes, StepSays}
-use Rattle.prism_step.specs.PartLaws.{Fits, fits-tells, goes-on-begun, count-least}
-use Rattle.prism_step.specs.ProgressLaws.{takes_by, step-says, same_source, same_target, capped_is, goes-choice, extends-tells, begins-tells, all_in}
+use Rattle.prism_step.specs.Progressing.{progress_in, Holds, goes_on_by, fits_by, extended_by, begun_by, target_of, Extended, Began, CanStep, Takes, StepSays}
+use Rattle.prism_step.specs.PartLaws.{Fits, fits-tells, number-few}
+use Rattle.prism_step.specs.ProgressLaws.{step-on, step-off, fault-form, fault-unfit, fault-high, goes-is, fits-says, extends-says, begins-says, extends-tells, begins-tells, all_in}
 use Rattle.prism_step.specs.KeptLaws.{extend-holds, extend-says, begin-holds, begin-says}
 
 drop-taken : (k n : ℕ) (l : List ℕ) → drop k (take n l) ≡ take (n - k) (drop k l)
@@ -29,136 +31,136 @@ drop-taken (suc k) zero l = let e : 0 ≡ 0 - suc k = omega arith in ap (λ (m :
 drop-taken (suc k) (suc n) [] = sym (take_all (suc n - suc k) [] (omega arith))
 drop-taken (suc k) (suc n) (x ∷ l) = let e : n - k ≡ suc n - suc k = omega arith in drop-taken k n l ∙ ap (λ (m : ℕ). take m (drop k l)) e
 
-module _ {text : List ℕ} {at end states : ℕ} {p : Progress} {line : Line} {names targets records : List ℕ} (can : CanStep text at end states p line names targets records) where
-  -- its name stands in the text
-  pub name-inside : at + line.name ≤ end
-  name-inside =
-      omega (arith, length-take-le (end - at) (drop at text) (omega (arith, length-drop at text)))
+-- no line was read, and none begins with the numbers of a choice
+goes-none : (o : Option Begun) → goes_on_by o None ≡ false
+goes-none None = refl
+goes-none (Some c) = refl
 
-  name-at : (x : prism.Line) → read_line (between text at end) ≡ good x → x.name ≡ between text (at + line.name) end
-  name-at x e =
-      let size : end - at - line.name ≡ end - (at + line.name) = omega arith in
-      sym (can.reads.good x e).name
-      ∙ drop-taken line.name (end - at) (drop at text)
-      ∙ ap₂ (λ (k : ℕ) (l : List ℕ). take k l) size (drop-drop line.name at text)
+-- it does not fit
+low-source : (h : prism.Head) (r : reading.Progress) (y : prism.Line) → h.states ≤ y.source → reading.fits limits h r y ≡ false
+unfolding reading.fits
+low-source h r y high = sym (not_less _ high refl)
 
-  -- a line with this action
-  module _ {action : ℕ} (named : action ≡ action_of (names_in text names p.names) (between text (at + line.name) end)) where
-    pub action-next : action ≤ p.names + 1
-    action-next = omega (arith, action-few text names p.names (between text (at + line.name) end))
+low-target : (h : prism.Head) (r : reading.Progress) (y : prism.Line) → h.states ≤ y.target → reading.fits limits h r y ≡ false
+unfolding reading.fits
+low-target h r y high = either_less (λ (z : Bool). z ≡ false) y.source h.states (sym (not_less _ high refl)) refl
 
-    by_name : (x : prism.Line) → read_line (between text at end) ≡ good x → action ≡ action_of (names_in text names p.names) x.name
-    by_name x e = named ∙ ap (action_of (names_in text names p.names)) (sym (name-at x e))
+-- a line between two places
+module _ {text : List ℕ} {at end states : ℕ} {p : Progress} {names : List Name} {targets : List Target} {records : List ℕ} where
+  -- nothing was read of it, or no rest: it is at fault
+  none-fault : CanStep text at end states p None names targets records → (h : prism.Head) → h.states ≡ states → (ended : List Choice) → Holds text names targets records states ended p → (y : ReadLine) → read_line (between text at end) ≡ y → reading.step limits h (progress_in text names targets ended p) at (between text at end) ≡ fault
+  none-fault can h e ended holds broken q = fault-form holds can.most h at (between text at end) q
+  none-fault can h e ended holds (good y) q =
+      ⊎_elim
+      (λ high. fault-unfit holds can.most h at (between text at end) y q (low-source h _ y (omega (arith, high, can.most))))
+      (λ high. fault-high holds can.most h at (between text at end) y q high (goes-is holds can.most can.reads ∙ goes-none p.begun))
+      (can.reads.form y q)
 
-    fault-of : takes_by states p line action ≡ false → (head : prism.Head) → head.states ≡ states → (ended : List Choice) → Holds text names targets records states ended p → reading.step limits head (progress_in text names targets ended p) at (between text at end) ≡ fault
-    unfolding reading.step step_read
-    fault-of no-take head e ended h = go (read_line (between text at end)) refl
-      where
-        go : (x : ReadLine) → read_line (between text at end) ≡ x → reading.step limits head (progress_in text names targets ended p) at (between text at end) ≡ fault
-        go broken q = ap (step_read limits head (progress_in text names targets ended p) at (between text at end)) q
-        go (good x) q = step-says h can.most can.reads head e x q action (by_name x q) at ∙ sym (is_false _ no-take refl)
+  short-fault : {l : Line} → CanStep text at end states p (Some l) names targets records → OnlyLines (between text at end) (λ x. 65536 ≤ x.target) → (h : prism.Head) → h.states ≡ states → (ended : List Choice) → Holds text names targets records states ended p → (y : ReadLine) → read_line (between text at end) ≡ y → reading.step limits h (progress_in text names targets ended p) at (between text at end) ≡ fault
+  short-fault can only h e ended holds broken q = fault-form holds can.most h at (between text at end) q
+  short-fault can only h e ended holds (good y) q =
+      fault-unfit holds can.most h at (between text at end) y q (low-target h _ y (omega (arith, only y q, can.most)))
 
-    step-taken : takes_by states p line action ≡ true → (head : prism.Head) → head.states ≡ states → {ended : List Choice} → Holds text names targets records states ended p → (x : prism.Line) → read_line (between text at end) ≡ good x → reading.step limits head (progress_in text names targets ended p) at (between text at end) ≡ if_true (goes_on_by p line) (read (with_extended (progress_in text names targets ended p) (choice_in targets p) x)) (read (with_begun (progress_in text names targets ended p) at x))
-    step-taken takes head e h x q = step-says h can.most can.reads head e x q action (by_name x q) at ∙ sym (is_true _ takes refl)
+  pub none-says : {o : Option Line} → CanStep text at end states p o names targets records → o ≡ None → StepSays text at end states p names names targets targets records records None
+  none-says {o} can e =
+      let none = subst (λ (q : Option Line). CanStep text at end states p q names targets records) e can in
+      record { room = refl; says = λ h same ended holds. none-fault none h same ended holds _ refl }
+
+  module _ {o : Option Line} (can : CanStep text at end states p o names targets records) {line : Line} (is : o ≡ Some line) where
+    some : CanStep text at end states p (Some line) names targets records
+    some = subst (λ (q : Option Line). CanStep text at end states p q names targets records) is can
+
+    pub short-says : line.rest ≡ None → StepSays text at end states p names names targets targets records records None
+    short-says e =
+        let only = subst (λ (q : Option Rest). MatchOption q (OnlyLines (between text at end) (λ x. 65536 ≤ x.target)) (WholeRead (between text at end) line)) e some.reads.form in
+        record { room = refl; says = λ h same ended holds. short-fault some only h same ended holds _ refl }
 
     -- it has the form
-    with-form : fits_by states p line ≡ true → line.choice < 65536 → (x : prism.Line) × (read_line (between text at end) ≡ good x)
-    unfolding Unfit
-    with-form fit low = go (read_line (between text at end)) refl
-      where
-        f : Fits states p line
-        f = fits-tells states p line fit
+    module _ {rest : Rest} (has : line.rest ≡ Some rest) where
+      pub whole : WholeRead (between text at end) line rest
+      whole =
+          subst (λ (q : Option Rest). MatchOption q (OnlyLines (between text at end) (λ x. 65536 ≤ x.target)) (WholeRead (between text at end) line)) has some.reads.form
 
-        go : (x : ReadLine) → read_line (between text at end) ≡ x → (y : prism.Line) × (read_line (between text at end) ≡ good y)
-        go (good x) q = (x, q)
-        go broken q =
-            absurd
-            (⊎_elim (λ e. omega (arith, f.some))
-            (λ rest. ⊎_elim (λ a. omega (arith, f.source, can.most)) (λ more. ⊎_elim (λ a. omega arith) (λ a. omega (arith, f.target, can.most)) more) rest)
-            (can.reads.broken q))
+      -- its name stands in the text
+      pub name-inside : at + rest.name ≤ end
+      name-inside =
+          omega (arith, whole.inside, can.order, can.inside, length-take-le (end - at) (drop at text) (omega (arith, length-drop at text, can.inside)))
 
-    pub step-unfit : {r : Stepped} → fits_by states p line ≡ false → r.good ≡ false → StepSays text at end states p names names targets targets records records r
-    unfolding takes_by
-    step-unfit unfit no-good =
-        record {
-          room = refl;
-          refused = λ bad. fault-of (sym (is_false _ unfit refl));
-          taken = λ ok. absurd (false-not (sym no-good ∙ ok));
-        }
+      name-at : drop rest.name (between text at end) ≡ between text (at + rest.name) end
+      name-at =
+          let size : end - at - rest.name ≡ end - (at + rest.name) = omega arith in
+          drop-taken rest.name (end - at) (drop at text)
+          ∙ ap₂ (λ (k : ℕ) (l : List ℕ). take k l) size (drop-drop rest.name at text)
 
-    module _ (fit : fits_by states p line ≡ true) where
-      f : Fits states p line
-      f = fits-tells states p line fit
-
-      abbrev longer : List ℕ
-      longer = set (set targets (2 * p.targets) line.target) (2 * p.targets + 1) line.parts
-
-      pub step-extends : {r : Stepped} {targets₁ : List ℕ} → goes_on_by p line ≡ true → Extended p line action targets targets₁ r → StepSays text at end states p names names targets targets₁ records records r
-      unfolding takes_by
-      step-extends {r} {targets₁} on ex =
+      pub unfit-says : fits_by states p.lines line rest ≡ false → StepSays text at end states p names names targets targets records records None
+      unfit-says unfit =
           record {
             room = refl;
-            refused = λ bad. fault-of (takes ∙ sym ex.good ∙ bad);
-            taken = λ ok head e ended h.
-                let ext = sym ex.good ∙ ok in
-                subst (λ (q : Progress). Takes head text at end (progress_in text names targets ended p) names targets₁ records q) (sym (ex.progress ok))
-                (subst (λ (ts : List ℕ). Takes head text at end (progress_in text names targets ended p) names ts records (extended_by p line)) (sym (ex.table ok))
-                (made ext head e ended h));
+            says = λ h same ended holds.
+                fault-unfit holds can.most h at (between text at end) _ whole.good (fits-says holds can.most some.reads whole h same ∙ unfit);
           }
-        where
-          takes : takes_by states p line action ≡ extends_by p line action
-          takes = sym (is_true false fit (is_true _ on refl))
 
-          made : extends_by p line action ≡ true → (head : prism.Head) → head.states ≡ states → (ended : List Choice) → Holds text names targets records states ended p → Takes head text at end (progress_in text names targets ended p) names longer records (extended_by p line)
-          made ext head e ended h =
-              let some = goes-on-begun p line on in
-              let x = with-form fit (omega (arith, goes-choice p line on, (h.pending some).number, count-least p)) in
-              let up = extends-tells p line action ext in
-              record {
-                ended = ended;
-                holds = subst (λ (n : ℕ). Holds text names longer records n ended (extended_by p line)) (sym e) (extend-holds h can.most f can.reads.most some up);
-                says =
-                    step-taken (takes ∙ ext) head e h x.0 x.1
-                    ∙ sym (is_true _ on refl)
-                    ∙ ap read (extend-says h can.most f can.reads.most some up x.0 (same_target h can.most can.reads head e x.0 x.1 fit) (can.reads.good x.0 x.1).parts);
-              }
+      -- a line with this action
+      module _ {action : ℕ} (named : action ≡ action_of (names_in text names p.names) (between text (at + rest.name) end)) where
+        pub action-next : action ≤ p.names + 1
+        action-next = omega (arith, action-few text names p.names (between text (at + rest.name) end))
 
-      abbrev anew : List ℕ
-      anew = set (set targets 0 line.target) 1 line.parts
+        by_name : action ≡ action_of (names_in text names p.names) (drop rest.name (between text at end))
+        by_name = named ∙ ap (action_of (names_in text names p.names)) (sym name-at)
 
-      pub step-begins : {r : Stepped} {names₁ targets₁ records₁ : List ℕ} → goes_on_by p line ≡ false → Began p line at action (at + line.name) end names names₁ targets targets₁ records records₁ r → length records₁ ≡ length records → StepSays text at end states p names names₁ targets targets₁ records records₁ r
-      unfolding takes_by
-      step-begins {r} {names₁} {targets₁} {records₁} off be size =
-          record {
-            room = size;
-            refused = λ bad. fault-of (takes ∙ sym be.good ∙ bad);
-            taken = λ ok head e ended h.
-                subst (λ (q : Progress). Takes head text at end (progress_in text names targets ended p) names₁ targets₁ records₁ q) (sym (be.progress ok))
-                (subst (λ (ts : List ℕ). Takes head text at end (progress_in text names targets ended p) names₁ ts records₁ begun_as) (sym (be.table ok))
-                (made ok head e ended h));
-          }
-        where
-          begun_as : Progress
-          begun_as = begun_by p line at action r.progress.used r.progress.names
+        module _ (fit : fits_by states p.lines line rest ≡ true) where
+          f : Fits states p.lines line rest
+          f = fits-tells states p.lines line rest fit
 
-          takes : takes_by states p line action ≡ begins_by p line action
-          takes = sym (is_true false fit (is_false _ off refl))
+          -- it goes on
+          module _ {c : Begun} (e : p.begun ≡ Some c) (on : begins_so o c.source c.number ≡ true) where
+            goes : begins_so (Some line) c.source c.number ≡ true
+            goes = ap (λ (q : Option Line). begins_so q c.source c.number) (sym is) ∙ on
 
-          made : r.good ≡ true → (head : prism.Head) → head.states ≡ states → (ended : List Choice) → Holds text names targets records states ended p → Takes head text at end (progress_in text names targets ended p) names₁ anew records₁ (begun_by p line at action r.progress.used r.progress.names)
-          made ok head e ended h =
-              let begins : begins_by p line action ≡ true = sym be.good ∙ ok in
-              let b = begins-tells p line action (λ some. (h.pending some).number) begins in
-              let low : line.choice < 65536 = omega arith in
-              let x = with-form fit low in
-              let v = can.reads.good x.0 x.1 in
-              let m = can.most in
-              let here : at ≤ length text = omega arith in
-              let choice : line.choice ≡ x.0.choice = v.choice ∙ capped_is x.0.choice (omega arith) in
-              record {
-                ended = all_in targets ended p;
-                holds = subst (λ (n : ℕ). Holds text names₁ anew records₁ n (all_in targets ended p) (begun_by p line at action r.progress.used r.progress.names)) (sym e) (begin-holds h m f can.reads.most b named name-inside can.inside (be.kept ok) (be.ended ok) at here);
-                says =
-                    step-taken (takes ∙ begins) head e h x.0 x.1
-                    ∙ sym (is_false _ off refl)
-                    ∙ ap read (begin-says h m f can.reads.most b named name-inside can.inside (be.kept ok) (be.ended ok) at here x.0 (same_source h m can.reads head e x.0 x.1 fit) choice (same_target h m can.reads head e x.0 x.1 fit) v.parts (name-at x.0 x.1));
-              }
+            extended : (targets₁ : List Target) (q : Option Progress) → Extended p c rest action targets targets₁ q → (h : prism.Head) → h.states ≡ states → (ended : List Choice) → Holds text names targets records states ended p → MatchOption q (reading.step limits h (progress_in text names targets ended p) at (between text at end) ≡ fault) (Takes h text at end (progress_in text names targets ended p) names targets₁ records)
+            extended targets₁ None bad h same ended holds =
+                step-on holds can.most some.reads whole h same at c e goes
+                ∙ sym (is_false _ (extends-says holds can.most some.reads whole h same fit by_name c e ∙ bad) refl)
+            extended targets₁ (Some q) ex h same ended holds =
+                let up = extends-tells c rest action ex.good in
+                subst (λ (z : Progress). Takes h text at end (progress_in text names targets ended p) names targets₁ records z) (sym ex.progress)
+                (subst (λ (ts : List Target). Takes h text at end (progress_in text names targets ended p) names ts records (extended_by p c rest)) (sym ex.table)
+                (record {
+                  ended = ended;
+                  holds = subst (λ (n : ℕ). Holds text names (set targets c.targets (target_of rest)) records n ended (extended_by p c rest)) (sym same) (extend-holds holds can.most f whole.some whole.most e up);
+                  says =
+                      step-on holds can.most some.reads whole h same at c e goes
+                      ∙ sym (is_true _ (extends-says holds can.most some.reads whole h same fit by_name c e ∙ ex.good) refl)
+                      ∙ ap read (extend-says holds can.most f whole.some whole.most e up (between text at end));
+                }))
+
+            pub extends-take : {targets₁ : List Target} {q : Option Progress} → Extended p c rest action targets targets₁ q → StepSays text at end states p names names targets targets₁ records records q
+            extends-take {q = q} ex = record { room = refl; says = extended _ q ex }
+
+          -- it begins a choice
+          module _ (off : goes_on_by p.begun o ≡ false) where
+            goes-off : goes_on_by p.begun (Some line) ≡ false
+            goes-off = ap (goes_on_by p.begun) (sym is) ∙ off
+
+            begins : (names₁ : List Name) (targets₁ : List Target) (records₁ : List ℕ) (q : Option Progress) → Began p line rest at action (at + rest.name) end names names₁ targets targets₁ records records₁ q → (h : prism.Head) → h.states ≡ states → (ended : List Choice) → Holds text names targets records states ended p → MatchOption q (reading.step limits h (progress_in text names targets ended p) at (between text at end) ≡ fault) (Takes h text at end (progress_in text names targets ended p) names₁ targets₁ records₁)
+            begins names₁ targets₁ records₁ None bad h same ended holds =
+                step-off holds can.most some.reads whole h same at goes-off
+                ∙ sym (is_false _ (begins-says holds can.most some.reads whole h same fit by_name ∙ bad) refl)
+            begins names₁ targets₁ records₁ (Some q) be h same ended holds =
+                let m = can.most in
+                let b = begins-tells p line action (number-few holds m) be.good in
+                let here : at ≤ length text = omega (arith, can.order, can.inside) in
+                let after : Progress = begun_by p line rest at action q.used q.names in
+                subst (λ (z : Progress). Takes h text at end (progress_in text names targets ended p) names₁ targets₁ records₁ z) (sym be.progress)
+                (subst (λ (ts : List Target). Takes h text at end (progress_in text names targets ended p) names₁ ts records₁ after) (sym be.table)
+                (record {
+                  ended = all_in targets ended p;
+                  holds = subst (λ (n : ℕ). Holds text names₁ (set targets 0 (target_of rest)) records₁ n (all_in targets ended p) after) (sym same) (begin-holds holds m f whole.some whole.most b named name-inside can.inside be.kept be.ended at here);
+                  says =
+                      step-off holds m some.reads whole h same at goes-off
+                      ∙ sym (is_true _ (begins-says holds m some.reads whole h same fit by_name ∙ be.good) refl)
+                      ∙ ap read (begin-says holds m f whole.some whole.most b named name-inside can.inside be.kept be.ended at here (between text at end) name-at);
+                }))
+
+            pub begins-take : {names₁ : List Name} {targets₁ : List Target} {records₁ : List ℕ} {q : Option Progress} → Began p line rest at action (at + rest.name) end names names₁ targets targets₁ records records₁ q → length records₁ ≡ length records → StepSays text at end states p names names₁ targets targets₁ records records₁ q
+            begins-take {q = q} be size = record { room = size; says = begins _ _ _ q be }

@@ -2,25 +2,21 @@
 // transition.
 #![tactic(auto)]
 
-ghost use Rattle.std.specs.Prelude.{◌+◌, ◌*◌, ◌≤◌, ◌<◌, ◌≡◌, false, length};
+ghost use Rattle.std.specs.Prelude.{◌+◌, ◌*◌, ◌≤◌, ◌<◌, ◌≡◌, IfSome, length};
 ghost use Rattle.rules.specs.definitions.Limits.{limits};
+ghost use Rattle.prism_line.specs.LineRead.{begins_so};
 ghost use Rattle.writer.specs.Appends.{Appends};
-ghost use Rattle.prism_step.specs.Progressing.{nothing_by, goes_on_by, short_by, count_by, follows_by, fits_by, pending_bytes, CanEnd, Extended, CanBegin, Began, CanStep, StepSays};
+ghost use Rattle.prism_step.specs.Progressing.{nothing_by, short_by, count_by, follows_by, fits_by, pending_bytes, CanEnd, Extended, CanBegin, Began, CanStep, StepSays};
 
 use limits::{ACTIONS, ENTRIES, TRANSITIONS};
-use prism_choice::Targets;
-use prism_line::Line;
+use prism_choice::{Target, Targets};
+use prism_line::{Line, Rest};
 use prism_names::Names;
 
-// What has been read: lines, choices that ended and the bytes of their records, names; and of the choice that has begun, where `targets` is not 0,
-// the place of its first line, its source, its number and action, how many targets, what they add up to, the last one, and the greatest common
-// divisor.
+// A choice that has begun: the place of its first line, its source, its number and action, how many targets, what they add up to, the last one, and
+// the greatest common divisor.
 #[derive(Clone, Copy)]
-pub struct Progress {
-    pub lines: usize,
-    pub choices: usize,
-    pub used: usize,
-    pub names: usize,
+pub struct Begun {
     pub place: usize,
     pub source: usize,
     pub number: usize,
@@ -31,6 +27,16 @@ pub struct Progress {
     pub divisor: usize,
 }
 
+// What has been read: lines, choices that ended and the bytes of their records, names, and the choice that has begun.
+#[derive(Clone, Copy)]
+pub struct Progress {
+    pub lines: usize,
+    pub choices: usize,
+    pub used: usize,
+    pub names: usize,
+    pub begun: Option<Begun>,
+}
+
 pub fn nothing_read() -> Progress
     ensures { result ≡ nothing_by }
 {
@@ -39,54 +45,47 @@ pub fn nothing_read() -> Progress
         choices: 0,
         used: 0,
         names: 0,
-        place: 0,
-        source: 0,
-        number: 0,
-        action: 0,
-        targets: 0,
-        total: 0,
-        last: 0,
-        divisor: 0,
+        begun: None,
     }
 }
 
-// Whether a line begins with the source and number of the choice that has begun, each followed by a space.
-fn goes_on(p: Progress, line: Line) -> bool
-    ensures { result ≡ goes_on_by p line }
+// Whether a line begins with the source and number of a choice, each followed by a space.
+#[tactic(auto, unfolding(bisimulation::specs::definitions::Choice::both))]
+fn goes_on(c: Begun, line: Option<Line>) -> bool
+    ensures { result ≡ begins_so line c.source c.number }
 {
-    if p.targets == 0 {
-        return false;
+    match line {
+        Some(l) => l.source == c.source && l.choice == c.number,
+        None => false,
     }
-    if line.source != p.source {
-        return false;
-    }
-    line.choice == p.number
 }
 
-// Whether the choice that has begun ends before this line, and does not add up to 1.
-pub fn is_short(p: Progress, line: Line) -> bool
-    ensures { result ≡ short_by p line }
+// The place of the choice that has begun where it ends before this line, and does not add up to 1.
+#[tactic(auto, unfolding(bisimulation::specs::definitions::Choice::if_true, bisimulation::specs::definitions::Choice::if_same))]
+pub fn short_at(p: Progress, line: Option<Line>) -> Option<usize>
+    ensures { result ≡ short_by p.begun line }
 {
-    if p.targets == 0 {
-        return false;
+    let c = p.begun?;
+    if goes_on(c, line) {
+        return None;
     }
-    if goes_on(p, line) {
-        return false;
+    if c.total == 10000 {
+        return None;
     }
-    p.total != 10000
+    Some(c.place)
 }
 
 // The end of the records with the one of the choice that has begun, if one has.
 pub fn end_choice(p: Progress, targets: &Targets, records: &mut [u8]) -> usize
     requires { CanEnd targets.now records.old p }
-    ensures { Appends (pending_bytes targets.now p) p.used records.old records.new result }
+    ensures { Appends (pending_bytes targets.now p.begun) p.used records.old records.new result }
 {
-    if p.targets == 0 {
-        return p.used;
+    match p.begun {
+        Some(c) => prism_choice::write_choice(
+            targets, c.targets, c.source, c.action, c.divisor, records, p.used,
+        ),
+        None => p.used,
     }
-    prism_choice::write_choice(
-        targets, p.targets, p.source, p.action, p.divisor, records, p.used,
-    )
 }
 
 // How many choices there are, with the one that has begun.
@@ -94,98 +93,78 @@ pub fn choices_of(p: Progress) -> usize
     requires { p.choices ≤ limits.transitions }
     ensures { result ≡ count_by p }
 {
-    if p.targets == 0 {
-        return p.choices;
+    match p.begun {
+        Some(_) => p.choices + 1,
+        None => p.choices,
     }
-    p.choices + 1
 }
 
 // Whether a line may begin the next choice: sources never descend, choices of a source count up from 0.
-fn follows(p: Progress, line: Line) -> bool
-    requires { 1 ≤ p.targets → p.number ≤ limits.transitions }
-    ensures { result ≡ follows_by p line }
+#[tactic(auto, unfolding(bisimulation::specs::definitions::Choice::if_less, bisimulation::specs::definitions::Choice::if_same))]
+fn follows(begun: Option<Begun>, line: Line) -> bool
+    requires { IfSome begun (λ c. c.number ≤ limits.transitions) }
+    ensures { result ≡ follows_by begun line }
 {
-    if p.targets == 0 {
-        return line.choice == 0;
-    }
-    if line.source == p.source {
-        return line.choice == p.number + 1;
-    }
-    if line.source < p.source {
-        return false;
+    if let Some(c) = begun {
+        if line.source == c.source {
+            return line.choice == c.number + 1;
+        }
+        if line.source < c.source {
+            return false;
+        }
     }
     line.choice == 0
 }
 
-// Whether a line has the form, its states are there, and it passes no limit.
-fn fits(states: usize, p: Progress, line: Line) -> bool
-    ensures { result ≡ fits_by states p line }
+// Whether the states of a line are there, and it passes no limit.
+#[tactic(auto, unfolding(crate::specs::Progressing::fits_by, bisimulation::specs::definitions::Choice::if_less))]
+fn fits(states: usize, lines: usize, line: Line, rest: Rest) -> bool
+    ensures { result ≡ fits_by states lines line rest }
 {
-    if line.parts == 0 {
-        return false;
-    }
-    if states <= line.source {
-        return false;
-    }
-    if states <= line.target {
-        return false;
-    }
-    p.lines < ENTRIES
-}
-
-// What has been read after a line; not good where the line may not stand there.
-#[derive(Clone, Copy)]
-pub struct Stepped {
-    pub good: bool,
-    pub progress: Progress,
-}
-
-fn refused(p: Progress) -> Stepped
-    ensures { result.good ≡ false }
-{
-    Stepped {
-        good: false,
-        progress: p,
-    }
+    line.source < states && rest.target < states && lines < ENTRIES
 }
 
 // A line that goes on with the choice that has begun; its name has this action.
-fn extend(p: Progress, line: Line, action: usize, targets: &mut Targets) -> Stepped
-    requires { (p.targets ≤ p.last + 1) × (line.target < limits.states) × (p.lines ≤ limits.entries) × (p.total ≤ 10000 * limits.entries) × (line.parts ≤ 10000) }
-    ensures { Extended p line action targets.old targets.new result }
+#[tactic(auto, unfolding(crate::specs::Progressing::extends_by, bisimulation::specs::definitions::Choice::if_less, bisimulation::specs::definitions::Choice::if_same))]
+fn extend(
+    p: Progress,
+    c: Begun,
+    rest: Rest,
+    action: usize,
+    targets: &mut Targets,
+) -> Option<Progress>
+    requires { (c.targets ≤ c.last + 1) × (rest.target < limits.states) × (p.lines ≤ limits.entries) × (c.total ≤ 10000 * limits.entries) × (rest.parts ≤ 10000) }
+    ensures { Extended p c rest action targets.old targets.new result }
 {
-    if line.target <= p.last {
-        return refused(p);
+    if rest.target <= c.last {
+        return None;
     }
-    if action != p.action {
-        return refused(p);
+    if action != c.action {
+        return None;
     }
-    let count = p.targets;
-    targets[2 * count] = line.target;
-    targets[2 * count + 1] = line.parts;
-    Stepped {
-        good: true,
-        progress: Progress {
-            lines: p.lines + 1,
-            choices: p.choices,
-            used: p.used,
-            names: p.names,
-            place: p.place,
-            source: p.source,
-            number: p.number,
-            action: p.action,
-            targets: count + 1,
-            total: p.total + line.parts,
-            last: line.target,
-            divisor: greatest_divisor::divisor(p.divisor, line.parts),
-        },
-    }
+    targets[c.targets] = Target {
+        state: rest.target,
+        parts: rest.parts,
+    };
+    let begun = Begun {
+        targets: c.targets + 1,
+        total: c.total + rest.parts,
+        last: rest.target,
+        divisor: greatest_divisor::divisor(c.divisor, rest.parts),
+        ..c
+    };
+    Some(Progress {
+        lines: p.lines + 1,
+        begun: Some(begun),
+        ..p
+    })
 }
 
 // A line at a place that begins a choice; its name has this action, and stands at these places of the text.
 fn begin(
     p: Progress,
     line: Line,
+    rest: Rest,
     place: usize,
     action: usize,
     from: usize,
@@ -193,65 +172,73 @@ fn begin(
     names: &mut Names,
     targets: &mut Targets,
     records: &mut [u8],
-) -> Stepped
+) -> Option<Progress>
     requires { CanBegin p action targets.old records.old }
-    ensures { Began p line place action from to names.old names.new targets.old targets.new records.old records.new result }
+    ensures { Began p line rest place action from to names.old names.new targets.old targets.new records.old records.new result }
 {
-    if !follows(p, line) {
-        return refused(p);
+    if !follows(p.begun, line) {
+        return None;
     }
     let choices = choices_of(p);
     if TRANSITIONS <= choices {
-        return refused(p);
+        return None;
     }
     if ACTIONS <= action {
-        return refused(p);
+        return None;
     }
     let used = end_choice(p, targets, records);
     let seen = prism_names::with_name(names, p.names, action, from, to);
-    targets[0] = line.target;
-    targets[1] = line.parts;
-    Stepped {
-        good: true,
-        progress: Progress {
-            lines: p.lines + 1,
-            choices,
-            used,
-            names: seen,
-            place,
-            source: line.source,
-            number: line.choice,
-            action,
-            targets: 1,
-            total: line.parts,
-            last: line.target,
-            divisor: line.parts,
-        },
-    }
+    targets[0] = Target {
+        state: rest.target,
+        parts: rest.parts,
+    };
+    let begun = Begun {
+        place,
+        source: line.source,
+        number: line.choice,
+        action,
+        targets: 1,
+        total: rest.parts,
+        last: rest.target,
+        divisor: rest.parts,
+    };
+    Some(Progress {
+        lines: p.lines + 1,
+        choices,
+        used,
+        names: seen,
+        begun: Some(begun),
+    })
 }
 
-// The line that stands at these places of the text.
+// What has been read after the line that stands at these places of the text; none where it may not stand there.
 pub fn step(
     text: &[u8],
     at: usize,
     end: usize,
     states: usize,
     p: Progress,
-    line: Line,
+    line: Option<Line>,
     names: &mut Names,
     targets: &mut Targets,
     records: &mut [u8],
-) -> Stepped
+) -> Option<Progress>
     requires { CanStep text.now at end states p line names.old targets.old records.old }
     ensures { StepSays text.now at end states p names.old names.new targets.old targets.new records.old records.new result }
 {
-    if !fits(states, p, line) {
-        return refused(p);
+    let whole = line?;
+    let rest = whole.rest?;
+    if !fits(states, p.lines, whole, rest) {
+        return None;
     }
-    let from = at + line.name;
+    let from = at + rest.name;
     let action = prism_names::action_of(text, names, p.names, from, end);
-    if goes_on(p, line) {
-        return extend(p, line, action, targets);
+    if let Some(c) = p.begun {
+        if goes_on(c, line) {
+            return extend(p, c, rest, action, targets);
+        }
     }
-    begin(p, line, at, action, from, end, names, targets, records)
+    begin(
+        p, whole, rest, at, action, from, end, names, targets, records,
+    )
 }

@@ -7,42 +7,25 @@ ghost use Rattle.joined.specs.definitions.Joined.{raised_transition};
 ghost use Rattle.writer.specs.Appends.{Appends};
 ghost use Rattle.raised.specs.Raised.{raised_transitions, CanRaiseTransition, CanRaise};
 
-use model::Places;
+use sound_model::SoundModel;
 
 // The record of the transition r, with k added to its source and its targets. Hands back the place after it.
-fn write_transition(
-    s: &[u8],
-    places: &Places,
-    r: usize,
-    k: usize,
-    out: &mut [u8],
-    at: usize,
-) -> usize
-    requires { CanRaiseTransition s.now places.now r k out.old at }
-    ensures { Appends (transition_bytes (raised_transition k (transition_at s.now (place_of s.now r)))) at out.old out.new result }
+fn write_transition(model: SoundModel, r: usize, k: usize, out: &mut [u8], at: usize) -> usize
+    requires { CanRaiseTransition model.file.now model.transitions r k out.old at }
+    ensures { Appends (transition_bytes (raised_transition k (transition_at model.entry.file.now (place_of model.entry.file.now r)))) at out.old out.new result }
 {
-    let t = transition::fields_of(s, places, r);
-    let next = writer::fixed(out, at, k + t.source, t.action, t.denominator, t.count);
-    placed_entries::write_entries(s, t.count, t.entries, 1, k, 1, out, next)
+    let t = model.fields(r);
+    placed_entries::write_record(model.file, t, k + t.source, 1, k, out, at)
 }
 
 // All records of the model, the same way.
-pub fn write_transitions(
-    s: &[u8],
-    count: usize,
-    places: &Places,
-    k: usize,
-    out: &mut [u8],
-    at: usize,
-) -> usize
-    requires { CanRaise s.now count places.now k out.old at }
-    ensures { Appends (raised_transitions k (model_at s.now).transitions) at out.old out.new result }
+pub fn write_transitions(model: SoundModel, k: usize, out: &mut [u8], at: usize) -> usize
+    requires { CanRaise model.file.now k out.old at }
+    ensures { Appends (raised_transitions k (model_at model.entry.file.now).transitions) at out.old out.new result }
 {
-    let mut r = 0;
     let mut next = at;
-    while r < count {
-        next = write_transition(s, places, r, k, out, next);
-        r += 1;
+    for r in 0..model.transitions {
+        next = write_transition(model, r, k, out, next);
     }
     next
 }

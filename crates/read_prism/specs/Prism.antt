@@ -10,7 +10,9 @@ use Rattle.answer.specs.declared.Answer.{Answer}
 use Rattle.answer.specs.Answered.{FileWritten, OutcomeIs, CallAnswered}
 use Rattle.text_fields.specs.Fields.{PieceEnds}
 use Rattle.prism_line.specs.declared.Head.{Head}
+use Rattle.prism_names.specs.declared.Name.{Name}
 use Rattle.prism_names.specs.Names.{names_in}
+use Rattle.prism_choice.specs.declared.Target.{Target}
 use Rattle.prism_step.specs.declared.Progress.{Progress}
 use Rattle.prism_step.specs.Progressing.{progress_in, count_by, Holds}
 use Rattle.prism_text.specs.LinesRead.{head_in}
@@ -43,9 +45,9 @@ pub record WritesFile (n m count : ℕ) (records before after : List ℕ) (size 
   pub file : (ts : List Transition) → records ≡ transitions_bytes ts → count ≡ length ts → FileWritten (model_bytes (unlabelled n m ts)) before after size
 
 -- what was read is in the tables, and the choices are as many as the head says
-pub record CanWriteHeld (head : Head) (p : Progress) (targets records : List ℕ) : Type 0 where
+pub record CanWriteHeld (head : Head) (p : Progress) (targets : List Target) (records : List ℕ) : Type 0 where
   pub text : List ℕ
-  pub names : List ℕ
+  pub names : List Name
   pub ended : List Choice
   pub holds : Holds text names targets records head.states ended p
   pub most : head.states ≤ limits.states
@@ -53,5 +55,5 @@ pub record CanWriteHeld (head : Head) (p : Progress) (targets records : List ℕ
   pub room : length records ≡ 7936
 
 -- the model that a text holds which was read so
-pub record HeldWritten (head : Head) (p : Progress) (targets records before after : List ℕ) (r : Answer) : Type 0 where
-  pub file : (text names : List ℕ) (ended : List Choice) → Holds text names targets records head.states ended p → OutcomeIs (files_outcome 33 (model_bytes (held_model (head_in head) (names_in text names p.names) (choices_of (progress_in text names targets ended p))) ∷ []) (before ∷ [])) (text ∷ []) (after ∷ []) r
+pub record HeldWritten (head : Head) (p : Progress) (targets : List Target) (records before after : List ℕ) (r : Answer) : Type 0 where
+  pub file : (text : List ℕ) (names : List Name) (ended : List Choice) → Holds text names targets records head.states ended p → OutcomeIs (files_outcome 33 (model_bytes (held_model (head_in head) (names_in text names p.names) (choices_of (progress_in text names targets ended p))) ∷ []) (before ∷ [])) (text ∷ []) (after ∷ []) r

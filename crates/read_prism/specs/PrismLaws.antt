@@ -11,13 +11,14 @@ use Rattle.rules.specs.definitions.Model.{Transition, head_bytes, labels_bytes, 
 use Rattle.rules.specs.definitions.Faults as rules-faults
 use Rattle.rules.specs.definitions.Answers as rules
 use Rattle.rules.specs.definitions.Answers.{Outcome, refusal_in, file_of, files_outcome}
+use Rattle.prism.specs.definitions.Lines.{no_head, read_head}
 use Rattle.prism.specs.definitions.Reading.{nothing_read, choices_of, refused_at, read_prism}
 use Rattle.prism.specs.definitions.HeldModel.{transition_of, held_model}
 use Rattle.prism.proofs.argument.PieceLaws.{Without, stretch-without, stretch-parted, last-without}
 use Rattle.prism.proofs.argument.ReadingLaws.{read_rest, read-head, read-no-head, read-unended}
 use Rattle.prism.proofs.argument.PrismHolds.{text-refused, text-held, prism-demands-today}
 use Rattle.fault.specs.declared.Fault.{Fault}
-use Rattle.fault.specs.Faults.{fault_of, Placed}
+use Rattle.fault.specs.Faults.{fault_of, PlacedAt}
 use Rattle.answer.specs.declared.Answer.{Answer}
 use Rattle.answer.specs.Answered.{Says, FileAnswered, OutcomeIs}
 use Rattle.answer.specs.AnsweredLaws.{with-stretch, file-stretch, written-short, written-whole}
@@ -25,12 +26,13 @@ use Rattle.writer.specs.Appends.{Appends, CanWriteModel, WritesModel}
 use Rattle.writer.specs.AppendsLaws.{file-filled}
 use Rattle.text_fields.specs.Fields.{PieceEnds}
 use Rattle.prism_line.specs.declared.Head.{Head}
-use Rattle.prism_line.specs.LineRead.{HeadRead}
+use Rattle.prism_line.specs.LineRead.{HeadIs}
+use Rattle.prism_names.specs.declared.Name.{Name}
 use Rattle.prism_names.specs.NamesLaws.{names-length}
+use Rattle.prism_choice.specs.declared.Target.{Target}
 use Rattle.prism_step.specs.declared.Progress.{Progress}
-use Rattle.prism_text.specs.declared.ReadLines.{ReadLines}
 use Rattle.prism_step.specs.Progressing.{pending_bytes}
-use Rattle.prism_text.specs.LinesRead.{head_in, text_from, LinesRead}
+use Rattle.prism_text.specs.LinesRead.{head_in, text_from, LinesHeld, LinesRefused}
 use Rattle.prism_step.specs.ProgressLaws.{all_in, all-count}
 use Rattle.prism_step.specs.KeptLaws.{all-written}
 use Rattle.read_prism.specs.Prism.{PrismAnswered, PrismSays, HeadEnds, unlabelled, CanWriteFile, WritesFile, CanWriteHeld, HeldWritten}
@@ -65,7 +67,7 @@ module _ {n m count : ℕ} {records : List ℕ} (can : CanWriteFile n m count re
   file-short s h = record { file = λ ts f g. written-short _ (s ∙ unlabelled-size ts f) h }
 
 -- the records of what was read are those of its model
-module _ {head : Head} {p : Progress} {targets records after : List ℕ} {used : ℕ} (can : CanWriteHeld head p targets records) (a : Appends (pending_bytes targets p) p.used records after used) where
+module _ {head : Head} {p : Progress} {targets : List Target} {records after : List ℕ} {used : ℕ} (can : CanWriteHeld head p targets records) (a : Appends (pending_bytes targets p.begun) p.used records after used) where
   pub used-inside : used ≤ length after
   used-inside = omega (arith, a.room, a.size)
 
@@ -87,7 +89,7 @@ module _ {head : Head} {p : Progress} {targets records after : List ℕ} {used :
             let ts = map transition_of choices in
             let many : head.choices ≡ length ts = sym can.count ∙ sym (all-count targets ended p holds.count) ∙ sym (length-map choices transition_of) in
             subst (λ (n : ℕ). OutcomeIs (files_outcome 33 (model_bytes (unlabelled head.states (n + 1) ts) ∷ []) (before ∷ [])) (text ∷ []) (left ∷ []) r) (sym (names-length text names p.names))
-            (file-stretch 33 _ before (w.file ts (all-written holds a).bytes many) f);
+            (file-stretch 33 _ before (w.file ts (all-written holds can.most a).bytes many) f);
       }
 
 -- the head line
@@ -96,7 +98,7 @@ module _ {text : List ℕ} {end : ℕ} where
   unfolding byte_at
   unended e z = read-unended limits text (last-without 0x0A text 0 end e.after e.clear z)
 
-  module _ (e : HeadEnds text end) {head : Head} (r : HeadRead (take end text) head) where
+  module _ (e : HeadEnds text end) where
     all : end - 0 ≡ end
     all = omega arith
 
@@ -111,18 +113,18 @@ module _ {text : List ℕ} {end : ℕ} where
         (stretch-parted 0x0A text 0 end e.piece.after e.piece.clear e.inside (e.piece.stops e.inside)
         ∙ ap (λ (k : ℕ). take k text ++ (0x0A ∷ drop (end + 1) text)) all)
 
-    pub head-broken : head.states ≡ 0 → read_prism limits text ≡ refused_at 31 0
-    head-broken z = whole ∙ read-no-head limits (take end text) free (drop (end + 1) text) (r.broken z)
+    pub head-broken : read_head limits (take end text) ≡ no_head → read_prism limits text ≡ refused_at 31 0
+    head-broken z = whole ∙ read-no-head limits (take end text) free (drop (end + 1) text) z
 
-    pub head-good : 1 ≤ head.states → read_prism limits text ≡ text_from (head_in head) nothing_read text (end + 1)
-    head-good some =
+    pub head-good : {head : Head} → HeadIs (take end text) head → read_prism limits text ≡ text_from (head_in head) nothing_read text (end + 1)
+    head-good {head} r =
         let at : length (take end text) + 1 ≡ end + 1 = omega (arith, length-take-le end text e.piece.within) in
         whole
-        ∙ read-head limits (take end text) free (head_in head) (drop (end + 1) text) (r.good some)
+        ∙ read-head limits (take end text) free (head_in head) (drop (end + 1) text) r.good
         ∙ ap (λ (k : ℕ). read_rest limits (head_in head) nothing_read k (drop (end + 1) text)) at
 
 -- a refusal at a place of the text
-pub refusal-at : (number place size : ℕ) (h : Fault) {f : rules-faults.Fault} {r : Answer} → f ≡ rules-faults.fault number → Placed f place h → Says (refusal_in (fault_of h) 1 h.place size) 0 r → Says (refusal_in (rules-faults.fault number) 1 place size) 0 r
+pub refusal-at : (number place size : ℕ) (h : Fault) {f : rules-faults.Fault} {r : Answer} → f ≡ rules-faults.fault number → PlacedAt f place h → Says (refusal_in (fault_of h) 1 h.place size) 0 r → Says (refusal_in (rules-faults.fault number) 1 place size) 0 r
 refusal-at number place size h e p s =
     record { answer = s.answer ∙ ap₂ (λ (x : rules-faults.Fault) (k : ℕ). refusal_in x 1 k size) (p.is ∙ e) p.at; wrote = s.wrote }
 
@@ -138,16 +140,14 @@ module _ (text before : List ℕ) where
       record { outcome = o; demands = prism-demands-today text before after r.number (ap (λ (x : rules.Answer). x.number) o.gives.answer) o.gives.buffers }
 
 -- the lines behind the head
-module _ {text : List ℕ} {end : ℕ} {head : Head} {names targets records : List ℕ} {l : ReadLines} (e : HeadEnds text end) (r : HeadRead (take end text) head) (some : 1 ≤ head.states) (read : LinesRead text (end + 1) head names targets records l) where
-  pub lines-refused : (before : List ℕ) {a : Answer} → (l.number ≡ 0 → ⊥) → Says (refusal_in (rules-faults.fault l.number) 1 l.place (length text)) 0 a → PrismSays text before before a
-  lines-refused before n s = refused_says text before (head-good e r some ∙ read.refused n) read.inside s
+module _ {text : List ℕ} {end : ℕ} {head : Head} (e : HeadEnds text end) (r : HeadIs (take end text) head) where
+  pub lines-refused : (before : List ℕ) {f : Fault} {a : Answer} → LinesRefused text (end + 1) head f → Says (refusal_in (fault_of f) 1 f.place (length text)) 0 a → PrismSays text before before a
+  lines-refused before {f} n s =
+      refused_says text before (head-good e r ∙ n.refused) n.inside
+      (record { answer = s.answer ∙ ap (λ (x : rules-faults.Fault). refusal_in x 1 f.place (length text)) n.plain; wrote = s.wrote })
 
-  pub lines-held : l.number ≡ 0 → CanWriteHeld head l.progress targets records
-  lines-held z =
-      let t = read.held z in record { text = text; names = names; ended = t.0; holds = t.1; most = r.states; count = read.count z; room = read.room }
-
-  pub lines-written : (before : List ℕ) {after : List ℕ} {a : Answer} → l.number ≡ 0 → HeldWritten head l.progress targets records before after a → PrismSays text before after a
-  lines-written before {after} {a} z w =
-      let t = read.held z in
-      subst (λ (o : Outcome). OutcomeIs o (text ∷ []) (after ∷ []) a) (text-held limits text before _ _ _ (head-good e r some ∙ t.2))
-      (w.file text names t.0 t.1)
+  module _ {names : List Name} {targets : List Target} {records : List ℕ} {p : Progress} (t : LinesHeld text (end + 1) head names targets records p) where
+    pub lines-written : (before : List ℕ) {after : List ℕ} {a : Answer} → HeldWritten head p targets records before after a → PrismSays text before after a
+    lines-written before {after} {a} w =
+        subst (λ (o : Outcome). OutcomeIs o (text ∷ []) (after ∷ []) a) (text-held limits text before _ _ _ (head-good e r ∙ t.held))
+        (w.file text names t.ended t.holds)

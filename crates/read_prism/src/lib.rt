@@ -4,21 +4,24 @@
 ghost use Rattle.std.specs.Prelude.{◌≤◌, length};
 ghost use Rattle.rules.specs.definitions.Faults as rules;
 ghost use Rattle.rules.specs.definitions.Answers.{refusal_in};
+ghost use Rattle.fault.specs.Faults.{number_of};
 ghost use Rattle.answer.specs.Answered.{Says};
 ghost use Rattle.read_prism.specs.Prism.{PrismAnswered, PrismSays, HeadEnds, CanWriteFile, WritesFile, CanWriteHeld, HeldWritten};
 
 use answer::Answer;
+use fault::Refusal;
 use limits::{ACTIONS, RECORDS, STATES};
-use prism_choice::Targets;
+use prism_choice::{Target, Targets};
 use prism_line::Head;
+use prism_names::Name;
 use prism_step::Progress;
 
 // A refusal at a place of the text.
-fn refusal(text: &[u8], number: u32, place: usize) -> Answer
+fn refused_at(text: &[u8], refusal: Refusal, place: usize) -> Answer
     requires { place ≤ length text.now }
-    ensures { Says (refusal_in (rules.fault number) 1 place (length text.now)) 0 result }
+    ensures { Says (refusal_in (rules.fault (number_of refusal)) 1 place (length text.now)) 0 result }
 {
-    answer::refusal_in(fault::refusal(number).at(place), 1, text.len())
+    Answer::refused_in(refusal.fault().at(place), 1, text.len())
 }
 
 // The file of a model whose labels are all 0, written if there is room for it, and its length.
@@ -54,7 +57,7 @@ fn write_held(
         &records[..used],
         out,
     );
-    answer::file_answer(33, size, room)
+    Answer::of_file(Refusal::TextRoom, size, room)
 }
 
 // A text whose head line ends at a place.
@@ -62,18 +65,16 @@ fn read_headed(text: &[u8], end: usize, out: &mut [u8]) -> Answer
     requires { HeadEnds text.now end }
     ensures { PrismSays text.now out.old out.new result }
 {
-    let head = prism_line::read_head(&text[..end]);
-    if head.states == 0 {
-        return refusal(text, 31, 0);
-    }
-    let mut names = [0; 2 * ACTIONS];
-    let mut targets = [0; 2 * STATES];
+    let Some(head) = prism_line::read_head(&text[..end]) else {
+        return refused_at(text, Refusal::TextLine, 0);
+    };
+    let mut names = [Name { from: 0, to: 0 }; ACTIONS];
+    let mut targets = [Target { state: 0, parts: 0 }; STATES];
     let mut records = [0u8; RECORDS];
-    let read = prism_text::read_lines(text, end + 1, head, &mut names, &mut targets, &mut records);
-    if read.number != 0 {
-        return refusal(text, read.number, read.place);
+    match prism_text::read_lines(text, end + 1, head, &mut names, &mut targets, &mut records) {
+        Ok(p) => write_held(head, p, &targets, &mut records, out),
+        Err(wrong) => Answer::refused_in(wrong, 1, text.len()),
     }
-    write_held(head, read.progress, &targets, &mut records, out)
 }
 
 // What the call answers.
@@ -82,7 +83,7 @@ pub fn read_prism_answer(text: &[u8], out: &mut [u8]) -> Answer
 {
     let end = text_fields::piece_end(text, 0, 0x0A);
     if end == text.len() {
-        return refusal(text, 31, 0);
+        return refused_at(text, Refusal::TextLine, 0);
     }
     read_headed(text, end, out)
 }

@@ -11,9 +11,10 @@ ghost use Rattle.answer.specs.Answered.{Gives};
 ghost use Rattle.reduce.specs.Reduce.{ReduceAnswered};
 
 use answer::Answer;
-use judgement::Verdict;
+use fault::Refusal;
 use limits::{STATES, Terms};
 use rule_kind::Kind;
+use sound_model::SoundModel;
 
 // The merged model of accepted blocks, written if there is room for it.
 fn write_merged(model: &[u8], n: usize, count: usize, blocks: &[u8], out: &mut [u8]) -> Answer
@@ -21,32 +22,30 @@ fn write_merged(model: &[u8], n: usize, count: usize, blocks: &[u8], out: &mut [
     ensures { Gives (files_outcome 23 (merged_file (model_at model.now) blocks.now ∷ []) (out.old ∷ [])) (out.new ∷ []) result }
 {
     let places = transition::places_of(model, n, count);
+    let sound = SoundModel {
+        file: model,
+        states: n,
+        transitions: count,
+        places: &places,
+    };
     let room = out.len();
-    let size = merged_model::write_file(model, n, count, &places, blocks, out);
-    answer::file_answer(23, size, room)
+    let size = merged_model::write_file(sound, blocks, out);
+    Answer::of_file(Refusal::MergedRoom, size, room)
 }
 
 // What the call that reduces answers. It lends no block buffer, so the blocks have the room of every model.
 pub fn reduce_answer(model: &[u8], certificate: &[u8], out: &mut [u8]) -> Answer
     ensures { ReduceAnswered model.now certificate.now out.old out.new result }
 {
-    let head = judgement::head_answer(model);
-    if head.number != 0 {
-        return head;
+    if let Err(refused) = judgement::head_answer(model) {
+        return refused;
     }
-    let found = judgement::judge_files(Kind::Plain, Terms::Lowest, model, certificate, STATES);
-    match found {
-        Verdict::Accepted {
-            states,
-            transitions,
-            blocks: at,
-        } => write_merged(
-            model,
-            states,
-            transitions,
-            &certificate[at..at + states],
-            out,
-        ),
-        Verdict::Refused(answer) => answer,
+    match judgement::judge_files(Kind::Plain, Terms::Lowest, model, certificate, STATES) {
+        Ok(found) => {
+            let at = found.blocks;
+            let blocks = &certificate[at..at + found.states];
+            write_merged(model, found.states, found.transitions, blocks, out)
+        }
+        Err(refused) => refused,
     }
 }

@@ -30,10 +30,10 @@ use Rattle.rule_kind.specs.declared.Kind.TheVariants.{Plain, Costs, Strong}
 use Rattle.rule_kind.specs.declared.Condition.{Condition}
 use Rattle.rule_kind.specs.declared.Condition.TheVariants.{Across, Within, Unasked}
 use Rattle.rule_kind.specs.Kinds.{is_strong, rule_of, cost_in}
-use Rattle.rule_kind.specs.Steps.{has_move, first_prices, prices_by, further_at, IsFurther, condition_by}
-use Rattle.rule_kind.specs.StepsLaws.{strong-move, moves-external, stays-internal}
+use Rattle.rule_kind.specs.Steps.{has_move, further_prices, first_prices, prices_by, further_at, IsFurther, condition_by}
+use Rattle.rule_kind.specs.StepsLaws.{strong-move, moves-external, stays-internal, prices-with-move, prices-without-move}
 use Rattle.transition.specs.Known.{automaton_in, Known}
-use Rattle.transition.specs.KnownLaws.{known-states, known-own}
+use Rattle.transition.specs.KnownLaws.{known-states}
 use Rattle.prices.specs.Prices.{price_in, HoldsPrices, SmallPrices}
 use Rattle.prices.specs.PricesLaws.{price-back}
 use Rattle.conditions.specs.Conditions.{fair_twice, fair_by, fair_to, all_fair, conditions_fault, AllPriced, LastAsked}
@@ -46,15 +46,14 @@ module _ {s places : List ℕ} {n count : ℕ} (k : Known s n count places) wher
   prices-there {table} h = subst (λ (m : ℕ). SmallPrices m table) k.states h
 
 -- and the conditions may be asked
-module _ {kind : Kind} {s places : List ℕ} {n count q t : ℕ} (a : Asked kind s n count places q t) (l : ℤ) (small : mag l < 2 ^ 31) where
-  pub all_asked : AllPriced kind s count places l
-  all_asked = record { known = known-own a.known; stands = a.stands; price = small }
+module _ {kind : Kind} {s places : List ℕ} {n count q t : ℕ} (k : Known s n count places) (a : Asked kind s n count q t) (l : ℤ) (small : mag l < 2 ^ 31) where
+  pub all_asked : AllPriced kind s l
+  all_asked = record { stands = a.stands; price = small }
 
-  pub last-asked : {x g : List ℤ} → SmallPrices n x → SmallPrices n g → LastAsked kind s count places q t l x g
+  pub last-asked : {x g : List ℤ} → SmallPrices n x → SmallPrices n g → LastAsked kind s count q t l x g
   last-asked first third =
-      let k = a.known in
       record {
-        challenger = record { cost = record { known = known-own k; stands = a.stands; below = a.challenger }; price = small };
+        challenger = record { stands = a.stands; below = a.challenger; price = small };
         defender = omega (arith, k.states, a.defender);
         first = prices-there k first;
         third = prices-there k third;
@@ -65,9 +64,21 @@ pub further-small : {kind : Kind} {C : List ℕ} {at : ℕ} {l : ℤ} → IsFurt
 further-small {l = l} h = rw (price-back l h.small) h.small
 
 -- the prices A stand in the record
-pub first-inside : (kind : Kind) (n challenger : ℕ) → first_prices kind n ≤ prices_by kind n challenger
+first-inside : (kind : Kind) (n challenger : ℕ) → first_prices kind n ≤ prices_by kind n challenger
 unfolding prices_by
 first-inside kind n challenger = omega arith
+
+-- the record holds them, and all prices of a challenger that has no move and of one that has
+module _ (kind : Kind) (n a at : ℕ) {size first : ℕ} (whole : at + 4 * prices_by kind n a ≤ size) (is : first ≡ first_prices kind n) where
+  pub first-whole : at + 4 * first ≤ size
+  first-whole = omega (arith, whole, is, first-inside kind n a)
+
+  module _ {b : Bool} (moves : b ≡ has_move kind a) where
+    pub stays-whole : b ≡ false → at + 4 * first + 4 * n + 4 * further_prices kind ≤ size
+    stays-whole e = omega (arith, whole, is, prices-without-move kind n a (sym moves ∙ e))
+
+    pub moves-whole : b ≡ true → at + 4 * first + 8 * n + 4 * further_prices kind ≤ size
+    moves-whole e = omega (arith, whole, is, prices-with-move kind n a (sym moves ∙ e))
 
 -- a table holds them, by the strong rule and by the others
 pub strong-held : (kind : Kind) → is_strong kind ≡ true → (C : List ℕ) (at : ℕ) {n : ℕ} {table : List ℤ} → HoldsPrices n (λ v. signed_at C at) table → HoldsPrices n (λ v. signed_at C (at + 4 * index_of_a kind v)) table
@@ -192,12 +203,12 @@ module _ (s : List ℕ) (A : Automaton) (R : Pairs) (q t : ℕ) (C : List ℕ) (
   rule-moves Strong {L} further moves = conditions-strong A L R q t p
 
 -- the tests of the prices that the tables hold are those of the prices in the record
-module _ {kind : Kind} {s places : List ℕ} {n count q t : ℕ} (asked : Asked kind s n count places q t) (C : List ℕ) (at : ℕ) (R : Pairs) where
+module _ {kind : Kind} {s places : List ℕ} {n count q t : ℕ} (k : Known s n count places) (asked : Asked kind s n count q t) (C : List ℕ) (at : ℕ) (R : Pairs) where
   sound : SoundAutomaton (automaton_in s)
-  sound = sound-automaton limits (model_at s) asked.known.sound
+  sound = sound-automaton limits (model_at s) k.sound
 
   alike : {table : List ℤ} {X : ℕ → ℤ} → HoldsPrices n X table → Alike (automaton_in s) (price_in table) X
-  alike h = record { held = λ v less. h.held v (omega (arith, known-states asked.known)) }
+  alike h = record { held = λ v less. h.held v (omega (arith, known-states k)) }
 
   -- prices that stand `later` prices after the first
   alike-later : {table : List ℤ} (place later : ℕ) → place ≡ at + 4 * later → HoldsPrices n (λ i. signed_at C (place + 4 * i)) table → Alike (automaton_in s) (price_in table) (λ v. signed_at C (at + 4 * (later + v)))
@@ -215,25 +226,25 @@ module _ {kind : Kind} {s places : List ℕ} {n count q t : ℕ} (asked : Asked 
   judged-by : {X X' Y Y' G G' : ℕ → ℤ} (l : ℤ) {a : ℕ} → a ≡ (automaton_in s).action q → Alike (automaton_in s) X X' → Alike (automaton_in s) Y Y' → Alike (automaton_in s) G G' → conditions_fault (cost_in kind s) (automaton_in s) l kind R a q t X Y G ≡ conditions_fault (cost_in kind s) (automaton_in s) l kind R ((automaton_in s).action q) q t X' Y' G'
   judged-by {X} {Y = Y} {G = G} l e x y g =
       ap (λ (b : ℕ). conditions_fault (cost_in kind s) (automaton_in s) l kind R b q t X Y G) e
-      ∙ conditions-same x y g sound (cost_in kind s) l kind R ((automaton_in s).action q) q t (omega (arith, asked.defender, known-states asked.known))
+      ∙ conditions-same x y g sound (cost_in kind s) l kind R ((automaton_in s).action q) q t (omega (arith, asked.defender, known-states k))
 
   -- the prices behind A
   module _ {first : ℕ} (is : first ≡ first_prices kind n) where
     first-is : first ≡ first_prices kind (automaton_in s).states
-    first-is = is ∙ ap (first_prices kind) (sym (known-states asked.known))
+    first-is = is ∙ ap (first_prices kind) (sym (known-states k))
 
     pub judged-stays : {x g : List ℤ} {l : ℤ} {a : ℕ} → a ≡ (automaton_in s).action q → HoldsPrices n (λ v. signed_at C (at + 4 * index_of_a kind v)) x → HoldsPrices n (λ i. signed_at C (at + 4 * first + 4 * i)) g → IsFurther kind C (at + 4 * first + 4 * n) l → has_move kind a ≡ false → conditions_fault (cost_in kind s) (automaton_in s) (to_z w64 (of_z w64 l)) kind R a q t (price_in x) (price_in x) (price_in g) ≡ (rule_of kind s).prices_fault (automaton_in s) R q t (λ i. signed_at C (at + 4 * i))
     judged-stays e x g further stays =
         judged-by _ e (alike x) (alike x) (alike-later _ (first_prices kind (automaton_in s).states) (omega (arith, first-is)) g)
         ∙ rule-stays s (automaton_in s) R q t C at kind
-        (further-is further _ (omega (arith, first-is, known-states asked.known)))
+        (further-is further _ (omega (arith, first-is, known-states k)))
         (ap (has_move kind) (sym e) ∙ stays)
 
     pub judged-moves : {x y g : List ℤ} {l : ℤ} {a : ℕ} → a ≡ (automaton_in s).action q → HoldsPrices n (λ v. signed_at C (at + 4 * index_of_a kind v)) x → HoldsPrices n (λ i. signed_at C (at + 4 * first + 4 * i)) y → HoldsPrices n (λ i. signed_at C (at + 4 * first + 4 * n + 4 * i)) g → IsFurther kind C (at + 4 * first + 8 * n) l → has_move kind a ≡ true → conditions_fault (cost_in kind s) (automaton_in s) (to_z w64 (of_z w64 l)) kind R a q t (price_in x) (price_in y) (price_in g) ≡ (rule_of kind s).prices_fault (automaton_in s) R q t (λ i. signed_at C (at + 4 * i))
     judged-moves e x y g further moves =
         judged-by _ e (alike x)
         (alike-later _ (first_prices kind (automaton_in s).states) (omega (arith, first-is)) y)
-        (alike-later _ (first_prices kind (automaton_in s).states + (automaton_in s).states) (omega (arith, first-is, known-states asked.known)) g)
+        (alike-later _ (first_prices kind (automaton_in s).states + (automaton_in s).states) (omega (arith, first-is, known-states k)) g)
         ∙ rule-moves s (automaton_in s) R q t C at kind
-        (further-is further _ (omega (arith, first-is, known-states asked.known)))
+        (further-is further _ (omega (arith, first-is, known-states k)))
         (ap (has_move kind) (sym e) ∙ moves)

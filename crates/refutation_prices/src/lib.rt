@@ -12,43 +12,40 @@ ghost use Rattle.prices.specs.Prices.{price_in, HoldsPrices, SmallPrices};
 ghost use Rattle.conditions.specs.Conditions.{conditions_fault};
 ghost use Rattle.refutation_prices.specs.PricesJudged.{Tables, Asked, FaultIs, index_of_a, PricesJudged};
 
-use fault::Fault;
-use model::Places;
+use fault::{Fault, Refusal};
 use pairs::Rows;
 use prices::Prices;
 use rule_kind::Kind;
+use sound_model::SoundModel;
 
 // 15 and 16, of a challenger with the action a. Where there is no move the prices y are x. First come the parameters that its loops read most,
 // in registers.
 fn conditions_fault(
     x: &Prices,
     y: &Prices,
-    s: &[u8],
-    count: usize,
-    places: &Places,
+    model: SoundModel,
     a: usize,
     kind: Kind,
-    n: usize,
     rows: &Rows,
     q: usize,
     t: usize,
     l: i64,
     g: &Prices,
-) -> Fault
-    requires { Asked kind s.now n count places.now q t × SmallPrices n x.now × SmallPrices n y.now × SmallPrices n g.now × (mag l < 2 ^ 31) }
-    ensures { FaultIs n rows.now (λ R. conditions_fault (cost_in kind s.now) (automaton_in s.now) l kind R a q t (price_in x.now) (price_in y.now) (price_in g.now)) result }
+) -> Result<(), Fault>
+    requires { Asked kind model.file.now model.states model.transitions q t × SmallPrices model.states x.now × SmallPrices model.states y.now × SmallPrices model.states g.now × (mag l < 2 ^ 31) }
+    ensures { FaultIs model.entry.states rows.now (λ R. conditions_fault (cost_in kind model.entry.file.now) (automaton_in model.entry.file.now) l kind R a q t (price_in x.now) (price_in y.now) (price_in g.now)) result }
 {
-    if !conditions::all_fair(kind, s, count, places, a, t, l, x, y) {
-        return fault::refusal(15);
+    if !conditions::all_fair(kind, model, a, t, l, x, y) {
+        return Err(Refusal::PriceCondition.fault());
     }
-    if !related_prices::all_related(rows, n, y, g) {
-        return fault::refusal(15);
+    if !related_prices::all_related(rows, model.states, y, g) {
+        return Err(Refusal::PriceCondition.fault());
     }
-    let off = conditions::last_off(kind, s, count, places, q, t, l, x, g);
+    let off = conditions::last_off(kind, model, q, t, l, x, g);
     if 0 <= off {
-        return fault::broken(16, t, off);
+        return Err(Refusal::LastCondition.broken(t, off));
     }
-    fault::none()
+    Ok(())
 }
 
 // The prices A that stand from a place on. Where there is one, for t alone, it goes to every state: no other is asked for it.
@@ -65,10 +62,7 @@ fn first_prices_at(kind: Kind, cert: &[u8], at: usize, n: usize, x: &mut Prices)
 // 15 and 16, of the prices that stand from a place on, by a challenger with the action a.
 pub fn prices_fault(
     kind: Kind,
-    s: &[u8],
-    n: usize,
-    count: usize,
-    places: &Places,
+    model: SoundModel,
     rows: &Rows,
     q: usize,
     t: usize,
@@ -78,19 +72,20 @@ pub fn prices_fault(
     x: &mut Prices,
     y: &mut Prices,
     g: &mut Prices,
-) -> Fault
-    requires { Asked kind s.now n count places.now q t × (a ≡ (automaton_in s.now).action q) × (at + 4 * prices_by kind n a ≤ length cert.now) × Tables x.old y.old g.old }
-    ensures { PricesJudged (rule_of kind s.now) s.now cert.now n rows.now q t at x.new y.new g.new result }
+) -> Result<(), Fault>
+    requires { Asked kind model.file.now model.states model.transitions q t × (a ≡ (automaton_in model.file.now).action q) × (at + 4 * prices_by kind model.states a ≤ length cert.now) × Tables x.old y.old g.old }
+    ensures { PricesJudged (rule_of kind model.entry.file.now) model.entry.file.now cert.now model.entry.states rows.now q t at x.new y.new g.new result }
 {
+    let n = model.states;
     first_prices_at(kind, cert, at, n, x);
     let past = at + 4 * rule_kind::first_prices(kind, n);
     if !rule_kind::has_move(kind, a) {
         prices::prices_at(cert, past, n, g);
         let l = rule_kind::further_price(kind, cert, past + 4 * n);
-        return conditions_fault(x, x, s, count, places, a, kind, n, rows, q, t, l, g);
+        return conditions_fault(x, x, model, a, kind, rows, q, t, l, g);
     }
     prices::prices_at(cert, past, n, y);
     prices::prices_at(cert, past + 4 * n, n, g);
     let l = rule_kind::further_price(kind, cert, past + 8 * n);
-    conditions_fault(x, y, s, count, places, a, kind, n, rows, q, t, l, g)
+    conditions_fault(x, y, model, a, kind, rows, q, t, l, g)
 }

@@ -1,5 +1,5 @@
 -- The highest price among the states that are related to one.
-use Rattle.std.specs.Prelude.{ℕ, ◌^◌, ◌≤◌, ◌<◌, ◌≡◌, Bool, true, List, ℤ, ◌≤ℤ◌}
+use Rattle.std.specs.Prelude.{ℕ, ◌^◌, ◌≤◌, ◌<◌, ◌≡◌, Bool, true, Option, None, Some, List, ℤ, ◌≤ℤ◌}
 use Rattle.std.specs.Int.Signed.{mag}
 use Rattle.bisimulation.specs.definitions.Automaton.{Automaton}
 use Rattle.bisimulation.specs.definitions.Pairs.{Pairs}
@@ -27,9 +27,10 @@ pub record HighestBelow (rows : List ℕ) (v m : ℕ) (table : List ℤ) (r : �
 abbrev pub IsHighest : List ℕ → ℕ → List ℤ → ℤ → Type 0
 IsHighest rows v = HighestBelow rows v limits.states
 
--- so it is, if v is among the first n states
-pub record IsKnown (n : ℕ) (rows : List ℕ) (v : ℕ) (table : List ℤ) (r : ℤ) : Type 0 where
-  pub highest : v < n → IsHighest rows v table r
+-- a state before v and the highest price among those that are related to it, if one is known
+abbrev pub IsKnown : List ℕ → List ℤ → ℕ → Option (ℕ × ℤ) → Type 0
+IsKnown rows table v None = Unit {0}
+IsKnown rows table v (Some known) = (known.0 < v) × IsHighest rows known.0 table known.1
 
 -- r is at least the price of each of the first n states
 pub record AboveAll (n : ℕ) (table : List ℤ) (r : ℤ) : Type 0 where

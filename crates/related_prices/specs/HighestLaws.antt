@@ -1,5 +1,5 @@
 -- Laws of the highest price among related states.
-use Rattle.std.specs.Prelude.{ℕ, ◌+◌, ◌-◌, ◌^◌, ◌≤◌, ◌<◌, ◌≡◌, ◌⊎◌, Bool, not, List, ℤ, pos, negsuc, ◌≤ℤ◌, ◌<ℤ◌}
+use Rattle.std.specs.Prelude.{ℕ, ◌+◌, ◌-◌, ◌^◌, ◌≤◌, ◌<◌, ◌≡◌, ◌⊎◌, Bool, not, Option, None, Some, List, ℤ, pos, negsuc, ◌≤ℤ◌, ◌<ℤ◌}
 use Rattle.std.proofs.Math.Path.{refl, sym, ap}
 use Rattle.std.proofs.Common.{◌∙◌, subst, inl, inr, le→leb, below_more, arith}
 use Rattle.std.proofs.Math.Bool.{true, false}
@@ -199,9 +199,14 @@ pub record Covered (n : ℕ) (rows : List ℕ) (x g : List ℤ) (v : ℕ) : Type
   pub covers : Inside n rows v → (u : ℕ) → row_bit rows v u ≡ true → price_in g u ≤ℤ price_in x v
 
 -- what is known before each state: those before it are covered, and the highest price of one of them, if it was asked for
-pub record Covering (n : ℕ) (rows : List ℕ) (x g : List ℤ) (v other : ℕ) (most : ℤ) : Type 0 where
-  pub known : IsKnown n rows other g most
+pub record Covering (n : ℕ) (rows : List ℕ) (x g : List ℤ) (v : ℕ) (known : Option (ℕ × ℤ)) : Type 0 where
+  pub before : IsKnown rows g v known
   pub covered : (w : ℕ) → w < v → Covered n rows x g w
+
+-- what is known before v is known before the next state
+known-later : (rows : List ℕ) (g : List ℤ) (v : ℕ) (known : Option (ℕ × ℤ)) → IsKnown rows g v known → IsKnown rows g (v + 1) known
+known-later rows g v None h = tt
+known-later rows g v (Some known) h = (omega (arith, h.0), h.1)
 
 -- the rows hold no pair beyond the first n states
 held-inside : {n : ℕ} {R : Pairs} {rows : List ℕ} → HoldsPairs n R rows → n ≤ limits.states → (v : ℕ) → v < n → Inside n rows v
@@ -216,15 +221,15 @@ price-here : {n v : ℕ} {x : List ℤ} {price : ℤ} → SmallPrices n x → v 
 price-here {v = v} first less p = price-read p (first.small v less)
 
 module _ {rows : List ℕ} {x g : List ℤ} where
-  pub cover-start : {n : ℕ} {z : ℤ} → Covering n rows x g 0 n z
-  cover-start = record { known = record { highest = λ less. absurd (omega arith) }; covered = λ w less. absurd (omega arith) }
+  pub cover-start : {n : ℕ} → Covering n rows x g 0 None
+  cover-start = record { before = tt; covered = λ w less. absurd (omega arith) }
 
   module _ {n v : ℕ} {price : ℤ} (first : SmallPrices n x) (few : n ≤ limits.states) (less : v < n) (p : IsPrice x v price) where
     -- a price that is at least the highest of all covers every row
-    pub cover-past : {known : ℕ} {most top : ℤ} → Covering n rows x g v known most → AboveAll n g top → le_z (to_z w64 (of_z w64 top)) (to_z w64 (of_z w64 price)) ≡ true → Covering n rows x g (v + 1) known most
-    cover-past {top = top} c a e =
+    pub cover-past : (known : Option (ℕ × ℤ)) {top : ℤ} → Covering n rows x g v known → AboveAll n g top → le_z (to_z w64 (of_z w64 top)) (to_z w64 (of_z w64 price)) ≡ true → Covering n rows x g (v + 1) known
+    cover-past known {top = top} c a e =
         record {
-          known = c.known;
+          before = known-later rows g v known c.before;
           covered = below_more (Covered n rows x g) v c.covered (record {
             covers = λ inside u related.
                 ≤ℤ-trans ((all_back a).above u (inside.inside u related))
@@ -232,10 +237,10 @@ module _ {rows : List ℕ} {x g : List ℤ} where
           });
         }
 
-    pub cover-turn : {known : ℕ} {before z : ℤ} → IsHighest rows v g z → SmallPrices n g → Covering n rows x g v known before → lt_z (to_z w64 (of_z w64 price)) (to_z w64 (of_z w64 z)) ≡ false → Covering n rows x g (v + 1) v (to_z w64 (of_z w64 z))
+    pub cover-turn : {known : Option (ℕ × ℤ)} {z : ℤ} → IsHighest rows v g z → SmallPrices n g → Covering n rows x g v known → lt_z (to_z w64 (of_z w64 price)) (to_z w64 (of_z w64 z)) ≡ false → Covering n rows x g (v + 1) (Some (v, to_z w64 (of_z w64 z)))
     cover-turn {z = z} h second c e =
         record {
-          known = record { highest = λ less. highest-back h };
+          before = (omega arith, highest-back h);
           covered = below_more (Covered n rows x g) v c.covered (record {
             covers = λ inside u related.
                 ≤ℤ-trans (((highest-back h).bounds n second inside).above u (omega (arith, inside.few, inside.inside u related)) related)

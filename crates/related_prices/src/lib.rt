@@ -37,13 +37,13 @@ fn highest(rows: &Rows, v: usize, g: &Prices) -> i64
     highest_in(rows, v, 1, most, g)
 }
 
-// The same, where that of an earlier state may be known: states with equal rows have it in common.
-fn highest_after(rows: &Rows, v: usize, known: usize, most: i64, g: &Prices) -> i64
-    requires { (v < limits.states) × IsKnown v rows.now known g.now most }
+// The same, where an earlier state and its highest price may be known: states with equal rows have it in common.
+fn highest_after(rows: &Rows, v: usize, known: Option<(usize, i64)>, g: &Prices) -> i64
+    requires { (v < limits.states) × IsKnown rows.now g.now v known }
     ensures { IsHighest rows.now v g.now result }
 {
-    if known < v {
-        if pairs::same_in(rows, v, rows, known) {
+    if let Some((earlier, most)) = known {
+        if pairs::same_in(rows, v, rows, earlier) {
             return most;
         }
     }
@@ -56,37 +56,30 @@ fn highest_of_all(n: usize, g: &Prices) -> i64
     ensures { AboveAll n g.now result }
 {
     let mut most = -0x8000_0000;
-    let mut u = 0;
-    while u < n {
+    for u in 0..n {
         let price = prices::price_of(g, u);
         most = signed::larger(most, price);
-        u += 1;
     }
     most
 }
 
 // For each related v and u, x(v) is at least g(u). The row of v is asked for only where x(v) is below the highest price of all.
-// Before the first such row, `known` is n.
 pub fn all_related(rows: &Rows, n: usize, x: &Prices, g: &Prices) -> bool
     requires { (n ≤ limits.states) × SmallPrices n x.now × SmallPrices n g.now }
     ensures { AreRelated n rows.now x.now g.now result }
 {
     let top = highest_of_all(n, g);
-    let mut v = 0;
-    let mut known = n;
-    let mut most = top;
-    while v < n {
+    let mut known = None;
+    for v in 0..n {
         let price = prices::price_of(x, v);
         if top <= price {
-            v += 1;
             continue;
         }
-        most = highest_after(rows, v, known, most, g);
+        let most = highest_after(rows, v, known, g);
         if price < most {
             return false;
         }
-        known = v;
-        v += 1;
+        known = Some((v, most));
     }
     true
 }

@@ -1,8 +1,8 @@
 -- Laws of terms added to the remainders, and of a transition's weights that arrive there.
-use Prim.Native.Nat.{ℕ, zero, suc, ◌+◌, ◌*◌, ◌-◌, ◌^◌, ◌≤◌, ◌<◌}
+use Prim.Native.Nat.{ℕ, suc, ◌+◌, ◌*◌, ◌^◌, ◌≤◌, ◌<◌}
 use Rattle.std.specs.Prelude.{◌≡◌, refl, length, set, ℤ, pos, ◌+ℤ◌, ◌*ℤ◌}
 use Rattle.std.proofs.Common.{sym, ◌∙◌, length-set, get_or-set_same, get_or-set_other, SFits, arith}
-use Rattle.std.proofs.Math.Path.{ap, subst}
+use Rattle.std.proofs.Math.Path.{ap, ap₂, subst}
 use mathlib.Core.List.{List, [], ◌∷◌}
 use Rattle.std.proofs.Math.IntN.{nat_abs}
 use Rattle.std.specs.Int.Signed.{mag}
@@ -12,18 +12,15 @@ use Rattle.bisimulation.specs.definitions.Choice.{if_same}
 use Rattle.bisimulation.proofs.argument.ChoiceLaws.{same, not_same}
 use Rattle.bisimulation.proofs.argument.Raised.{Raised}
 use Rattle.bisimulation.proofs.argument.RaisedLaws.{raised_add, raised_times}
-use Rattle.rules.specs.definitions.Bytes.{byte_at}
 use Rattle.rules.specs.definitions.Limits.{limits}
 use Rattle.rules.specs.definitions.Model.{Entry, weight_of}
 use Rattle.limits.specs.Sizes as sizes
-use Rattle.rules.specs.definitions.Reading.{states_of, entry_count_at, entries_at, place_of}
+use Rattle.rules.specs.definitions.Reading.{states_of, entries_at}
 use Rattle.rules.specs.definitions.SoundModel.{Each, sum_over}
 use Rattle.rules.proofs.argument.SoundModelLaws.{From, StatesFrom, no-weight}
 use Rattle.transition_record.specs.declared.Fields.{Fields}
-use Rattle.transition.specs.declared.Entry as read
 use Rattle.transition.specs.Known.{automaton_in, FieldsOf, entries_of}
 use Rattle.transition.specs.KnownLaws.{few-states, entries-known}
-use Rattle.transition.specs.Entries.{EntryTaken}
 use Rattle.signed.specs.Terms.{WithTerm}
 use Rattle.signed.specs.TermsLaws.{abs-add, abs-term, mag-abs}
 use Rattle.remainders.specs.Remainders.{remainder_at, AllZero}
@@ -184,76 +181,69 @@ module _ {s places : List ℕ} {r : ℕ} {factor : ℤ} {first : ℕ} {remainder
       (subst (λ (d : ℕ). Became (added remainders i d factor) after now) (share ∙ t.denominator) b)
 
 -- what is known before each entry of a transition: the entries left still make of the remainders what all made
-pub record Arriving (s : List ℕ) (all : List Entry) (factor : ℤ) (first : ℕ) (before remainders : List ℤ) (left at nonzero : ℕ) : Type 0 where
-  pub whole : at + 3 * left ≤ length s
-  pub states : Each (λ (e : Entry). e.state < limits.states) (entries_at s left at)
-  pub room : (i : ℕ) → i < sizes.remainders → nat_abs (remainder_at remainders i) + sum_over (λ (e : Entry). e.weight) (entries_at s left at) * 2 ^ 32 < 2 ^ 63
+pub record Arriving (all : List Entry) (factor : ℤ) (first : ℕ) (before remainders : List ℤ) (es : List Entry) (nonzero : ℕ) : Type 0 where
+  pub states : Each (λ (e : Entry). e.state < limits.states) es
+  pub room : (i : ℕ) → i < sizes.remainders → nat_abs (remainder_at remainders i) + sum_over (λ (e : Entry). e.weight) es * 2 ^ 32 < 2 ^ 63
   pub small : mag factor < 2 ^ 32
   pub layer : first ≤ limits.states
   pub table : Counted remainders nonzero
-  pub makes_up : arrived (entries_at s left at) factor first remainders ≡ arrived all factor first before
+  pub makes_up : arrived es factor first remainders ≡ arrived all factor first before
 
 each-lower : (m n : ℕ) → m ≤ n → (es : List Entry) → Each (λ (e : Entry). e.state < m) es → Each (λ (e : Entry). e.state < n) es
 unfolding Each
 each-lower m n le [] h = tt
 each-lower m n le (e ∷ es) h = (omega (arith, h.0), each-lower m n le es h.1)
 
-pub arriving-start : {s places : List ℕ} {r : ℕ} {factor : ℤ} {first : ℕ} {remainders : List ℤ} {nonzero : ℕ} → CanMove s places r factor first remainders nonzero → {f : Fields} → FieldsOf s r f → Arriving s (entries_of s r) factor first remainders remainders f.count f.entries.at nonzero
-arriving-start {s} {places} {r} {factor} {first} {remainders} {nonzero} m {f} t =
-    let k = entries-known m.known in
-    subst (λ (n : ℕ). Arriving s (entries_of s r) factor first remainders remainders n f.entries.at nonzero) (sym t.count)
-    (subst (λ (p : ℕ). Arriving s (entries_of s r) factor first remainders remainders (entry_count_at s (place_of s r)) p nonzero) (sym t.entries)
-    (record {
-      whole = k.inside;
-      states = each-lower (states_of s) limits.states (few-states m.known.known) (entries_of s r) k.states;
-      room = λ i h. omega (arith, m.room.small i h, k.whole, k.light);
-      small = m.small;
-      layer = m.layer;
-      table = m.table;
-      makes_up = refl;
-    }))
+module _ {s places : List ℕ} {r : ℕ} {factor : ℤ} {first : ℕ} {remainders : List ℤ} {nonzero : ℕ} (m : CanMove s places r factor first remainders nonzero) {f : Fields} (t : FieldsOf s r f) where
+  -- the entries stand in the file
+  pub entries-inside : f.entries.at + 3 * f.count ≤ length s
+  entries-inside = omega (arith, (entries-known m.known).inside, t.count, t.entries)
 
-module _ {s : List ℕ} {all : List Entry} {factor : ℤ} {first : ℕ} {before : List ℤ} where
-  -- the first entry left can be added
-  pub arriving-asks : (left : ℕ) {at nonzero : ℕ} {remainders : List ℤ} {e : read.Entry} {i weight : ℕ} → Arriving s all factor first before remainders left at nonzero → 0 < left → EntryTaken s at e → i ≡ first + e.state → weight ≡ e.weight → CanAdd remainders i weight factor nonzero
-  unfolding Each entries_at sum_over
-  arriving-asks zero h some t place share = absurd (omega arith)
-  arriving-asks (suc left) {i = i} h some t place share =
-      let inside : i < sizes.remainders = omega (arith, place, h.layer, h.states.0, t.state) in
-      record {
-        table = h.table;
-        inside = inside;
-        fits = record { room = omega (arith, h.room i inside, share, t.weight); small = h.small };
-      }
+  pub arriving-start : {es : List Entry} → es ≡ entries_at s f.count f.entries.at → Arriving (entries_of s r) factor first remainders remainders es nonzero
+  arriving-start {es} e =
+      let k = entries-known m.known in
+      subst (λ (l : List Entry). Arriving (entries_of s r) factor first remainders remainders l nonzero) (sym (e ∙ ap₂ (entries_at s) t.count t.entries))
+      (record {
+        states = each-lower (states_of s) limits.states (few-states m.known.known) (entries_of s r) k.states;
+        room = λ i h. omega (arith, m.room.small i h, k.whole, k.light);
+        small = m.small;
+        layer = m.layer;
+        table = m.table;
+        makes_up = refl;
+      })
 
-  one-turn : (left at nonzero : ℕ) (remainders : List ℤ) (e : read.Entry) → Arriving s all factor first before remainders (suc left) at nonzero → EntryTaken s at e → (after : List ℤ) (now : ℕ) → Became (added remainders (first + e.state) e.weight factor) after now → Arriving s all factor first before after left (at + 3) now
-  unfolding Each entries_at sum_over arrived
-  one-turn left at nonzero remainders e h t after now b =
-      record {
-        whole = omega (arith, h.whole);
-        states = h.states.1;
-        room = λ i less. subst (λ (x : List ℤ). nat_abs (remainder_at x i) + sum_over (λ (e : Entry). e.weight) (entries_at s left (at + 3)) * 2 ^ 32 < 2 ^ 63) (sym b.same)
-            (omega (arith, h.room i less, t.weight, added-small remainders (first + e.state) e.weight factor i (omega (arith, h.table.size)) h.small));
-        small = h.small;
-        layer = h.layer;
-        table = b.counted;
-        makes_up =
-            ap (arrived (entries_at s left (at + 3)) factor first)
-            (b.same ∙ ap (λ (k : ℕ). added remainders (first + k) e.weight factor) t.state ∙ ap (λ (k : ℕ). added remainders (first + byte_at s at) k factor) t.weight)
-            ∙ h.makes_up;
-      }
+module _ {all : List Entry} {factor : ℤ} {first : ℕ} {before remainders : List ℤ} {es : List Entry} {nonzero : ℕ} (h : Arriving all factor first before remainders es nonzero) where
+  module _ {e : Entry} {others : List Entry} (here : es ≡ e ∷ others) where
+    next-arrives : Arriving all factor first before remainders (e ∷ others) nonzero
+    next-arrives = subst (λ (l : List Entry). Arriving all factor first before remainders l nonzero) here h
 
-  pub arriving-turn : (left : ℕ) {at nonzero : ℕ} {remainders : List ℤ} {e : read.Entry} {i weight : ℕ} {after : List ℤ} {now : ℕ} → Arriving s all factor first before remainders left at nonzero → 0 < left → EntryTaken s at e → Became (added remainders i weight factor) after now → i ≡ first + e.state → weight ≡ e.weight → Arriving s all factor first before after (left - 1) e.next.at now
-  arriving-turn zero h some t b place share = absurd (omega arith)
-  arriving-turn (suc left) {at} {nonzero} {remainders} {e} {i} {weight} {after} {now} h some t b place share =
-      let one : left ≡ suc left - 1 = omega arith in
-      subst (λ (k : ℕ). Arriving s all factor first before after k e.next.at now) one
-      (subst (λ (p : ℕ). Arriving s all factor first before after left p now) (sym t.next)
-      (one-turn left at nonzero remainders e h t after now
-      (subst (λ (x : ℕ). Became (added remainders x e.weight factor) after now) place
-      (subst (λ (x : ℕ). Became (added remainders i x factor) after now) share b))))
+    -- the first entry left can be added
+    pub arriving-asks : CanAdd remainders (first + e.state) e.weight factor nonzero
+    unfolding Each sum_over
+    arriving-asks =
+        let n = next-arrives in
+        let inside : first + e.state < sizes.remainders = omega (arith, n.layer, n.states.0) in
+        record {
+          table = n.table;
+          inside = inside;
+          fits = record { room = omega (arith, n.room (first + e.state) inside); small = n.small };
+        }
 
-  pub arriving-end : (left : ℕ) {at nonzero : ℕ} {remainders : List ℤ} → Arriving s all factor first before remainders left at nonzero → left ≤ 0 → Became (arrived all factor first before) remainders nonzero
-  unfolding entries_at arrived
-  arriving-end zero h none = record { same = h.makes_up; counted = h.table }
-  arriving-end (suc left) h none = absurd (omega arith)
+    pub arriving-turn : {after : List ℤ} {now : ℕ} → Became (added remainders (first + e.state) e.weight factor) after now → Arriving all factor first before after others now
+    unfolding Each sum_over arrived
+    arriving-turn b =
+        let n = next-arrives in
+        record {
+          states = n.states.1;
+          room = λ i less. subst (λ (x : List ℤ). nat_abs (remainder_at x i) + sum_over (λ (e : Entry). e.weight) others * 2 ^ 32 < 2 ^ 63) (sym b.same)
+              (omega (arith, n.room i less, added-small remainders (first + e.state) e.weight factor i (omega (arith, n.table.size)) n.small));
+          small = n.small;
+          layer = n.layer;
+          table = b.counted;
+          makes_up = ap (arrived others factor first) b.same ∙ n.makes_up;
+        }
+
+  pub arriving-end : es ≡ [] → Became (arrived all factor first before) remainders nonzero
+  unfolding arrived
+  arriving-end none =
+      record { same = ap (λ (l : List Entry). arrived l factor first remainders) (sym none) ∙ h.makes_up; counted = h.table }

@@ -2,6 +2,10 @@
 use Rattle.std.specs.Prelude.{ℕ, zero, suc, ◌+◌, ◌≤◌, ◌<◌, ◌≡◌, refl, List, [], ◌∷◌, length, set, ℤ, pos, negsuc}
 use Rattle.std.proofs.Common.{sym, ◌∙◌, ap, length-set, SFits, to_z, of_z, to_z-of_z, arith}
 use Rattle.std.specs.Int.{w64}
+use mir.Val.{bool_byte}
+use mathlib.Core.Bool.{Bool, true, false, not}
+use Rattle.std.proofs.Math.Dec.{eqb}
+use Rattle.std.proofs.lemmas.Bool.{eqb-true, eqb-false}
 use Rattle.limits.specs.Sizes as sizes
 use Rattle.remainders.specs.Remainders.{remainder_at, AllZero}
 use Rattle.remainders.specs.Nonzero.{is_nonzero, nonzero_in, CanChange, Counted, Became}
@@ -22,6 +26,13 @@ zero_bits fits e = zero-nonzero (sym (to_z-of_z fits) ∙ ap (to_z w64) e)
 
 pub not-zero-bits : (z : ℤ) → (of_z w64 z ≡ 0 → ⊥) → is_nonzero z ≡ 1
 not-zero-bits z o = not-zero z (λ e. o (ap (of_z w64) e))
+
+pub nonzero-byte : {z : ℤ} → SFits w64 z → bool_byte (not (eqb (of_z w64 z) 0)) ≡ is_nonzero z
+nonzero-byte {z} fits = go (eqb (of_z w64 z) 0) refl
+  where
+    go : (b : Bool) → eqb (of_z w64 z) 0 ≡ b → bool_byte (not b) ≡ is_nonzero z
+    go true e = sym (zero_bits fits (eqb-true _ _ e))
+    go false e = sym (not-zero-bits z (eqb-false _ _ e))
 
 is_zero : (z : ℤ) → is_nonzero z ≡ 0 → z ≡ pos 0
 unfolding is_nonzero

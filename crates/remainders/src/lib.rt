@@ -25,10 +25,7 @@ pub fn no_remainders() -> Remainders
 fn is_nonzero(number: i64) -> usize
     ensures { result ≡ is_nonzero number }
 {
-    if number == 0 {
-        return 0;
-    }
-    1
+    usize::from(number != 0)
 }
 
 // How many remainders are not zero, after one of them changed. A sum takes fewer instructions than cases.
@@ -92,11 +89,8 @@ pub fn arrive(
     ensures { Became (arrived (entries_of s.now r) factor first remainders.old) remainders.new result }
 {
     let t = transition::fields_of(s, places, r);
-    let mut left = t.count;
-    let mut next = t.entries;
     let mut now_nonzero = nonzero;
-    while 0 < left {
-        let entry = transition::entry_at(s, next);
+    for entry in transition::entries(s, t.entries, t.count) {
         now_nonzero = add(
             remainders,
             first + entry.state,
@@ -104,8 +98,6 @@ pub fn arrive(
             factor,
             now_nonzero,
         );
-        next = entry.next;
-        left -= 1;
     }
     now_nonzero
 }

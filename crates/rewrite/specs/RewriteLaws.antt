@@ -1,5 +1,5 @@
 -- What a call that rewrites finds, as its promise.
-use Rattle.std.specs.Prelude.{ℕ, ◌+◌, ◌≤◌, ◌<◌, ◌≡◌, false, List, [], ◌∷◌, ◌++◌, length, take, drop}
+use Rattle.std.specs.Prelude.{ℕ, ◌≤◌, ◌<◌, ◌≡◌, false, List, [], ◌∷◌, ◌++◌, length, take, drop}
 use Rattle.std.proofs.Math.Path.{refl, sym, ap₂, subst}
 use Rattle.std.proofs.Common.{◌∙◌, ap, arith}
 use Rattle.bisimulation.proofs.argument.ChoiceLaws.{not_less, either_less, false-not}
@@ -32,7 +32,7 @@ use Rattle.limits.specs.declared.Terms.TheVariants.{Any}
 use Rattle.rule_kind.specs.Kinds.{is_strong, rule_of, pairs_by}
 use Rattle.rule_kind.specs.declared.Kind.{Kind}
 use Rattle.rule_kind.specs.declared.Kind.TheVariants.{Plain, Costs, Strong}
-use Rattle.fault.specs.Faults.{fault_of, Placed}
+use Rattle.fault.specs.Faults.{fault_of, PlacedAt}
 use Rattle.fault.specs.declared.Fault.{Fault}
 use Rattle.transition.specs.Known.{automaton_in, Known}
 use Rattle.transition.specs.KnownLaws.{known-states, known-transitions}
@@ -46,7 +46,7 @@ use Rattle.judgement.specs.VerdictLaws.{part-is, part-follows}
 use Rattle.divisors.specs.Table.{HoldsDivisors}
 use Rattle.rewritten_model.specs.Lowest.{lowest_file}
 use Rattle.rewritten_model.specs.LowestLaws.{lowest-model, lowest-cost-file}
-use Rattle.rewritten_flows.specs.Flows.{FlowsLeft, FlowsStand, TableOf, FirstLarge, FlowsFit, flows_file, FlowsWritten}
+use Rattle.rewritten_flows.specs.Flows.{FlowsLeft, FlowsStand, TableOf, LargeAt, NoneLarge, FlowsFit, flows_file, FlowsWritten}
 use Rattle.rewritten_flows.specs.FlowsLaws.{accepted-left, accepted-flows, accepted-table, accepted-fit, accepted-file}
 use Rattle.rewrite.specs.Rewrite.{rewrites_by, rewrite_demands, RewriteAnswered, CanRewrite}
 
@@ -83,7 +83,7 @@ pub record Ready (kind : Kind) (M C table : List ℕ) (at : ℕ) : Type 0 where
   pub left : FlowsLeft C many at
   pub stand : FlowsStand C table at
   pub held : TableOf (model_at M) C table many at
-  pub fit : (r : ℕ) → FirstLarge table C at r → r ≡ length C → FlowsFit C table at
+  pub fit : NoneLarge table C at → FlowsFit C table at
   pub model_size : length (lowest_file M) ≡ length M
   pub certificate_size : length (flows_file table C many at) ≡ length C
   pub outcome : (before : List (List ℕ)) → refuse_large (model_at M) C before many at (files_outcome 36 (lowest_file M ∷ flows_file table C many at ∷ []) before) ≡ outcome_by (pairs_by kind Any) (rewrites_by kind M C) M C before
@@ -106,7 +106,7 @@ module _ (by : PairRules) {M C blocks table : List ℕ} {count : ℕ} (b : Bytes
         left = accepted-left stands d counted;
         stand = accepted-flows stands d counted;
         held = accepted-table stands d counted;
-        fit = λ r f z. accepted-fit stands d counted f z;
+        fit = accepted-fit stands d counted;
         model_size = ap length e ∙ long;
         certificate_size =
             ap length same ∙ rewritten-certificate-length (model_at M) (by.rule M).file.mark (certificate_at (by.rule M).file (automaton_in M) C) ∙ ap length (sym stands.encoded);
@@ -169,21 +169,21 @@ module _ (kind : Kind) (w : is_strong kind ≡ false) {M C : List ℕ} (b : Byte
       u
 
 -- what follows acceptance
-module _ {kind : Kind} {M C table : List ℕ} {at : ℕ} (one two : List ℕ) (p : Ready kind M C table at) {place : ℕ} (found : FirstLarge table C at place) where
+module _ {kind : Kind} {M C table : List ℕ} {at : ℕ} (one two : List ℕ) (p : Ready kind M C table at) where
   -- 35
-  pub large-refused : {g : rules-faults.Fault} {f : Fault} {a : Answer} {r : PairAnswer} → place < length C → g ≡ fault 35 → Placed g place f → Says (refusal_in (fault_of f) 2 f.place (length C)) 0 a → Unwritten a r → RewriteAnswered kind M C one two one two r
+  pub large-refused : {place : ℕ} {g : rules-faults.Fault} {f : Fault} {a : Answer} {r : PairAnswer} → LargeAt table C at place → g ≡ fault 35 → PlacedAt g place f → Says (refusal_in (fault_of f) 2 f.place (length C)) 0 a → Unwritten a r → RewriteAnswered kind M C one two one two r
   unfolding file_of
-  large-refused {f = f} {a = a} below is placed s u =
+  large-refused {place} {f = f} {a = a} found is placed s u =
       let e : unwritten (refusal_in (fault 35) 2 place (length C)) (one ∷ two ∷ []) ≡ answer_of kind M C one two =
-      sym (found.large below p.many p.left (model_at M) p.held (one ∷ two ∷ []) _) ∙ p.outcome (one ∷ two ∷ []) in
+      sym (found.large p.many p.left (model_at M) p.held (one ∷ two ∷ []) _) ∙ p.outcome (one ∷ two ∷ []) in
       let same : refusal_in (fault_of f) 2 f.place (length C) ≡ refusal_in (fault 35) 2 place (length C) =
       ap₂ (λ (x : rules-faults.Fault) (y : ℕ). refusal_in x 2 y (length C)) (placed.is ∙ is) placed.at in
       refused kind p.weak p.is_model p.is_certificate one two (with-stretch (M ∷ C ∷ []) (one ∷ two ∷ []) (fault 35) 2 place (subst (λ (x : rules.Answer). Says x 0 a) same s) e (omega arith) (omega arith))
       (ap second_written (sym e) ∙ none-second _ (one ∷ two ∷ [])) u
 
-  module _ (none : length C ≤ place) where
+  module _ (found : NoneLarge table C at) where
     past : files_outcome 36 (lowest_file M ∷ flows_file table C p.many at ∷ []) (one ∷ two ∷ []) ≡ answer_of kind M C one two
-    past = sym (found.none (omega (arith, found.inside, none)) p.many p.left (model_at M) p.held (one ∷ two ∷ []) _) ∙ p.outcome (one ∷ two ∷ [])
+    past = sym (found.none p.many p.left (model_at M) p.held (one ∷ two ∷ []) _) ∙ p.outcome (one ∷ two ∷ [])
 
     -- 36
     short : {a : Answer} {r : PairAnswer} → unwritten (answer_without_place 36) (one ∷ two ∷ []) ≡ answer_of kind M C one two → Says (answer_without_place 36) 0 a → Unwritten a r → RewriteAnswered kind M C one two one two r

@@ -8,10 +8,11 @@ ghost use Rattle.rule_kind.specs.Kinds.{is_strong};
 ghost use Rattle.rule_kind.specs.declared.Kind.TheVariants.{Plain, Costs};
 ghost use Rattle.rewrite.specs.Rewrite.{CanRewrite, RewriteAnswered};
 
-use answer::PairAnswer;
-use judgement::Verdict;
+use answer::{Answer, PairAnswer};
+use fault::Refusal;
 use limits::{STATES, Terms};
 use rule_kind::Kind;
+use sound_model::SoundModel;
 
 // An accepted pair of n states and so many transitions, whose flows begin at a place: 35, 36, or both files.
 fn write_pair(
@@ -28,25 +29,27 @@ fn write_pair(
     ensures { RewriteAnswered kind model.now certificate.now model_out.old certificate_out.old model_out.new certificate_out.new result }
 {
     let places = transition::places_of(model, n, count);
-    let divisors = divisors::divisors_of(model, count, &places);
-    let large = rewritten_flows::first_large(certificate, &divisors, flows);
-    if large < certificate.len() {
-        return answer::unwritten(answer::refusal_in(
-            fault::refusal(35).at(large),
-            2,
-            certificate.len(),
-        ));
+    let sound = SoundModel {
+        file: model,
+        states: n,
+        transitions: count,
+        places: &places,
+    };
+    let divisors = divisors::divisors_of(sound);
+    if let Some(large) = rewritten_flows::first_large(certificate, &divisors, flows) {
+        let wrong = Refusal::LargeK.fault().at(large);
+        return answer::unwritten(Answer::refused_in(wrong, 2, certificate.len()));
     }
     if model_out.len() < model.len() {
-        return answer::unwritten(answer::without_place(36, 0));
+        return answer::unwritten(Answer::refused(Refusal::RewrittenRoom));
     }
     if certificate_out.len() < certificate.len() {
-        return answer::unwritten(answer::without_place(36, 0));
+        return answer::unwritten(Answer::refused(Refusal::RewrittenRoom));
     }
-    rewritten_model::write_file(model, n, count, &places, &divisors, model_out);
+    rewritten_model::write_file(sound, &divisors, model_out);
     rewritten_flows::write_file(certificate, &divisors, flows, certificate_out);
     PairAnswer {
-        answer: answer::without_place(0, model.len()),
+        answer: Answer::written(model.len()),
         certificate_written: certificate.len(),
     }
 }
@@ -62,24 +65,39 @@ fn rewrite_headed(
     requires { ((head_fault limits model.now).number ≡ 0) × (is_strong kind ≡ false) }
     ensures { RewriteAnswered kind model.now certificate.now model_out.old certificate_out.old model_out.new certificate_out.new result }
 {
-    let found = judgement::judge_files(kind, Terms::Any, model, certificate, STATES);
-    match found {
-        Verdict::Accepted {
-            states,
-            transitions,
-            blocks,
-        } => write_pair(
-            kind,
-            model,
-            states,
-            transitions,
-            certificate,
-            blocks + states,
-            model_out,
-            certificate_out,
-        ),
-        Verdict::Refused(answer) => answer::unwritten(answer),
+    match judgement::judge_files(kind, Terms::Any, model, certificate, STATES) {
+        Ok(found) => {
+            let flows = found.blocks + found.states;
+            write_pair(
+                kind,
+                model,
+                found.states,
+                found.transitions,
+                certificate,
+                flows,
+                model_out,
+                certificate_out,
+            )
+        }
+        Err(refused) => answer::unwritten(refused),
     }
+}
+
+// A pair by its rule, plain or with costs.
+fn rewrite_by(
+    kind: Kind,
+    model: &[u8],
+    certificate: &[u8],
+    model_out: &mut [u8],
+    certificate_out: &mut [u8],
+) -> PairAnswer
+    requires { is_strong kind ≡ false }
+    ensures { RewriteAnswered kind model.now certificate.now model_out.old certificate_out.old model_out.new certificate_out.new result }
+{
+    if let Err(refused) = judgement::head_answer(model) {
+        return answer::unwritten(refused);
+    }
+    rewrite_headed(kind, model, certificate, model_out, certificate_out)
 }
 
 // What the call that rewrites a pair without costs answers.
@@ -91,11 +109,7 @@ pub fn rewrite_answer(
 ) -> PairAnswer
     ensures { RewriteAnswered Plain model.now certificate.now model_out.old certificate_out.old model_out.new certificate_out.new result }
 {
-    let head = judgement::head_answer(model);
-    if head.number != 0 {
-        return answer::unwritten(head);
-    }
-    rewrite_headed(Kind::Plain, model, certificate, model_out, certificate_out)
+    rewrite_by(Kind::Plain, model, certificate, model_out, certificate_out)
 }
 
 // The same of a cost pair.
@@ -107,9 +121,5 @@ pub fn rewrite_costs_answer(
 ) -> PairAnswer
     ensures { RewriteAnswered Costs model.now certificate.now model_out.old certificate_out.old model_out.new certificate_out.new result }
 {
-    let head = judgement::head_answer(model);
-    if head.number != 0 {
-        return answer::unwritten(head);
-    }
-    rewrite_headed(Kind::Costs, model, certificate, model_out, certificate_out)
+    rewrite_by(Kind::Costs, model, certificate, model_out, certificate_out)
 }

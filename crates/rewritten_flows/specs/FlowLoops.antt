@@ -22,7 +22,7 @@ use Rattle.field.specs.declared.Field.{Field}
 use Rattle.field.specs.Taken.{Taken}
 use Rattle.writer.specs.Appends.{Appends}
 use Rattle.writer.specs.AppendsLaws.{append-none, append-more}
-use Rattle.rewritten_flows.specs.Flows.{multiplied_k, multiplied_ks, multiplied_flow, KsReady, FlowFits, FlowsLeft, FlowsStand, TableOf, FirstLarge, FlowsFit, FlowsWritten}
+use Rattle.rewritten_flows.specs.Flows.{multiplied_k, multiplied_ks, multiplied_flow, KsReady, FlowFits, FlowsLeft, FlowsStand, TableOf, LargeAt, NoneLarge, FlowsFit, FlowsWritten}
 use Rattle.rewritten_flows.specs.FlowLaws.{flow-inside, behind-read, ks-read, large-read, end_read, after_k-inside, after_k-above, FlowFound, flow-found, left-next, left-some, left-none, flow-ready, flow-fits}
 
 -- the table's divisors are the model's
@@ -56,57 +56,60 @@ module _ {table C : List ℕ} {at : ℕ} where
     unfolding refuse_large
     passed_here small N before next left t = sym (is_false (unwritten (refusal_in (fault 35) 2 at (length C)) before) (same-large N left t ∙ small) refl)
 
-    first-here : passes_k (multiplied_flow table (flow_record_at C at)).ks ≡ true → FirstLarge table C at at
+    first-here : passes_k (multiplied_flow table (flow_record_at C at)).ks ≡ true → LargeAt table C at at
     first-here large =
         record {
-          inside = omega arith;
-          large = λ l left f N t before next.
+          inside = below;
+          large = λ left f N t before next.
               left-some (λ (n : ℕ). TableOf N C table n at → refuse_large N C before n at next ≡ unwritten (refusal_in (fault 35) 2 at (length C)) before) left f below
               (λ n g. refused-here large N before next n) t;
-          none = λ z left f N t before next. absurd (omega arith);
-          fit = λ z left f. absurd (omega arith);
         }
 
-    first-later : {r : ℕ} → passes_k (multiplied_flow table (flow_record_at C at)).ks ≡ false → FirstLarge table C (after_flow C at) r → FirstLarge table C at r
-    unfolding flows_from Each
-    first-later {r} small h =
-        record {
-          inside = h.inside;
-          large = λ l left f N t before next.
-              left-some (λ (n : ℕ). TableOf N C table n at → refuse_large N C before n at next ≡ unwritten (refusal_in (fault 35) 2 r (length C)) before) left f below
-              (λ n g u. passed_here small N before next n u ∙ h.large l n (left-next n at g) N (table-next n u) before next) t;
-          none = λ z left f N t before next.
-              left-some (λ (n : ℕ). TableOf N C table n at → refuse_large N C before n at next ≡ next) left f below
-              (λ n g u. passed_here small N before next n u ∙ h.none z n (left-next n at g) N (table-next n u) before next) t;
-          fit = λ z left f.
-              left-some (λ (n : ℕ). Each (λ (x : FlowRecord). passes_k (multiplied_flow table x).ks ≡ false) (flows_from C n at)) left f below
-              (λ n g. (small, h.fit z n (left-next n at g)));
-        }
+    module _ (small : passes_k (multiplied_flow table (flow_record_at C at)).ks ≡ false) where
+      large-later : {r : ℕ} → LargeAt table C (after_flow C at) r → LargeAt table C at r
+      large-later {r} h =
+          record {
+            inside = h.inside;
+            large = λ left f N t before next.
+                left-some (λ (n : ℕ). TableOf N C table n at → refuse_large N C before n at next ≡ unwritten (refusal_in (fault 35) 2 r (length C)) before) left f below
+                (λ n g u. passed_here small N before next n u ∙ h.large n (left-next n at g) N (table-next n u) before next) t;
+          }
 
-  first-none : at ≡ length C → FirstLarge table C at at
+      none-later : NoneLarge table C (after_flow C at) → NoneLarge table C at
+      unfolding flows_from Each
+      none-later h =
+          record {
+            none = λ left f N t before next.
+                left-some (λ (n : ℕ). TableOf N C table n at → refuse_large N C before n at next ≡ next) left f below
+                (λ n g u. passed_here small N before next n u ∙ h.none n (left-next n at g) N (table-next n u) before next) t;
+            fit = λ left f.
+                left-some (λ (n : ℕ). Each (λ (x : FlowRecord). passes_k (multiplied_flow table x).ks ≡ false) (flows_from C n at)) left f below
+                (λ n g. (small, h.fit n (left-next n at g)));
+          }
+
+  none-past : length C ≤ at → NoneLarge table C at
   unfolding refuse_large flows_from Each
-  first-none e =
+  none-past past =
       record {
-        inside = omega arith;
-        large = λ l left f N t before next. absurd (omega arith);
-        none = λ z left f N t before next. left-none (λ (n : ℕ). refuse_large N C before n at next ≡ next) left f (omega arith) refl;
-        fit = λ z left f. left-none (λ (n : ℕ). Each (λ (x : FlowRecord). passes_k (multiplied_flow table x).ks ≡ false) (flows_from C n at)) left f (omega arith) tt;
+        none = λ left f N t before next. left-none (λ (n : ℕ). refuse_large N C before n at next ≡ next) left f past refl;
+        fit = λ left f. left-none (λ (n : ℕ). Each (λ (x : FlowRecord). passes_k (multiplied_flow table x).ks ≡ false) (flows_from C n at)) left f past tt;
       }
 
 -- what is known before each flow that is looked at: some number of them is left, and what is found from here on is what was asked for
 pub record Searching (C table : List ℕ) (start at : ℕ) : Type 0 where
   pub stand : FlowsStand C table at
-  pub back : (r : ℕ) → FirstLarge table C at r → FirstLarge table C start r
+  pub large : (r : ℕ) → LargeAt table C at r → LargeAt table C start r
+  pub none : NoneLarge table C at → NoneLarge table C start
 
 pub search-start : {C table : List ℕ} {start : ℕ} → FlowsStand C table start → Searching C table start start
-search-start h = record { stand = h; back = λ r f. f }
+search-start h = record { stand = h; large = λ r f. f; none = λ f. f }
 
 module _ {C table : List ℕ} {start at : ℕ} (s : Searching C table start at) where
   pub search-inside : at ≤ length C
   search-inside = fill_begins C s.stand.left at s.stand.flows.fill
 
-  pub search-end : length C ≤ at → FirstLarge table C start at
-  search-end past = s.back at (first-none (omega (arith, search-inside)))
+  pub search-end : length C ≤ at → NoneLarge table C start
+  search-end past = s.none (none-past past)
 
   module _ (below : at < length C) where
     found : FlowFound C at
@@ -122,8 +125,8 @@ module _ {C table : List ℕ} {start at : ℕ} (s : Searching C table start at) 
       pub search-behind : at + 8 + 7 * p.value + 2 ≤ length C
       search-behind = omega (arith, behind-read at t e, flow-inside found.stand, after_k-inside C at)
 
-      pub search-large : true ≡ passes_k (multiplied_ks table C p.value p.next.at) → FirstLarge table C start at
-      search-large large = s.back at (first-here below (large-read at t e table large))
+      pub search-large : true ≡ passes_k (multiplied_ks table C p.value p.next.at) → LargeAt table C start at
+      search-large large = s.large at (first-here below (large-read at t e table large))
 
       module _ {later : ℕ} {q : Field} (u : Taken C two_at later 2 65536 q) (f : later ≡ at + 8 + 7 * p.value) where
         end_is : at + 8 + 7 * p.value + 2 + 6 * q.value ≡ after_flow C at
@@ -133,13 +136,15 @@ module _ {C table : List ℕ} {start at : ℕ} (s : Searching C table start at) 
         search-past = omega (arith, end_is, flow-inside found.stand)
 
         pub search-turn : false ≡ passes_k (multiplied_ks table C p.value p.next.at) → Searching C table start (at + 8 + 7 * p.value + 2 + 6 * q.value)
-        search-turn small =
+        search-turn few =
+            let small = large-read at t e table few in
             subst (Searching C table start) (sym end_is)
             (left-some (λ (n : ℕ). Searching C table start (after_flow C at)) s.stand.left s.stand.flows below
             (λ n g.
             record {
               stand = record { divisors = s.stand.divisors; left = n; flows = left-next n at g };
-              back = λ r h. s.back r (first-later below (large-read at t e table small) h);
+              large = λ r h. s.large r (large-later below small h);
+              none = λ h. s.none (none-later below small h);
             }))
 
 -- the flows left are written behind what stands before them

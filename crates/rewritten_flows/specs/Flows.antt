@@ -1,5 +1,6 @@
 -- Flows with their k multiplied by a table of divisors: what the code needs, finds and writes.
 use Rattle.std.specs.Prelude.{ℕ, ◌+◌, ◌*◌, ◌≤◌, ◌<◌, ◌≡◌, false, List, ◌++◌, map, length, take, drop, get_or}
+use Rattle.std.specs.Prelude.{Option, Some, None}
 use Rattle.rules.specs.definitions.Limits.{limits}
 use Rattle.rules.specs.definitions.Model.{Model}
 use Rattle.rules.specs.definitions.SoundModel.{Each}
@@ -79,12 +80,19 @@ pub record TableOf (N : Model) (C table : List ℕ) (left at : ℕ) : Type 0 whe
   pub held : (r : ℕ) → r < count → get_or table r 0 ≡ divisor_at N r
   pub named : Each (λ (f : FlowRecord). Each (λ (e : KEntry). e.transition < count) f.ks) (flows_from C left at)
 
--- the place of the first flow that has a k too large, or the file's length, where as many as fill the file are looked at
-pub record FirstLarge (table C : List ℕ) (at r : ℕ) : Type 0 where
-  pub inside : r ≤ length C
-  pub large : r < length C → (left : ℕ) → FlowsLeft C left at → (N : Model) → TableOf N C table left at → (before : List (List ℕ)) (next : Outcome) → refuse_large N C before left at next ≡ unwritten (refusal_in (fault 35) 2 r (length C)) before
-  pub none : r ≡ length C → (left : ℕ) → FlowsLeft C left at → (N : Model) → TableOf N C table left at → (before : List (List ℕ)) (next : Outcome) → refuse_large N C before left at next ≡ next
-  pub fit : r ≡ length C → (left : ℕ) → FlowsLeft C left at → Each (λ (f : FlowRecord). passes_k (multiplied_flow table f).ks ≡ false) (flows_from C left at)
+-- the first flow that has a k too large is the one at a place, where as many as fill the file are looked at
+pub record LargeAt (table C : List ℕ) (at r : ℕ) : Type 0 where
+  pub inside : r < length C
+  pub large : (left : ℕ) → FlowsLeft C left at → (N : Model) → TableOf N C table left at → (before : List (List ℕ)) (next : Outcome) → refuse_large N C before left at next ≡ unwritten (refusal_in (fault 35) 2 r (length C)) before
+
+-- or none has one
+pub record NoneLarge (table C : List ℕ) (at : ℕ) : Type 0 where
+  pub none : (left : ℕ) → FlowsLeft C left at → (N : Model) → TableOf N C table left at → (before : List (List ℕ)) (next : Outcome) → refuse_large N C before left at next ≡ next
+  pub fit : (left : ℕ) → FlowsLeft C left at → Each (λ (f : FlowRecord). passes_k (multiplied_flow table f).ks ≡ false) (flows_from C left at)
+
+abbrev pub FirstLarge : (table C : List ℕ) (at : ℕ) → Option ℕ → Type 0
+FirstLarge table C at (Some r) = LargeAt table C at r
+FirstLarge table C at None = NoneLarge table C at
 
 -- some number of flows fills the file, and each k fits once it is multiplied
 pub record FlowsFit (C table : List ℕ) (at : ℕ) : Type 0 where

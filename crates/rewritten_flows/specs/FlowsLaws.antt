@@ -26,7 +26,7 @@ use Rattle.rules.proofs.argument.CertificateKept.{CertificateStands}
 use Rattle.rewriting.specs.definitions.Rewritten.{rewritten_flow, rewritten_certificate}
 use Rattle.rewriting.specs.definitions.RewriteAnswer.{refuse_large}
 use Rattle.divisors.specs.Table.{HoldsDivisors}
-use Rattle.rewritten_flows.specs.Flows.{multiplied_flow, Listed, FlowsLeft, FlowsStand, TableOf, FirstLarge, FlowsFit, flows_file, FlowsWritten}
+use Rattle.rewritten_flows.specs.Flows.{multiplied_flow, Listed, FlowsLeft, FlowsStand, TableOf, LargeAt, NoneLarge, FlowsFit, flows_file, FlowsWritten}
 use Rattle.rewritten_flows.specs.FlowLoops.{flow-rewritten}
 
 -- what stands before the flows of a certificate
@@ -103,9 +103,9 @@ module _ {L : Limits} {rule : FileRule} {says : RuleSays} {decides : Decides rul
   accepted-table = record { count = count; held = d.held; named = named-flows }
 
   -- where no flow has a k too large, each k fits once it is multiplied
-  pub accepted-fit : {r : ℕ} → FirstLarge table C start r → r ≡ length C → FlowsFit C table start
+  pub accepted-fit : NoneLarge table C start → FlowsFit C table start
   unfolding accepted-flows
-  accepted-fit f e = record { stand = accepted-flows; fit = f.fit e many accepted-left }
+  accepted-fit f = record { stand = accepted-flows; fit = f.fit many accepted-left }
 
   -- the file with its flows multiplied is the file of the rewritten certificate
   pub accepted-file : flows_file table C many start ≡ certificate_bytes rule.mark (rewritten_certificate (model_at s) (certificate_at rule A C))
@@ -118,13 +118,13 @@ module _ {L : Limits} {rule : FileRule} {says : RuleSays} {decides : Decides rul
       (ap (list_bytes flow_bytes) (flows-rewritten s table d (flows_from C many start) named-flows ∙ ap (map (rewritten_flow (model_at s))) (sym flows-are)))
       ∙ sym (front-flows rule.mark (rewritten_certificate (model_at s) K))
 
-  -- what is answered, by the place of the first flow that has such a k
-  module _ {r : ℕ} (f : FirstLarge table C start r) (before : List (List ℕ)) (next : Outcome) where
-    pub accepted-refused : r < length C → refuse_large (model_at s) C before many start next ≡ unwritten (refusal_in (fault 35) 2 r (length C)) before
-    accepted-refused l = f.large l many accepted-left (model_at s) accepted-table before next
+  -- what is answered, by the first flow that has such a k
+  module _ (before : List (List ℕ)) (next : Outcome) where
+    pub accepted-refused : {r : ℕ} → LargeAt table C start r → refuse_large (model_at s) C before many start next ≡ unwritten (refusal_in (fault 35) 2 r (length C)) before
+    accepted-refused f = f.large many accepted-left (model_at s) accepted-table before next
 
-    pub accepted-passed : r ≡ length C → refuse_large (model_at s) C before many start next ≡ next
-    accepted-passed e = f.none e many accepted-left (model_at s) accepted-table before next
+    pub accepted-passed : NoneLarge table C start → refuse_large (model_at s) C before many start next ≡ next
+    accepted-passed f = f.none many accepted-left (model_at s) accepted-table before next
 
   -- and what is written
   pub accepted-written : {before after : List ℕ} → FlowsWritten table C start before after → after ≡ certificate_bytes rule.mark (rewritten_certificate (model_at s) (certificate_at rule A C)) ++ drop (length C) before

@@ -85,6 +85,10 @@ module _ {C table : List ℕ} where
   unfolding Each entries_from
   ks-rest left at h = record { divisors = h.divisors; inside = omega (arith, h.inside); listed = h.listed.1 }
 
+  pub looking-start : {ks left at : ℕ} → ks ≡ left → KsReady C table ks at → Looking C table (passes_k (multiplied_ks table C ks at)) left at
+  looking-start {ks} {at = at} e r =
+      subst (λ (n : ℕ). Looking C table (passes_k (multiplied_ks table C ks at)) n at) e (record { ready = r; same = refl })
+
   module _ {found : Bool} where
     pub looking-large : (left : ℕ) {at : ℕ} {k : Field} → Looking C table found left at → 0 < left → Taken C (multiplied_at table) at 7 281474976710656 k → highest_k < k.value → true ≡ found
     unfolding entries_from passes_k multiplied_at
@@ -96,19 +100,19 @@ module _ {C table : List ℕ} where
     looking-next left at h t below =
         record { ready = ks-rest left at h.ready; same = not_less true (omega (arith, t.value)) refl ∙ h.same }
 
-    pub looking-turn : (left : ℕ) {at : ℕ} {k : Field} → Looking C table found left at → 0 < left → Taken C (multiplied_at table) at 7 281474976710656 k → k.value ≤ highest_k → Looking C table found (left - 1) k.next.at
-    looking-turn zero h some t below = absurd (omega arith)
-    looking-turn (suc left) {at} {k} h some t below =
-        let one : left ≡ suc left - 1 = omega arith in
-        subst (λ (n : ℕ). Looking C table found n k.next.at) one (subst (Looking C table found left) (sym t.next) (looking-next left at h t below))
+    pub looking-turn : {left fewer at : ℕ} {k : Field} → Looking C table found left at → left ≡ suc fewer → Taken C (multiplied_at table) at 7 281474976710656 k → k.value ≤ highest_k → Looking C table found fewer k.next.at
+    looking-turn {fewer = fewer} {at} h e t below =
+        subst (Looking C table found fewer) (sym t.next) (looking-next fewer at (subst (λ (n : ℕ). Looking C table found n at) e h) t below)
 
     pub looking-end : (left : ℕ) {at : ℕ} → Looking C table found left at → left ≤ 0 → false ≡ found
     unfolding entries_from passes_k
     looking-end zero h none = h.same
     looking-end (suc left) h none = absurd (omega arith)
 
-  pub ks-start : {ks at : ℕ} {out : List ℕ} → KsFit C table ks at → length C ≤ length out → WritingKs C table (list_bytes k_bytes (multiplied_ks table C ks at)) at out ks at out
-  ks-start f room = record { fit = f; room = room; ahead = ahead-start (omega (arith, f.ready.inside)) }
+  pub ks-start : {ks left at : ℕ} {out : List ℕ} → ks ≡ left → KsFit C table ks at → length C ≤ length out → WritingKs C table (list_bytes k_bytes (multiplied_ks table C ks at)) at out left at out
+  ks-start {ks} {at = at} {out} e f room =
+      subst (λ (n : ℕ). WritingKs C table (list_bytes k_bytes (multiplied_ks table C ks at)) at out n at out) e
+      (record { fit = f; room = room; ahead = ahead-start (omega (arith, f.ready.inside)) })
 
   module _ {all before : List ℕ} {at : ℕ} where
     -- an entry fits
@@ -154,12 +158,10 @@ module _ {C table : List ℕ} where
           ahead = subst (λ (n : ℕ). Ahead all at before (list_bytes k_bytes (multiplied_ks table C left (place + 7))) n more) behind ahead;
         }
 
-    pub ks-turn : (left place : ℕ) {next past : ℕ} {out mid more : List ℕ} {k : Field} → WritingKs C table all at before left place out → 0 < left → Taken C (multiplied_at table) place 7 281474976710656 k → Appends (take (place + 3 - place) (drop place C)) place out mid next → Appends (four_bytes k.value) next mid more past → WritingKs C table all at before (left - 1) k.next.at more
-    ks-turn zero place h some t a b = absurd (omega arith)
-    ks-turn (suc left) place {next} {past} {more = more} {k} h some t a b =
-        let one : left ≡ suc left - 1 = omega arith in
-        subst (λ (n : ℕ). WritingKs C table all at before n k.next.at more) one
-        (subst (λ (n : ℕ). WritingKs C table all at before left n more) (sym t.next) (ks-next left place next past h t a b))
+    pub ks-turn : {left fewer place next past : ℕ} {out mid more : List ℕ} {k : Field} → WritingKs C table all at before left place out → left ≡ suc fewer → Taken C (multiplied_at table) place 7 281474976710656 k → Appends (take (place + 3 - place) (drop place C)) place out mid next → Appends (four_bytes k.value) next mid more past → WritingKs C table all at before fewer k.next.at more
+    ks-turn {fewer = fewer} {place} {next} {past} {out} {more = more} h e t a b =
+        subst (λ (n : ℕ). WritingKs C table all at before fewer n more) (sym t.next)
+        (ks-next fewer place next past (subst (λ (n : ℕ). WritingKs C table all at before n place out) e h) t a b)
 
     pub ks-end : (left : ℕ) {place : ℕ} {out : List ℕ} → WritingKs C table all at before left place out → left ≤ 0 → Appends all at before out place
     unfolding entries_from list_bytes

@@ -35,21 +35,19 @@ fn large_ks(cert: &[u8], divisors: &Divisors, ks: usize, first: Cursor) -> bool
     requires { KsReady cert.now divisors.now ks first.at }
     ensures { result ≡ passes_k (multiplied_ks divisors.now cert.now ks first.at) }
 {
-    let mut left = ks;
     let mut place = first;
-    while 0 < left {
+    for _ in 0..ks {
         let k = multiplied(cert, divisors, place);
         if HIGHEST_K < k.value {
             return true;
         }
         place = k.next;
-        left -= 1;
     }
     false
 }
 
-// The place of the first flow from a place on that has such a k; the file's length where none has.
-pub fn first_large(cert: &[u8], divisors: &Divisors, start: usize) -> usize
+// The place of the first flow from a place on that has such a k.
+pub fn first_large(cert: &[u8], divisors: &Divisors, start: usize) -> Option<usize>
     requires { FlowsStand cert.now divisors.now start }
     ensures { FirstLarge divisors.now cert.now start result }
 {
@@ -57,13 +55,13 @@ pub fn first_large(cert: &[u8], divisors: &Divisors, start: usize) -> usize
     while at < cert.len() {
         let ks = Cursor::new(at + 6).pair(cert);
         if large_ks(cert, divisors, ks.value, ks.next) {
-            return at;
+            return Some(at);
         }
         let behind = at + 8 + 7 * ks.value;
         let ws = Cursor::new(behind).pair(cert).value;
         at = behind + 2 + 6 * ws;
     }
-    at
+    None
 }
 
 // So many k entries from a place on, each multiplied. Hands back the place after them.
@@ -71,15 +69,13 @@ fn write_ks(cert: &[u8], divisors: &Divisors, ks: usize, first: Cursor, out: &mu
     requires { KsFit cert.now divisors.now ks first.at × (length cert.now ≤ length out.old) }
     ensures { Appends (list_bytes k_bytes (multiplied_ks divisors.now cert.now ks first.at)) first.at out.old out.new result }
 {
-    let mut left = ks;
     let mut place = first;
-    while 0 < left {
+    for _ in 0..ks {
         let start = place.at;
         let k = multiplied(cert, divisors, place);
         let next = writer::part(out, start, &cert[start..start + 3]);
         writer::quad(out, next, k.value);
         place = k.next;
-        left -= 1;
     }
     place.at
 }

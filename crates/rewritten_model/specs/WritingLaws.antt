@@ -25,11 +25,11 @@ use Rattle.divisors.specs.Table.{HoldsDivisors}
 use Rattle.rewritten_model.specs.Lowest.{CanDivideEntries, CanDivide, lowest_records, CanWriteRecords, lowest_file}
 
 -- one record
-module _ {s table : List ℕ} {r g : ℕ} {out : List ℕ} {at : ℕ} (m : CanDivide s table r g out at) {f : Fields} (t : FieldsOf s r f) (source action denominator count : ℕ) {head : List ℕ} {next : ℕ} (fixed : Appends (fixed_bytes source action denominator count) at out head next) where
+module _ {s table : List ℕ} {n count r g : ℕ} {out : List ℕ} {at : ℕ} (k : Known s n count table) (m : CanDivide s count r g out at) {f : Fields} (t : FieldsOf s r f) (source action denominator many : ℕ) {head : List ℕ} {next : ℕ} (fixed : Appends (fixed_bytes source action denominator many) at out head next) where
   pub transition-asks : CanDivideEntries s f.count f.entries.at g head next
   unfolding two_bytes divided_entry
   transition-asks =
-      let e = entries-known m.transition in
+      let e = entries-known (known-transition k m.less) in
       subst (λ (n : ℕ). CanDivideEntries s n f.entries.at g head next) (sym t.count)
       (subst (λ (p : ℕ). CanDivideEntries s (entry_count_at s (place_of s r)) p g head next) (sym t.entries)
       (record {
@@ -38,7 +38,7 @@ module _ {s table : List ℕ} {r g : ℕ} {out : List ℕ} {at : ℕ} (m : CanDi
               inside = e.inside;
               fit =
                   each_map (λ (x : Entry). (x.state < states_of s) × (x.weight ≤ 65535)) _
-                  (λ x h. (omega (arith, h.0, few-states m.transition.known), omega (arith, h.1, div-le_self x.weight g)))
+                  (λ x h. (omega (arith, h.0, few-states (known-own k)), omega (arith, h.1, div-le_self x.weight g)))
                   _
                   (each_both _ _ _ e.states (each-most (λ (x : Entry). x.weight) 65535 _ (omega (arith, e.whole, e.light))));
               room = omega (arith, m.room, fixed.place, fixed.size);
@@ -47,33 +47,33 @@ module _ {s table : List ℕ} {r g : ℕ} {out : List ℕ} {at : ℕ} (m : CanDi
       }))
 
   below : r < count_of s
-  below = omega (arith, m.transition.below, m.transition.known.transitions)
+  below = omega (arith, m.less, k.transitions)
 
   divisor-is : g ≡ divisor_in (transition_at s (place_of s r))
   unfolding divisor_at
   divisor-is = m.divisor ∙ ap divisor_in (transition-is s r below)
 
-  pub transition-lowest : {after : List ℕ} {end : ℕ} → source ≡ f.source → action ≡ f.action → denominator ≡ f.denominator / g → count ≡ f.count → Appends (entries_bytes (map (divided_entry g) (entries_at s f.count f.entries.at))) next head after end → Appends (transition_bytes (in_lowest (transition_at s (place_of s r)))) at out after end
+  pub transition-lowest : {after : List ℕ} {end : ℕ} → source ≡ f.source → action ≡ f.action → denominator ≡ f.denominator / g → many ≡ f.count → Appends (entries_bytes (map (divided_entry g) (entries_at s f.count f.entries.at))) next head after end → Appends (transition_bytes (in_lowest (transition_at s (place_of s r)))) at out after end
   unfolding in_lowest transition_at
-  transition-lowest {after} {end} from by over many a =
+  transition-lowest {after} {end} from by over full a =
       subst (λ (l : List ℕ). Appends l at out after end)
       (record-bytes (in_lowest (transition_at s (place_of s r)))
       (from ∙ t.source ∙ automaton-source s r below)
       (by ∙ t.action ∙ automaton-action s r below)
       (over ∙ ap₂ (λ (d k : ℕ). d / k) (t.denominator ∙ automaton-denominator s r below) divisor-is)
-      (many ∙ sym (length-map (entries_at s f.count f.entries.at) (divided_entry g) ∙ length-entries_at s f.count f.entries.at))
+      (full ∙ sym (length-map (entries_at s f.count f.entries.at) (divided_entry g) ∙ length-entries_at s f.count f.entries.at))
       (ap₂ (λ (n p : ℕ). map (divided_entry g) (entries_at s n p)) t.count t.entries ∙ ap (λ (k : ℕ). map (divided_entry k) (entries_at s (entry_count_at s (place_of s r)) (place_of s r + 7))) divisor-is))
       (append-more fixed a)
 
 -- each record has its place of the file, and its divisor
-pub record-asks : {s : List ℕ} {count : ℕ} {table divisors before out : List ℕ} {at r next : ℕ} → CanWriteRecords s count table divisors before at → Changing in_lowest lowest-count s count at before r out next → r < count → CanDivide s table r (get_or divisors r 0) out next
+pub record-asks : {s table : List ℕ} {n count : ℕ} {divisors before out : List ℕ} {at r next : ℕ} → Known s n count table → CanWriteRecords s count divisors before at → Changing in_lowest lowest-count s count at before r out next → r < count → CanDivide s count r (get_or divisors r 0) out next
 unfolding after_transition
-record-asks {r = r} a h less =
+record-asks {r = r} k a h less =
     record {
-      transition = known-transition a.known less;
+      less = less;
       divisor = a.held.held r less;
       some = a.held.some r less;
-      room = omega (arith, a.known.records r less, h.place, a.place, a.room, h.ahead.size);
+      room = omega (arith, k.records r less, h.place, a.place, a.room, h.ahead.size);
     }
 
 -- the bytes of a file from a place on, as they are taken
@@ -123,10 +123,9 @@ module _ {s table : List ℕ} {n count : ℕ} (k : Known s n count table) where
 
   -- the file, one part after the other
   module _ {divisors out : List ℕ} (held : HoldsDivisors s count divisors) {front : List ℕ} {at : ℕ} (h : Appends (take (8 + n) s) 0 out front at) (room : length s ≤ length out) where
-    pub records-fit : CanWriteRecords s count table divisors front at
+    pub records-fit : CanWriteRecords s count divisors front at
     records-fit =
         record {
-          known = known-own k;
           held = held;
           place = omega (arith, h.place, front_length, k.states);
           room = omega (arith, room, h.size);

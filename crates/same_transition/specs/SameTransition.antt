@@ -1,5 +1,5 @@
 -- Records of transitions in a buffer, and whether the last is the same as one before it.
-use Rattle.std.specs.Prelude.{ℕ, ◌+◌, ◌*◌, ◌-◌, ◌≤◌, ◌<◌, ◌≡◌, Bool, true, false, List, eqb, length, take, drop}
+use Rattle.std.specs.Prelude.{ℕ, ◌+◌, ◌*◌, ◌-◌, ◌≤◌, ◌≡◌, Bool, true, false, List, eqb, length, take, drop}
 use Rattle.bisimulation.specs.definitions.Choice.{all_below}
 use Rattle.rules.specs.definitions.Bytes.{byte_at}
 use Rattle.rules.specs.definitions.Model.{Transition, transition_bytes, transitions_bytes}

@@ -12,10 +12,8 @@ fn same_bytes(s: &[u8], first: usize, second: usize, count: usize) -> bool
     requires { (first + count ≤ length s.now) × (second + count ≤ length s.now) }
     ensures { result ≡ same_bytes s.now first second count }
 {
-    let mut left = count;
-    while 0 < left {
-        left -= 1;
-        if s[first + left] != s[second + left] {
+    for i in (0..count).rev() {
+        if s[first + i] != s[second + i] {
             return false;
         }
     }

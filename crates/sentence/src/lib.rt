@@ -10,6 +10,7 @@ ghost use Rattle.sentence.specs.Parts.{opening, fields, closing};
 ghost use Rattle.sentence.specs.Sentence.{told, SentenceAnswered, Hands};
 
 use answer::Answer;
+use fault::Refusal;
 
 // The bytes of the longest sentence.
 pub const LONGEST: usize = 201;
@@ -85,7 +86,7 @@ fn hand_over(text: &[u8], out: &mut [u8]) -> Answer
 {
     let room = out.len();
     let size = write_file(text, out);
-    answer::file_answer(39, size, room)
+    Answer::of_file(Refusal::SentenceRoom, size, room)
 }
 
 // What the call that composes a sentence answers. The sentence is composed in a table of its own, so that nothing is written before its

@@ -8,7 +8,7 @@ ghost use Rattle.sheet_blocks.specs.Blocks.{sheet_of, ModelBlocks};
 ghost use Rattle.sheet.specs.Sheet.{SheetAnswered};
 
 use answer::Answer;
-use judgement::Verdict;
+use fault::Refusal;
 use limits::{STATES, Terms};
 use rule_kind::Kind;
 
@@ -22,24 +22,21 @@ fn write_sheet(blocks: &[u8], out: &mut [u8]) -> Answer
     classes::start(blocks, blocks.len(), &mut rows);
     let room = out.len();
     let size = sheet_blocks::write_sheet(blocks, &rows, out);
-    answer::file_answer(28, size, room)
+    Answer::of_file(Refusal::SheetRoom, size, room)
 }
 
 // What the call that writes the sheet answers. It lends no block buffer, so the blocks have the room of every model.
 pub fn sheet_answer(model: &[u8], certificate: &[u8], out: &mut [u8]) -> Answer
     ensures { SheetAnswered model.now certificate.now out.old out.new result }
 {
-    let head = judgement::head_answer(model);
-    if head.number != 0 {
-        return head;
+    if let Err(refused) = judgement::head_answer(model) {
+        return refused;
     }
-    let found = judgement::judge_files(Kind::Plain, Terms::Lowest, model, certificate, STATES);
-    match found {
-        Verdict::Accepted {
-            states,
-            transitions,
-            blocks: at,
-        } => write_sheet(&certificate[at..at + states], out),
-        Verdict::Refused(answer) => answer,
+    match judgement::judge_files(Kind::Plain, Terms::Lowest, model, certificate, STATES) {
+        Ok(found) => {
+            let at = found.blocks;
+            write_sheet(&certificate[at..at + found.states], out)
+        }
+        Err(refused) => refused,
     }
 }

@@ -54,12 +54,10 @@ fn sheet_length(blocks: &[u8], rows: &Rows) -> usize
 {
     let mut total = 0;
     let mut seen = 0;
-    let mut v = 0;
-    while v < blocks.len() {
+    for v in 0..blocks.len() {
         let counted = count_block(blocks, rows, v, seen);
         total += counted.bytes;
         seen = counted.seen;
-        v += 1;
     }
     total
 }
@@ -87,12 +85,10 @@ fn write_blocks(blocks: &[u8], rows: &Rows, out: &mut [u8]) -> usize
 {
     let mut next = 0;
     let mut seen = 0;
-    let mut v = 0;
-    while v < blocks.len() {
+    for v in 0..blocks.len() {
         let put = write_block(blocks, rows, v, seen, out, next);
         next = put.next;
         seen = put.seen;
-        v += 1;
     }
     next
 }

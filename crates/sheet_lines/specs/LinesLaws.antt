@@ -26,10 +26,6 @@ module _ {a b c d at second third last next : ℕ} {s t u v w : List ℕ} (p : A
   unfolding cell
   cell-written x e f g h = append-as (λ i. e i ∷ f i ∷ g i ∷ h i ∷ []) four
 
-  pub blank-written : a ≡ 0x20 → b ≡ 0x20 → c ≡ 0x20 → d ≡ 0x20 → Appends blank at s w next
-  unfolding blank
-  blank-written e f g h = append-as (λ i. e i ∷ f i ∷ g i ∷ h i ∷ []) four
-
 -- the members from a state on, by the next of them
 module _ {f : ℕ → Bool} {from member : ℕ} (next : IsNext f from member) where
   pub next-member : member < limits.states → members_from f from ≡ member ∷ members_from f (member + 1)
@@ -81,30 +77,24 @@ pub record Filling (f : ℕ → Bool) (first at : ℕ) (before : List ℕ) (left
 pub filling-start : {f : ℕ → Bool} {from at : ℕ} {out : List ℕ} → from ≤ limits.states → at + 65 ≤ length out → Filling f from at out 16 from at out
 filling-start h room = record { inside = h; room = omega arith; rest = refl; ahead = ahead-start (omega arith) }
 
--- the first of the cells left
-cells-first : (left : ℕ) (ms : List ℕ) → 0 < left → cells left ms ≡ first_cell ms ++ cells (left - 1) (drop 1 ms)
-unfolding cells
-cells-first zero ms h = absurd (omega arith)
-cells-first (suc left) ms h = let e : left ≡ suc left - 1 = omega arith in ap (λ (k : ℕ). first_cell ms ++ cells k (drop 1 ms)) e
-
 module _ {f : ℕ → Bool} {first at : ℕ} {before : List ℕ} {left from next : ℕ} {out : List ℕ} (h : Filling f first at before left from next out) where
-  pub filling-turn : 0 < left → {more : List ℕ} {r : Written} → CellTaken f from next out more r → Filling f first at before (left - 1) r.from r.next more
-  filling-turn some {more} {r} t =
+  pub filling-turn : {fewer : ℕ} → left ≡ suc fewer → {more : List ℕ} {r : Written} → CellTaken f from next out more r → Filling f first at before fewer r.from r.next more
+  unfolding cells
+  filling-turn {fewer} e {more} {r} t =
       let ms = members_from f from in
       let size = first-length ms in
-      let one : 1 + (left - 1) ≡ left = omega arith in
+      let one : 1 + fewer ≡ left = omega arith in
       record {
         inside = t.inside;
         room = omega (arith, h.room, t.written.place, t.written.size, size);
-        rest = ap (drop (left - 1)) t.left ∙ drop-drop (left - 1) 1 ms ∙ ap (λ (k : ℕ). drop k ms) one ∙ h.rest;
-        ahead = ahead-turn h.ahead (cells-first left ms some ∙ ap (λ (l : List ℕ). first_cell ms ++ cells (left - 1) l) (sym t.left)) t.written;
+        rest = ap (drop fewer) t.left ∙ drop-drop fewer 1 ms ∙ ap (λ (k : ℕ). drop k ms) one ∙ h.rest;
+        ahead = ahead-turn h.ahead (ap (λ (k : ℕ). cells k ms) e ∙ ap (λ (l : List ℕ). first_cell ms ++ cells fewer l) (sym t.left)) t.written;
       }
 
   -- and after the last of them the line's end
-  pub filling-end : left ≤ 0 → {after : List ℕ} {end byte : ℕ} → byte ≡ 0x0A → Appends (byte ∷ []) next out after end → LineTaken f first at before after (record { next = end; from = from })
+  pub filling-end : left ≡ 0 → {after : List ℕ} {end byte : ℕ} → byte ≡ 0x0A → Appends (byte ∷ []) next out after end → LineTaken f first at before after (record { next = end; from = from })
   unfolding cells
-  filling-end none e p =
-      let z : left ≡ 0 = omega arith in
+  filling-end z e p =
       record {
         inside = h.inside;
         left = ap (λ (k : ℕ). drop k (members_from f from)) (sym z) ∙ h.rest;
@@ -131,22 +121,25 @@ pub record Going (f : ℕ → Bool) (all : List ℕ) (at : ℕ) (before : List �
   pub room : next + 73 * left ≤ length out
   pub ahead : Ahead all at before (lines left (blank ++ blank) (members_from f from)) next out
 
-pub going_start : {f : ℕ → Bool} {count from at : ℕ} {out : List ℕ} → from ≤ limits.states → at + 73 * count ≤ length out → Going f (lines count (blank ++ blank) (members_from f from)) at out count from at out
-going_start h room = record { inside = h; room = room; ahead = ahead-start (omega arith) }
+pub going_start : {f : ℕ → Bool} {count left from at : ℕ} {out : List ℕ} → count ≡ left → from ≤ limits.states → at + 73 * count ≤ length out → Going f (lines count (blank ++ blank) (members_from f from)) at out left from at out
+going_start {f} {count} {from = from} {at} {out} e h room =
+    subst (λ (k : ℕ). Going f (lines count (blank ++ blank) (members_from f from)) at out k from at out) e
+    (record { inside = h; room = room; ahead = ahead-start (omega arith) })
 
 module _ {f : ℕ → Bool} {all : List ℕ} {at : ℕ} {before : List ℕ} {left from next : ℕ} {out : List ℕ} (h : Going f all at before left from next out) where
-  pub going-turn : 0 < left → {a b c : List ℕ} {front start : ℕ} {r : Written} → Appends blank next out a front → Appends blank front a b start → LineTaken f from start b c r → Going f all at before (left - 1) r.from r.next c
-  going-turn some p q t =
+  pub going-turn : {fewer : ℕ} → left ≡ suc fewer → {a b c : List ℕ} {front start : ℕ} {r : Written} → Appends blank next out a front → Appends blank front a b start → LineTaken f from start b c r → Going f all at before fewer r.from r.next c
+  unfolding lines
+  going-turn {fewer} e p q t =
       let ms = members_from f from in
       record {
         inside = t.inside;
         room = omega (arith, h.room, p.place, p.size, q.place, q.size, t.written.place, t.written.size, blank-length, taken-length ms);
-        ahead = ahead-turn h.ahead (lines-first left (blank ++ blank) ms some ∙ ap (λ (l : List ℕ). line (blank ++ blank) ms ++ lines (left - 1) (blank ++ blank) l) (sym t.left)) (line-written (append-more p q) t);
+        ahead = ahead-turn h.ahead (ap (λ (k : ℕ). lines k (blank ++ blank) ms) e ∙ ap (λ (l : List ℕ). line (blank ++ blank) ms ++ lines fewer (blank ++ blank) l) (sym t.left)) (line-written (append-more p q) t);
       }
 
-  pub going_end : left ≤ 0 → Appends all at before out next
+  pub going_end : left ≡ 0 → Appends all at before out next
   unfolding lines
-  going_end none = let z : left ≡ 0 = omega arith in ahead-end h.ahead (ap (λ (k : ℕ). lines k (blank ++ blank) (members_from f from)) z)
+  going_end z = ahead-end h.ahead (ap (λ (k : ℕ). lines k (blank ++ blank) (members_from f from)) z)
 
 -- a block: its first line, and the further ones
 module _ (number size : ℕ) {f : ℕ → Bool} {at front start : ℕ} {a b c d : List ℕ} {r : Written} (p : Appends (cell number) at a b front) (q : Appends (cell size) front b c start) (t : LineTaken f 0 start c d r) where

@@ -53,10 +53,7 @@ fn blank(out: &mut [u8], at: usize) -> usize
     requires { at + 4 ≤ length out.old }
     ensures { Appends sheet.blank at out.old out.new result }
 {
-    let second = writer::byte(out, at, SPACE);
-    let third = writer::byte(out, second, SPACE);
-    let last = writer::byte(out, third, SPACE);
-    writer::byte(out, last, SPACE)
+    writer::part(out, at, b"    ")
 }
 
 // The cell of the first member from a state on, blank where none is left.
@@ -64,16 +61,15 @@ fn next_cell(rows: &Rows, v: usize, from: usize, out: &mut [u8], at: usize) -> W
     requires { (v < limits.states) × (from ≤ limits.states) × (at + 4 ≤ length out.old) }
     ensures { CellTaken (row_bit rows.now v) from at out.old out.new result }
 {
-    let member = pairs::next_related(rows, v, from);
-    if member < STATES {
-        let next = cell(out, at, member);
-        return Written {
-            next,
-            from: member + 1,
-        };
+    let Some(member) = pairs::next_related(rows, v, from) else {
+        let next = blank(out, at);
+        return Written { next, from: STATES };
+    };
+    let next = cell(out, at, member);
+    Written {
+        next,
+        from: member + 1,
     }
-    let next = blank(out, at);
-    Written { next, from: STATES }
 }
 
 // A line behind its first 8 columns: the members from a state on, as many as it has cells for, and its end.
@@ -81,14 +77,12 @@ fn rest_of_line(rows: &Rows, v: usize, from: usize, out: &mut [u8], at: usize) -
     requires { (v < limits.states) × (from ≤ limits.states) × (at + 65 ≤ length out.old) }
     ensures { LineTaken (row_bit rows.now v) from at out.old out.new result }
 {
-    let mut left = CELLS;
     let mut next = at;
     let mut member = from;
-    while 0 < left {
+    for _ in 0..CELLS {
         let taken = next_cell(rows, v, member, out, next);
         next = taken.next;
         member = taken.from;
-        left -= 1;
     }
     Written {
         next: writer::byte(out, next, NEWLINE),
@@ -108,16 +102,14 @@ fn further_lines(
     requires { (v < limits.states) × (from ≤ limits.states) × (at + 73 * count ≤ length out.old) }
     ensures { Appends (sheet.lines count (sheet.blank ++ sheet.blank) (members_from (row_bit rows.now v) from)) at out.old out.new result }
 {
-    let mut left = count;
     let mut next = at;
     let mut member = from;
-    while 0 < left {
+    for _ in 0..count {
         let front = blank(out, next);
         let cells = blank(out, front);
         let written = rest_of_line(rows, v, member, out, cells);
         next = written.next;
         member = written.from;
-        left -= 1;
     }
     next
 }
@@ -127,7 +119,7 @@ pub fn line_count(size: usize) -> usize
     requires { size ≤ limits.states }
     ensures { result ≡ sheet.line_count size }
 {
-    (size + CELLS - 1) / CELLS
+    size.div_ceil(CELLS)
 }
 
 // The block of so many states of which v is one.

@@ -25,8 +25,5 @@ pub fn minus(amount: usize) -> i64
 pub fn larger(a: i64, b: i64) -> i64
     ensures { IsLarger a b result }
 {
-    if a < b {
-        return b;
-    }
-    a
+    a.max(b)
 }

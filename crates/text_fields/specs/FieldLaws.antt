@@ -1,49 +1,69 @@
 -- Laws of the fields of a text: what one more byte comes to, and what the whole is.
-use Rattle.std.specs.Prelude.{ℕ, zero, suc, ◌+◌, ◌*◌, ◌-◌, ◌^◌, ◌≤◌, ◌<◌, ◌≡◌, Bool, get_or, take, drop}
+use Rattle.std.specs.Prelude.{ℕ, zero, suc, ◌+◌, ◌*◌, ◌-◌, ◌^◌, ◌≤◌, ◌<◌, ◌≡◌, Bool, cond, ◌&&◌, ◌↔◌, ◌⊎◌, eqb, get_or, take, drop, Option}
 use Rattle.std.proofs.Math.Path.{refl, sym, ap}
-use Rattle.std.proofs.Common.{◌∙◌, ap₂, subst, drop_of_length-le, drop-cons, take_all, add-one, pow-suc, mul-le-mul_left, mul-le-mul_right}
+use Rattle.std.proofs.Common.{◌∙◌, ap₂, subst, ⊎_elim, drop_of_length-le, drop-cons, take_all, add-one, pow-suc, mul-le-mul_left, mul-le-mul_right}
 use Rattle.std.proofs.Math.Bool.{true, false}
 use mathlib.Core.List.{List, [], ◌∷◌}
-use Rattle.std.proofs.Math.Dec.{ltb}
 use Rattle.std.proofs.Math.ListN.{length, length-drop}
-use borrow.Author.Tests.{lt-ltb}
 use native.Mathlib.Omega.{arith}
+use borrow.Author.Rules.{rules}
+use lib.Pointwise.{pointwise}
+use Rattle.std.specs.Int.{is_in_range}
+use Rattle.std.specs.Bool.{then_some}
+use Rattle.std.proofs.lemmas.List.{get_or-drop}
 use Rattle.std.proofs.Math.Nat.{one-le-pow}
-use Rattle.std.proofs.Math.Decide.{ℕ_discrete, dec_lt}
+use Rattle.std.proofs.Math.Decide.{dec_lt}
 use Rattle.bisimulation.specs.definitions.Choice.{if_less, if_same, if_true, both}
-use Rattle.bisimulation.proofs.argument.ChoiceLaws.{less, not_less, same, not_same, is_true, is_false, not_true, via, either_same, either_true, kept_less, kept_true, both_true, true-both}
+use Rattle.bisimulation.proofs.argument.ChoiceLaws.{less, not_less, same, not_same, is_true, is_false, not_true, via, either_same, kept_less, kept_true, past_less, one-test, false-not, both_true, true-both}
 use Rattle.rules.specs.definitions.Bytes.{byte_at}
 use Rattle.numbers.specs.definitions.Decimal.{is_digit, all_digits, value_from, value_of, is_number}
 use Rattle.numbers.proofs.argument.DecimalLaws.{digit-bounds, bounds-digit}
 use Rattle.prism.specs.definitions.Lines.{pieces, fraction, ten_thousandths, all_shown, is_name}
 use Rattle.prism.specs.definitions.Reading.{same_bytes}
 use Rattle.prism.proofs.argument.PieceLaws.{pieces-at, pieces_end}
-use Rattle.text_fields.specs.Fields.{PieceEnds, number_below, digits_from}
+use Rattle.text_fields.specs.Fields.{PieceEnds, number_below, digits_from, IsBelow, IsPositive}
+
+true-not : true ≡ false → ⊥
+true-not e = false-not (sym e)
 
 -- the byte at a place, and those behind it
 byte_next : (s : List ℕ) (at : ℕ) → at < length s → drop at s ≡ get_or s at 0 ∷ drop (at + 1) s
 byte_next s at h = drop-cons s at 0 h ∙ ap (λ (k : ℕ). get_or s at 0 ∷ drop k s) (sym (add-one at))
 
--- no byte that parts from a place on up to here
-pub record NoneParts (s : List ℕ) (from parting at : ℕ) : Type 0 where
-  pub after : from ≤ at
-  pub within : at ≤ length s
-  pub clear : (i : ℕ) → from ≤ i → i < at → get_or s i 0 ≡ parting → ⊥
+-- the piece from a place on ends where the first byte behind it that parts stands
+module _ (s : List ℕ) (from parting : ℕ) (inside : from ≤ length s) {t : List ℕ} (taken : t ≡ take (length s - from) (drop from s)) where
+  e : t ≡ drop from s
+  e = taken ∙ take_all (length s - from) (drop from s) (omega (arith, length-drop from s))
 
-pub none_yet : (s : List ℕ) (from parting : ℕ) → from ≤ length s → NoneParts s from parting from
-none_yet s from parting h = record { after = omega arith; within = h; clear = λ i low high e. omega arith }
+  behind : (i : ℕ) → from ≤ i → get_or s i 0 ≡ get_or t (i - from) 0
+  behind i low =
+      let k : from + (i - from) ≡ i = omega arith in
+      ap (λ (j : ℕ). get_or s j 0) (sym k) ∙ sym (get_or-drop from s (i - from) 0) ∙ ap (λ (l : List ℕ). get_or l (i - from) 0) (sym e)
 
-module _ {s : List ℕ} {from parting at : ℕ} (w : NoneParts s from parting at) where
-  pub parts-not : at < length s → (get_or s at 0 ≡ parting → ⊥) → NoneParts s from parting (at + 1)
-  parts-not h n = record { after = omega arith; within = omega arith; clear = λ i low high e. go i low high e (ℕ_discrete i at) }
-    where
-      go : (i : ℕ) → from ≤ i → i < at + 1 → get_or s i 0 ≡ parting → Dec (i ≡ at) → ⊥
-      go i low high e (yes p) = n (sym (ap (λ (k : ℕ). get_or s k 0) p) ∙ e)
-      go i low high e (no m) = w.clear i low (omega arith) e
+  size : length t ≡ length s - from
+  size = ap length e ∙ length-drop from s
 
-  pub parts-here : (at < length s → get_or s at 0 ≡ parting) → PieceEnds s from parting at
+  pub parts-at : {i : ℕ} → ((k : ℕ) → k < i → get_or t k 0 ≡ parting → ⊥) → get_or t i 0 ≡ parting → i < length t → PieceEnds s from parting (from + i)
   unfolding byte_at
-  parts-here e = record { after = w.after; within = w.within; clear = w.clear; stops = e }
+  parts-at {i} clear here low =
+      let k : from + i - from ≡ i = omega arith in
+      record {
+        after = omega arith;
+        within = omega (arith, size);
+        clear = λ j after before p. clear (j - from) (omega arith) (sym (behind j after) ∙ p);
+        stops = λ _. behind (from + i) (omega arith) ∙ ap (λ (j : ℕ). get_or t j 0) k ∙ here;
+      }
+
+  -- or at the end where none does
+  pub parts-never : ((k : ℕ) → k < length t → get_or t k 0 ≡ parting → ⊥) → PieceEnds s from parting (length s)
+  unfolding byte_at
+  parts-never clear =
+      record {
+        after = inside;
+        within = omega arith;
+        clear = λ j after before p. clear (j - from) (omega (arith, size)) (sym (behind j after) ∙ p);
+        stops = λ less. absurd (omega arith);
+      }
 
 -- where the piece ends, as the pieces of the bytes
 module _ {s : List ℕ} {from parting end : ℕ} (w : PieceEnds s from parting end) where
@@ -57,78 +77,54 @@ module _ {s : List ℕ} {from parting end : ℕ} (w : PieceEnds s from parting e
       pieces_end parting s from end w.after w.clear e
       ∙ ap (λ (l : List ℕ). l ∷ []) (sym (take_all (end - from) (drop from s) (omega (arith, length-drop from s))))
 
--- whether all bytes are shown is told by those from here on
-pub record ShownFrom (s : List ℕ) (at : ℕ) : Type 0 where
-  pub within : at ≤ length s
-  pub rest : all_shown (drop at s) ≡ all_shown s
+in_range-is : {low high b : ℕ} → is_in_range low high b ≡ true → (low ≤ b) × (b ≤ high)
+in_range-is e = search rules
 
-pub shown-all : (s : List ℕ) → ShownFrom s 0
-shown-all s = record { within = omega arith; rest = refl }
+is-in_range : {low high b : ℕ} → low ≤ b → b ≤ high → is_in_range low high b ≡ true
+is-in_range p q = search rules
 
-shown-named : (s : List ℕ) → 0 < length s → all_shown s ≡ is_name s
+-- whether all bytes are shown
+shown-each : (s : List ℕ) → ((k : ℕ) → k < length s → is_in_range 0x21 0x7E (get_or s k 0) ≡ true) → all_shown s ≡ true
+unfolding all_shown
+shown-each [] h = refl
+shown-each (b ∷ s) h =
+    let r = in_range-is (h 0 (omega arith)) in
+    sym (not_less false r.0 (not_less false r.1 (sym (shown-each s (λ k less. h (suc k) (omega arith))))))
+
+each-shown : (s : List ℕ) → all_shown s ≡ true → (k : ℕ) → k < length s → is_in_range 0x21 0x7E (get_or s k 0) ≡ true
+unfolding all_shown
+each-shown [] e k less = absurd (omega arith)
+each-shown (b ∷ s) e zero less =
+    let p = past_less false _ b 0x21 true-not (sym e) in
+    let q = past_less false _ 0x7E b true-not p.1 in
+    is-in_range p.0 q.0
+each-shown (b ∷ s) e (suc k) less =
+    let p = past_less false _ b 0x21 true-not (sym e) in
+    let q = past_less false _ 0x7E b true-not p.1 in
+    each-shown s (sym q.1) k (omega arith)
+
+pub shown-tells : (s : List ℕ) {t : Bool} → (length s ≡ 0 → ⊥) → (t ≡ true) ↔ ((k : ℕ) → k < length s → is_in_range 0x21 0x7E (get_or s k 0) ≡ true) → t ≡ is_name s
 unfolding is_name
-shown-named [] h = absurd (omega arith)
-shown-named (b ∷ s) h = refl
+shown-tells [] some e = absurd (some refl)
+shown-tells (b ∷ s) some e =
+    one-test _ _ (λ p. shown-each (b ∷ s) (e.0 p)) (λ q. e.1 (each-shown (b ∷ s) q))
 
-module _ {s : List ℕ} {at : ℕ} (w : ShownFrom s at) where
-  pub shown-next : at < length s → 0x21 ≤ get_or s at 0 → get_or s at 0 ≤ 0x7E → ShownFrom s (at + 1)
-  unfolding all_shown
-  shown-next h low high =
-      record { within = omega arith; rest = via (ap all_shown (byte_next s at h)) (not_less false low (not_less false high refl)) ∙ w.rest }
+pub no-name : (s : List ℕ) → length s ≡ 0 → false ≡ is_name s
+unfolding is_name
+no-name [] e = refl
+no-name (b ∷ s) e = absurd (omega arith)
 
-  pub shown-low : at < length s → get_or s at 0 < 0x21 → false ≡ is_name s
-  unfolding all_shown
-  shown-low h low = via (ap all_shown (byte_next s at h)) (less _ low refl) ∙ w.rest ∙ shown-named s (omega arith)
-
-  pub shown-high : at < length s → 0x7E < get_or s at 0 → false ≡ is_name s
-  unfolding all_shown
-  shown-high h high =
-      via (ap all_shown (byte_next s at h)) (not_less false (omega arith) (less _ high refl)) ∙ w.rest ∙ shown-named s (omega arith)
-
-  pub shown-end : length s ≤ at → ltb 0 at ≡ is_name s
-  unfolding all_shown is_name
-  shown-end h = go s w.within h w.rest
-    where
-      go : (l : List ℕ) → at ≤ length l → length l ≤ at → all_shown (drop at l) ≡ all_shown l → ltb 0 at ≡ is_name l
-      go [] p q e = let z : at ≡ 0 = omega arith in ap (ltb 0) z
-      go (b ∷ l) p q e = lt-ltb 0 at (omega arith) ∙ sym (ap all_shown (drop_of_length-le (b ∷ l) {i = at} q)) ∙ e
-
--- whether two runs are the same is told by their bytes from here on
-pub record SameFrom (a b : List ℕ) (at : ℕ) : Type 0 where
-  pub sizes : length a ≡ length b
-  pub within : at ≤ length a
-  pub rest : same_bytes (drop at a) (drop at b) ≡ same_bytes a b
-
-pub same_start : (a b : List ℕ) → length a ≡ length b → SameFrom a b 0
-same_start a b e = record { sizes = e; within = omega arith; rest = refl }
-
-module _ {a b : List ℕ} {at : ℕ} (w : SameFrom a b at) where
-  both-next : at < length a → same_bytes (drop at a) (drop at b) ≡ same_bytes (get_or a at 0 ∷ drop (at + 1) a) (get_or b at 0 ∷ drop (at + 1) b)
-  both-next h = ap₂ same_bytes (byte_next a at h) (byte_next b at (omega (arith, w.sizes)))
-
-  pub same_next : at < length a → get_or a at 0 ≡ get_or b at 0 → SameFrom a b (at + 1)
-  unfolding same_bytes
-  same_next h e = record { sizes = w.sizes; within = omega arith; rest = via (both-next h) (same false e refl) ∙ w.rest }
-
-  pub same_not : at < length a → (get_or a at 0 ≡ get_or b at 0 → ⊥) → false ≡ same_bytes a b
-  unfolding same_bytes
-  same_not h n = via (both-next h) (not_same _ n refl) ∙ w.rest
-
-  pub same_end : length a ≤ at → true ≡ same_bytes a b
-  unfolding same_bytes
-  same_end h =
-      via (ap₂ same_bytes (drop_of_length-le a {i = at} h) (drop_of_length-le b {i = at} (omega (arith, w.sizes)))) refl ∙ w.rest
-
-pub same-sizes : (a b : List ℕ) → (length a ≡ length b → ⊥) → false ≡ same_bytes a b
-unfolding same_bytes
-same-sizes [] [] n = absurd (n refl)
-same-sizes [] (c ∷ b) n = refl
-same-sizes (x ∷ a) [] n = refl
-same-sizes (x ∷ a) (y ∷ b) n = go (ℕ_discrete x y) (same-sizes a b (λ e. n (ap suc e)))
+-- two runs are compared byte by byte
+pub same-pointwise : (a b : List ℕ) → pointwise eqb a b ≡ same_bytes a b
+unfolding same_bytes if_same
+same-pointwise [] [] = refl
+same-pointwise [] (y ∷ b) = refl
+same-pointwise (x ∷ a) [] = refl
+same-pointwise (x ∷ a) (y ∷ b) = go (eqb x y) (same-pointwise a b)
   where
-    go : Dec (x ≡ y) → false ≡ same_bytes a b → false ≡ if_same x y (same_bytes a b) false
-    go (yes e) later = same false e later
-    go (no m) later = not_same _ m refl
+    go : (t : Bool) → pointwise eqb a b ≡ same_bytes a b → (t && pointwise eqb a b) ≡ cond t (same_bytes a b) false
+    go true e = e
+    go false e = refl
 
 -- a value only grows
 value_grows : (v : ℕ) (bs : List ℕ) → v ≤ value_from v bs
@@ -160,23 +156,20 @@ both-last true = refl
 both-last false = refl
 
 module _ (most v b : ℕ) where
-  -- one byte: no digit, too high, or read
-  pub digit_low : b < 0x30 → most ≡ digits_from most v (b ∷ [])
+  -- one byte: no digit, read, or too high
+  pub digit-other : (b < 0x30) ⊎ (0x39 < b) → digits_from most v (b ∷ []) ≡ most
   unfolding digits_from all_digits
-  digit_low h = not_true _ (λ e. omega (arith, digit-bounds b (both_true (is_digit b) true e).0)) refl
-
-  pub digit-high : 0x39 < b → most ≡ digits_from most v (b ∷ [])
-  unfolding digits_from all_digits
-  digit-high h = not_true _ (λ e. omega (arith, digit-bounds b (both_true (is_digit b) true e).0)) refl
+  digit-other h =
+      sym (not_true _ (λ e. let r = digit-bounds b (both_true (is_digit b) true e).0 in ⊎_elim (λ low. omega arith) (λ high. omega arith) h) refl)
 
   module _ (low : 0x30 ≤ b) (high : b ≤ 0x39) where
     pub digit-read : v * 10 + (b - 0x30) < most → v * 10 + (b - 0x30) ≡ digits_from most v (b ∷ [])
     unfolding digits_from all_digits value_from
     digit-read h = is_true most (true-both (bounds-digit b low high) refl) (less most h refl)
 
-    pub digit-many : most ≤ v * 10 + (b - 0x30) → most ≡ digits_from most v (b ∷ [])
+    pub digit-many : most ≤ v * 10 + (b - 0x30) → digits_from most v (b ∷ []) ≡ most
     unfolding digits_from all_digits value_from
-    digit-many h = is_true most (true-both (bounds-digit b low high) refl) (not_less _ h refl)
+    digit-many h = sym (is_true most (true-both (bounds-digit b low high) refl) (not_less _ h refl))
 
   -- it refuses those behind it too, or they are read behind its value
   digits-refused : (bs : List ℕ) → digits_from most v (b ∷ []) ≡ most → most ≡ digits_from most v (b ∷ bs)
@@ -204,77 +197,65 @@ module _ (most v b : ℕ) where
         ap (λ (t : Bool). if_true (both t (all_digits bs)) (under most (value_from (v * 10 + (b - 0x30)) bs)) most) (sym digit-kept.0)
 
 -- the value v of the digits up to here: those behind it are read with it
-pub record DigitsTo (most : ℕ) (s : List ℕ) (from at v : ℕ) : Type 0 where
+pub record DigitsTo (most : ℕ) (s : List ℕ) (at v : ℕ) : Type 0 where
   pub within : at ≤ length s
   pub small : v < most
-  pub rest : digits_from most v (drop at s) ≡ digits_from most 0 (drop from s)
+  pub rest : digits_from most v (drop at s) ≡ digits_from most 0 s
 
-pub digits-start : (most : ℕ) (s : List ℕ) (from : ℕ) → 0 < most → from ≤ length s → DigitsTo most s from from 0
-digits-start most s from some h = record { within = h; small = some; rest = refl }
+pub digits-start : (most : ℕ) (s : List ℕ) → 0 < most → DigitsTo most s 0 0
+digits-start most s some = record { within = omega arith; small = some; rest = refl }
 
-module _ {most : ℕ} {s : List ℕ} {from at v : ℕ} (w : DigitsTo most s from at v) where
-  module _ (h : at < length s) {b x : ℕ} (e : b ≡ get_or s at 0) (r : x ≡ digits_from most v (b ∷ [])) where
-    with_rest : digits_from most v (b ∷ drop (at + 1) s) ≡ digits_from most 0 (drop from s)
-    with_rest =
-        ap (λ (c : ℕ). digits_from most v (c ∷ drop (at + 1) s)) e ∙ ap (digits_from most v) (sym (byte_next s at h)) ∙ w.rest
+module _ {most : ℕ} {s : List ℕ} {at v : ℕ} (w : DigitsTo most s at v) where
+  module _ (h : at < length s) where
+    with_rest : digits_from most v (get_or s at 0 ∷ drop (at + 1) s) ≡ digits_from most 0 s
+    with_rest = ap (digits_from most v) (sym (byte_next s at h)) ∙ w.rest
 
-    pub digits-next : (x ≡ most → ⊥) → DigitsTo most s from (at + 1) x
-    digits-next n =
-        let m : digits_from most v (b ∷ []) ≡ most → ⊥ = λ q. n (r ∙ q) in
-        let k = digit-kept most v b m in
-        let q = r ∙ k.2 in
-        record { within = omega arith; small = omega arith; rest = ap (λ (z : ℕ). digits_from most z (drop (at + 1) s)) q ∙ digits-behind most v b m (drop (at + 1) s) ∙ with_rest }
+    pub digits-next : {x : ℕ} → x ≡ digits_from most v (get_or s at 0 ∷ []) → x < most → DigitsTo most s (at + 1) x
+    digits-next r small =
+        let m : digits_from most v (get_or s at 0 ∷ []) ≡ most → ⊥ = λ q. omega arith in
+        let q = r ∙ (digit-kept most v (get_or s at 0) m).2 in
+        record { within = omega arith; small = small; rest = ap (λ (z : ℕ). digits_from most z (drop (at + 1) s)) q ∙ digits-behind most v (get_or s at 0) m (drop (at + 1) s) ∙ with_rest }
 
-    pub digits-stop : x ≡ most → most ≡ digits_from most 0 (drop from s)
-    digits-stop q = digits-refused most v b (drop (at + 1) s) (sym r ∙ q) ∙ with_rest
+    pub digits-stop : digits_from most v (get_or s at 0 ∷ []) ≡ most → digits_from most 0 s ≡ most
+    digits-stop q = sym (digits-refused most v (get_or s at 0) (drop (at + 1) s) q ∙ with_rest)
 
-  pub digits-end : length s ≤ at → v ≡ digits_from most 0 (drop from s)
+  pub digits-end : length s ≤ at → (v ≡ digits_from most 0 s) × (v < most)
   unfolding digits_from all_digits value_from
   digits-end h =
-      via (ap (digits_from most v) (drop_of_length-le s {i = at} h)) (is_true most refl (less most w.small refl)) ∙ w.rest
-
-pub digits-most : {x : ℕ} (most v : ℕ) (bs : List ℕ) → x ≡ digits_from most v bs → x ≤ most
-unfolding digits_from
-digits-most most v bs e =
-    subst (λ (x : ℕ). x ≤ most) (sym e) (either_true (λ (x : ℕ). x ≤ most) (all_digits bs) (under-most most (value_from v bs)) (omega arith))
+      (via (ap (digits_from most v) (drop_of_length-le s {i = at} h)) (is_true most refl (less most w.small refl)) ∙ w.rest, w.small)
 
 -- a number is digits, of which the first is not 0 where there are more
 module _ (most : ℕ) where
-  pub number-none : (s : List ℕ) → length s ≡ 0 → most ≡ number_below most s
+  pub number-none : (s : List ℕ) → length s ≡ 0 → number_below most s ≡ most
   unfolding number_below is_number
-  number-none [] e = is_false _ refl refl
+  number-none [] e = sym (is_false _ refl refl)
   number-none (b ∷ s) e = absurd (omega arith)
 
-  pub number_short : (s : List ℕ) → length s ≡ 1 → digits_from most 0 s ≡ number_below most s
-  unfolding number_below digits_from is_number all_digits value_of
-  number_short [] e = absurd (omega arith)
-  number_short (b ∷ []) e = ap (λ (t : Bool). if_true t (under most (value_from 0 (b ∷ []))) most) (both-last (is_digit b))
-  number_short (b ∷ c ∷ s) e = absurd (omega arith)
-
-  pub number-zero : (s : List ℕ) → 1 < length s → get_or s 0 0 ≡ 0x30 → most ≡ number_below most s
+  pub number-zero : (s : List ℕ) → 1 < length s → get_or s 0 0 ≡ 0x30 → number_below most s ≡ most
   unfolding number_below is_number
   number-zero [] h e = absurd (omega arith)
   number-zero (b ∷ []) h e = absurd (omega arith)
-  number-zero (b ∷ c ∷ s) h e = is_false _ (sym (same _ e refl)) refl
+  number-zero (b ∷ c ∷ s) h e = sym (is_false _ (sym (same _ e refl)) refl)
 
-  pub number_more : (s : List ℕ) → 1 < length s → (get_or s 0 0 ≡ 0x30 → ⊥) → digits_from most 0 s ≡ number_below most s
-  unfolding number_below digits_from is_number value_of
-  number_more [] h n = absurd (omega arith)
-  number_more (b ∷ []) h n = absurd (omega arith)
-  number_more (b ∷ c ∷ s) h n = ap (λ (t : Bool). if_true t (under most (value_from 0 (b ∷ c ∷ s))) most) (not_same false n refl)
+  number-digits : (s : List ℕ) → (length s ≡ 0 → ⊥) → (1 < length s → get_or s 0 0 ≡ 0x30 → ⊥) → digits_from most 0 s ≡ number_below most s
+  unfolding number_below digits_from is_number all_digits value_of
+  number-digits [] some n = absurd (some refl)
+  number-digits (b ∷ []) some n =
+      ap (λ (t : Bool). if_true t (under most (value_from 0 (b ∷ []))) most) (both-last (is_digit b))
+  number-digits (b ∷ c ∷ s) some n =
+      ap (λ (t : Bool). if_true t (under most (value_from 0 (b ∷ c ∷ s))) most) (not_same false (n (omega arith)) refl)
+
+  pub number-read : (s : List ℕ) (r : Option ℕ) → (length s ≡ 0 → ⊥) → (1 < length s → get_or s 0 0 ≡ 0x30 → ⊥) → IsBelow most (digits_from most 0 s) r → IsBelow most (number_below most s) r
+  number-read s r some n = subst (λ (k : ℕ). IsBelow most k r) (number-digits s some n)
 
 -- what the number tells of the field
 module _ (most : ℕ) (bs : List ℕ) where
-  pub number-value : is_number bs ≡ true → if_less (value_of bs) most (value_of bs) most ≡ number_below most bs
+  number-value : is_number bs ≡ true → if_less (value_of bs) most (value_of bs) most ≡ number_below most bs
   unfolding number_below
   number-value e = is_true most e refl
 
   pub number_small : is_number bs ≡ true → value_of bs < most → value_of bs ≡ number_below most bs
   number_small e h = less most h refl ∙ number-value e
-
-  pub no_number : is_number bs ≡ false → most ≡ number_below most bs
-  unfolding number_below
-  no_number e = is_false _ e refl
 
   pub small-number : {x : ℕ} → x ≡ number_below most bs → x < most → (is_number bs ≡ true) × (value_of bs ≡ x)
   unfolding number_below
@@ -365,16 +346,12 @@ parts-second [] h n = absurd (omega arith)
 parts-second (b ∷ []) h n = absurd (omega arith)
 parts-second (b ∷ c ∷ s) h n = either_same (λ (x : ℕ). 0 ≡ x) b 0x30 (not_same _ n refl) refl
 
--- by the bytes of the field
-pub scaled-as : (v size k : ℕ) → (v ≡ 65536 → ⊥) → size ≡ k → v * 10 ^ (6 - k) ≡ if_same v 65536 0 (v * 10 ^ (6 - size))
-scaled-as v size k n e = not_same 0 n (ap (λ (z : ℕ). v * 10 ^ (6 - z)) (sym e))
-
 -- digits behind the point as the code reads them, below 65,536
-pub parts-scaled : (s : List ℕ) → 1 < length s → length s ≤ 6 → get_or s 0 0 ≡ 0x30 → get_or s 1 0 ≡ 0x2E → {r v : ℕ} → v ≡ digits_from 65536 0 (drop 2 s) → r ≡ if_same v 65536 0 (v * 10 ^ (6 - length s)) → r ≡ ten_thousandths s
+scaled-parts : (s : List ℕ) → 1 < length s → length s ≤ 6 → get_or s 0 0 ≡ 0x30 → get_or s 1 0 ≡ 0x2E → {r v : ℕ} → v ≡ digits_from 65536 0 (drop 2 s) → r ≡ if_same v 65536 0 (v * 10 ^ (6 - length s)) → r ≡ ten_thousandths s
 unfolding ten_thousandths fraction digits_from value_of
-parts-scaled [] h few p q k e = absurd (omega arith)
-parts-scaled (b ∷ []) h few p q k e = absurd (omega arith)
-parts-scaled (b ∷ c ∷ ds) h few p q {r} {v} k e = same _ p (same _ q (go (all_digits ds) refl))
+scaled-parts [] h few p q k e = absurd (omega arith)
+scaled-parts (b ∷ []) h few p q k e = absurd (omega arith)
+scaled-parts (b ∷ c ∷ ds) h few p q {r} {v} k e = same _ p (same _ q (go (all_digits ds) refl))
   where
     go : (t : Bool) → all_digits ds ≡ t → r ≡ fraction ds
     go false f =
@@ -385,3 +362,20 @@ parts-scaled (b ∷ c ∷ ds) h few p q {r} {v} k e = same _ p (same _ q (go (al
         let z : value_of ds ≡ digits_from 65536 0 ds = is_true _ f (less _ (omega arith) refl) in
         let size : 6 - length (b ∷ c ∷ ds) ≡ 4 - length ds = omega arith in
         not_less _ (omega arith) (is_true _ f (e ∙ sym (not_same 0 (λ y. omega arith) refl) ∙ ap₂ (λ (x y : ℕ). x * 10 ^ y) (k ∙ sym z) size))
+
+-- they are none, or read
+module _ (s : List ℕ) (some : 1 < length s) (few : length s ≤ 6) (p : get_or s 0 0 ≡ 0x30) (q : get_or s 1 0 ≡ 0x2E) where
+  tail : take (length s - 2) (drop 2 s) ≡ drop 2 s
+  tail = take_all (length s - 2) (drop 2 s) (omega (arith, length-drop 2 s))
+
+  pub parts-none : digits_from 65536 0 (take (length s - 2) (drop 2 s)) ≡ 65536 → ten_thousandths s ≡ 0
+  parts-none e = sym (scaled-parts s some few p q (sym e ∙ ap (digits_from 65536 0) tail) (same _ refl refl))
+
+  pub parts-scaled : {r v : ℕ} → (v ≡ digits_from 65536 0 (take (length s - 2) (drop 2 s))) × (v < 65536) → r ≡ v * 10 ^ (6 - length s) → r ≡ ten_thousandths s
+  parts-scaled e k =
+      scaled-parts s some few p q (e.0 ∙ ap (digits_from 65536 0) tail) (not_same 0 (λ z. omega (arith, e.1)) k)
+
+-- none where the test fails, or the number is 0
+pub positive-by : (t : Bool) {n v : ℕ} {r : Option ℕ} → (t ≡ true → (v ≡ n) × (1 ≤ v)) → (t ≡ false → n ≡ 0) → r ≡ then_some t v → IsPositive n r
+positive-by true {n} good none e = subst (IsPositive n) (sym e) (good refl)
+positive-by false {n} good none e = subst (IsPositive n) (sym e) (none refl)

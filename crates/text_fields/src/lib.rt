@@ -2,94 +2,68 @@
 #![tactic(auto)]
 
 ghost use Rattle.std.specs.Prelude.{◌*◌, ◌-◌, ◌^◌, ◌≤◌, ◌<◌, ◌≡◌, [], ◌∷◌, length, drop};
-ghost use Rattle.bisimulation.specs.definitions.Choice.{if_same};
 ghost use Rattle.prism.specs.definitions.Lines.{ten_thousandths, is_name};
 ghost use Rattle.prism.specs.definitions.Reading.{same_bytes};
-ghost use Rattle.text_fields.specs.Fields.{PieceEnds, number_below, digits_from};
+ghost use Rattle.text_fields.specs.Fields.{PieceEnds, number_below, digits_from, IsBelow, IsPositive};
 
-// Stands for a field that is no number, and for every number that is not below it: no limit is as high.
-pub const NO_NUMBER: usize = 65536;
+// Numbers are read below this: no limit is as high.
+const NUMBERS: usize = 65536;
 
 // Where the piece that begins at a place ends: at the first byte that parts, or at the end.
 pub fn piece_end(s: &[u8], from: usize, parting: u8) -> usize
     requires { from ≤ length s.now }
     ensures { PieceEnds s.now from parting result }
 {
-    let mut at = from;
-    while at < s.len() {
-        if s[at] == parting {
-            return at;
-        }
-        at += 1;
+    match s[from..].iter().position(|b| *b == parting) {
+        Some(i) => from + i,
+        None => s.len(),
     }
-    at
 }
 
-fn wide(x: u8) -> usize
-    ensures { result ≡ x }
-{
-    x as usize
-}
-
-// The value of digits with one more behind them; NO_NUMBER where that is no digit, or the value is not below it.
-fn with_digit(v: usize, b: usize) -> usize
+// The value of digits with one more behind them; none where that is no digit, or the value is too high.
+fn with_digit(v: usize, b: u8) -> Option<usize>
     requires { v < 65536 }
-    ensures { result ≡ digits_from 65536 v (b ∷ []) }
+    ensures { IsBelow 65536 (digits_from 65536 v (b ∷ [])) result }
 {
-    if b < 0x30 {
-        return NO_NUMBER;
+    if !b.is_ascii_digit() {
+        return None;
     }
-    if 0x39 < b {
-        return NO_NUMBER;
+    let value = v * 10 + usize::from(b - b'0');
+    if value < NUMBERS {
+        return Some(value);
     }
-    let value = v * 10 + (b - 0x30);
-    if value < NO_NUMBER {
-        return value;
-    }
-    NO_NUMBER
+    None
 }
 
-// The value of the digits of a field from a place on; NO_NUMBER where a byte is no digit, or the value is not below it.
-fn digits(s: &[u8], from: usize) -> usize
-    requires { from ≤ length s.now }
-    ensures { result ≡ digits_from 65536 0 (drop from s.now) }
+// The value of the digits of a field; none where a byte is no digit, or the value is too high.
+fn digits(s: &[u8]) -> Option<usize>
+    ensures { IsBelow 65536 (digits_from 65536 0 s.now) result }
 {
     let mut v = 0;
-    let mut at = from;
-    while at < s.len() {
-        v = with_digit(v, wide(s[at]));
-        if v == NO_NUMBER {
-            return NO_NUMBER;
-        }
-        at += 1;
+    for b in s {
+        v = with_digit(v, *b)?;
     }
-    v
+    Some(v)
 }
 
-// A number without leading zeros, of as many digits as one will.
-pub fn number(s: &[u8]) -> usize
-    ensures { result ≡ number_below 65536 s.now }
+// A number without leading zeros, of as many digits as one will; none where the field is no number, or one that is too high.
+pub fn number(s: &[u8]) -> Option<usize>
+    ensures { IsBelow 65536 (number_below 65536 s.now) result }
 {
-    if s.len() == 0 {
-        return NO_NUMBER;
+    if s.is_empty() {
+        return None;
     }
-    if s.len() == 1 {
-        return digits(s, 0);
+    if 1 < s.len() && s[0] == b'0' {
+        return None;
     }
-    if s[0] == 0x30 {
-        return NO_NUMBER;
-    }
-    digits(s, 0)
+    digits(s)
 }
 
 // Digits behind the point of a field of so many bytes, in ten-thousandths.
 fn scaled(v: usize, size: usize) -> usize
-    requires { (v ≤ 65536) × (3 ≤ size) × (size ≤ 6) }
-    ensures { result ≡ if_same v 65536 0 (v * 10 ^ (6 - size)) }
+    requires { (v < 65536) × (3 ≤ size) × (size ≤ 6) }
+    ensures { result ≡ v * 10 ^ (6 - size) }
 {
-    if v == NO_NUMBER {
-        return 0;
-    }
     match size {
         3 => v * 1000,
         4 => v * 100,
@@ -98,62 +72,30 @@ fn scaled(v: usize, size: usize) -> usize
     }
 }
 
-// A probability in ten-thousandths; 0 where the field is none.
-pub fn probability(s: &[u8]) -> usize
-    ensures { result ≡ ten_thousandths s.now }
+// A probability in ten-thousandths; none where the field is none.
+pub fn probability(s: &[u8]) -> Option<usize>
+    ensures { IsPositive (ten_thousandths s.now) result }
 {
     if s.len() == 1 {
-        if s[0] == 0x31 {
-            return 10000;
-        }
-        return 0;
+        return (s[0] == b'1').then_some(10000);
     }
-    if s.len() < 3 {
-        return 0;
+    if s.len() < 3 || 6 < s.len() || s[0] != b'0' || s[1] != b'.' {
+        return None;
     }
-    if 6 < s.len() {
-        return 0;
-    }
-    if s[0] != 0x30 {
-        return 0;
-    }
-    if s[1] != 0x2E {
-        return 0;
-    }
-    scaled(digits(s, 2), s.len())
+    let parts = scaled(digits(&s[2..])?, s.len());
+    (0 < parts).then_some(parts)
 }
 
 // One or more bytes from 21 to 7E (hexadecimal).
 pub fn is_name(s: &[u8]) -> bool
     ensures { result ≡ is_name s.now }
 {
-    let mut at = 0;
-    while at < s.len() {
-        let b = s[at];
-        if b < 0x21 {
-            return false;
-        }
-        if 0x7E < b {
-            return false;
-        }
-        at += 1;
-    }
-    0 < at
+    !s.is_empty() && s.iter().all(|b| b.is_ascii_graphic())
 }
 
 // Whether two runs of bytes are the same.
 pub fn same(a: &[u8], b: &[u8]) -> bool
     ensures { result ≡ same_bytes a.now b.now }
 {
-    if a.len() != b.len() {
-        return false;
-    }
-    let mut at = 0;
-    while at < a.len() {
-        if a[at] != b[at] {
-            return false;
-        }
-        at += 1;
-    }
-    true
+    a == b
 }

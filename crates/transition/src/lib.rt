@@ -1,13 +1,18 @@
 // A transition of a sound model by its number: its fields, and its entries in their order.
 #![tactic(auto)]
 
-ghost use Rattle.std.specs.Prelude.{◌+◌, ◌<◌, length};
+ghost use Rattle.std.specs.Prelude.{◌+◌, ◌*◌, ◌≤◌, ◌<◌, ◌≡◌, length};
+ghost use Rattle.rules.specs.definitions.Reading.{entries_at};
 ghost use Rattle.transition.specs.Known.{Known, KnownModel, KnownTransition, FieldsOf};
 ghost use Rattle.transition.specs.Entries.{EntryTaken};
+ghost use Rattle.transition.specs.EntriesLeft.{entries_left};
+
+mod walk;
 
 use field::Cursor;
 use model::Places;
 use transition_record::Fields;
+pub use walk::Entries;
 
 #[derive(Clone, Copy)]
 pub struct Entry {
@@ -31,11 +36,9 @@ pub fn places_of(s: &[u8], n: usize, count: usize) -> Places
 {
     let mut places = model::no_places();
     let mut place = 8 + n;
-    let mut r = 0;
-    while r < count {
+    for r in 0..count {
         places[r] = place;
         place = transition_record::after_transition(s, place);
-        r += 1;
     }
     places[count] = place;
     places
@@ -53,5 +56,17 @@ pub fn entry_at(s: &[u8], place: Cursor) -> Entry
         state: state.value,
         weight: weight.value,
         next,
+    }
+}
+
+// So many entries, from a place on.
+pub fn entries(s: &[u8], place: Cursor, count: usize) -> Entries
+    requires { place.at + 3 * count ≤ length s.now }
+    ensures { entries_left result ≡ entries_at s.now count place.at }
+{
+    Entries {
+        file: s,
+        place,
+        left: count,
     }
 }

@@ -1,5 +1,5 @@
 -- Laws of the divisor as it is found, entry by entry, and the ways out of 34.
-use Rattle.std.specs.Prelude.{ℕ, zero, suc, ◌+◌, ◌-◌, ◌<◌, ◌≤◌, ◌≡◌, refl}
+use Rattle.std.specs.Prelude.{ℕ, zero, suc, ◌+◌, ◌-◌, ◌<◌, ◌≤◌, ◌≡◌, refl, Result}
 use Rattle.std.proofs.Common.{sym, ◌∙◌, arith}
 use Rattle.std.proofs.Math.Path.{ap, subst}
 use mathlib.Core.List.{List, map}
@@ -15,7 +15,7 @@ use Rattle.rules.specs.definitions.Reading.{entries_at, terms_fault}
 use Rattle.limits.specs.TermsBy.{terms_of}
 use Rattle.limits.specs.declared.Terms.{Terms}
 use Rattle.limits.specs.declared.Terms.TheVariants.{Any, Lowest}
-use Rattle.fault.specs.Faults.{fault_of}
+use Rattle.fault.specs.Faults.{fault_in}
 use Rattle.fault.specs.declared.Fault.{Fault}
 use Rattle.transition_terms.specs.Divisors.{weights_at, divisor_at, TermsJudged}
 
@@ -43,21 +43,21 @@ module _ (s : List ℕ) (g left at whole : ℕ) (far : divisor_of g (weights_at 
   pub settled : r ≡ 1 → r ≡ whole
   settled o = o ∙ sym (divisor_of-one (weights_at s (left - 1) (at + 3))) ∙ ap (λ (k : ℕ). divisor_of k (weights_at s (left - 1) (at + 3))) (sym o) ∙ turned
 
-module _ (s : List ℕ) (count at : ℕ) (r : Fault) where
+module _ (s : List ℕ) (count at : ℕ) (r : Result (Unit {0}) Fault) where
   divisor-is : (t : Transition) → t.entries ≡ entries_at s count at → divisor_in t ≡ divisor_at s count at
   unfolding divisor_in
   divisor-is t e = ap (λ (es : List Entry). divisor_of 0 (map (λ (x : Entry). x.weight) es)) e
 
-  pub above-one : (divisor_at s count at ≡ 1 → ⊥) → fault_of r ≡ fault 34 → TermsJudged lowest_terms s count at r
+  pub above-one : (divisor_at s count at ≡ 1 → ⊥) → fault_in r ≡ fault 34 → TermsJudged lowest_terms s count at r
   unfolding terms_fault
   above-one n e = record { is = λ t q. not_same _ (λ z. n (sym (divisor-is t q) ∙ z)) e }
 
-  pub is_one : divisor_at s count at ≡ 1 → fault_of r ≡ no_fault → TermsJudged lowest_terms s count at r
+  pub is_one : divisor_at s count at ≡ 1 → fault_in r ≡ no_fault → TermsJudged lowest_terms s count at r
   unfolding terms_fault
   is_one o e = record { is = λ t q. same _ (divisor-is t q ∙ o) e }
 
   -- by the terms that are asked for
-  pub any-judged : (terms : Terms) → terms ≡ Any → fault_of r ≡ no_fault → TermsJudged (terms_of terms) s count at r
+  pub any-judged : (terms : Terms) → terms ≡ Any → fault_in r ≡ no_fault → TermsJudged (terms_of terms) s count at r
   unfolding terms_fault
   any-judged terms e n = subst (λ (x : Terms). TermsJudged (terms_of x) s count at r) (sym e) (record { is = λ t q. n })
 

@@ -7,7 +7,7 @@ ghost use Rattle.rules.specs.definitions.Limits.{lowest_terms};
 ghost use Rattle.limits.specs.TermsBy.{terms_of};
 ghost use Rattle.transition_terms.specs.Divisors.{divisor_at, TermsJudged};
 
-use fault::Fault;
+use fault::{Fault, Refusal};
 use field::Cursor;
 use limits::Terms;
 
@@ -29,39 +29,37 @@ pub fn divisor_of(s: &[u8], count: usize, first: Cursor) -> usize
     requires { first.at + 3 * count ≤ length s.now }
     ensures { result ≡ divisor_at s.now count first.at }
 {
-    let mut left = count;
     let mut place = first;
     let mut shared = 0;
-    while 0 < left {
+    for _ in 0..count {
         let weight = Cursor::new(place.at + 1).pair(s);
         shared = with_weight(shared, weight.value);
         if shared == 1 {
             return shared;
         }
         place = weight.next;
-        left -= 1;
     }
     shared
 }
 
 // 34 of a transition with these entries, where terms are to be lowest.
-fn lowest_fault(s: &[u8], count: usize, first: Cursor) -> Fault
+fn lowest_fault(s: &[u8], count: usize, first: Cursor) -> Result<(), Fault>
     requires { first.at + 3 * count ≤ length s.now }
     ensures { TermsJudged lowest_terms s.now count first.at result }
 {
     if divisor_of(s, count, first) != 1 {
-        return fault::refusal(34);
+        return Err(Refusal::Terms.fault());
     }
-    fault::none()
+    Ok(())
 }
 
 // 34 by the terms that are asked for.
-pub fn terms_fault(s: &[u8], terms: Terms, count: usize, first: Cursor) -> Fault
+pub fn terms_fault(s: &[u8], terms: Terms, count: usize, first: Cursor) -> Result<(), Fault>
     requires { first.at + 3 * count ≤ length s.now }
     ensures { TermsJudged (terms_of terms) s.now count first.at result }
 {
     match terms {
-        Terms::Any => fault::none(),
+        Terms::Any => Ok(()),
         Terms::Lowest => lowest_fault(s, count, first),
     }
 }

@@ -1,5 +1,5 @@
 -- What reading two models finds.
-use Rattle.std.specs.Prelude.{ℕ, ◌≡◌, List, length}
+use Rattle.std.specs.Prelude.{ℕ, ◌≡◌, List, length, Result, Ok, Err}
 use Rattle.rules.specs.definitions.Limits.{current}
 use Rattle.rules.specs.definitions.Model.{model_bytes}
 use Rattle.rules.specs.definitions.Reading.{states_of, model_at, read_whole}
@@ -11,8 +11,6 @@ use Rattle.transition.specs.Known.{Known, KnownModel}
 use Rattle.transition.specs.ModelRead.{ReadsModel}
 use Rattle.answer.specs.declared.Answer.{Answer}
 use Rattle.answer.specs.Answered.{OutcomeIs}
-use Rattle.two_models.specs.declared.TwoRead.{TwoRead}
-use Rattle.two_models.specs.declared.TwoRead.TheVariants.{Sound, Refused}
 
 -- a file that is read as a sound model, with the numbers of its head
 pub record SoundFile (s : List ℕ) (m : Found) : Type 0 where
@@ -35,6 +33,6 @@ pub record BothSound (first : List ℕ) (m : Found) (second : List ℕ) (n : Fou
 pub record RefusesTwo (first second : List ℕ) (r : Answer) : Type 0 where
   pub refuses : (made : OfTwo) (before : List (List ℕ)) → OutcomeIs (two_outcome (read_whole current) made first second before) (two_files first second) before r
 
-abbrev pub TwoReadIs : (first second table : List ℕ) → TwoRead → Type 0
-TwoReadIs first second table (Sound m n) = BothSound first m second n table
-TwoReadIs first second table (Refused r) = RefusesTwo first second r
+abbrev pub TwoReadIs : (first second table : List ℕ) → Result (Found × Found) Answer → Type 0
+TwoReadIs first second table (Ok both) = BothSound first both.0 second both.1 table
+TwoReadIs first second table (Err r) = RefusesTwo first second r

@@ -1,5 +1,5 @@
 -- What each way out of reading two models tells.
-use Rattle.std.specs.Prelude.{ℕ, ◌≤◌, ◌≡◌, List, length}
+use Rattle.std.specs.Prelude.{ℕ, ◌≤◌, ◌≡◌, List, length, Result, Ok, Err}
 use Rattle.std.proofs.Common.{subst, arith}
 use Rattle.rules.specs.definitions.Limits.{current}
 use Rattle.rules.specs.definitions.Model.{automaton_of}
@@ -13,20 +13,16 @@ use Rattle.limits.specs.TermsBy.{current_terms}
 use Rattle.fault.specs.declared.Fault.{Fault}
 use Rattle.fault.specs.Faults.{fault_of}
 use Rattle.model.specs.declared.Model.{Model as Found}
-use Rattle.model.specs.declared.Scanned.{Scanned}
-use Rattle.model.specs.declared.Scanned.TheVariants as scanned
 use Rattle.model.specs.Scanned.{Scans}
 use Rattle.transition.specs.KnownLaws.{known-states, known-transitions}
 use Rattle.transition.specs.ModelRead.{sound-known, sound-actions}
 use Rattle.answer.specs.declared.Answer.{Answer}
 use Rattle.answer.specs.Answered.{Says}
 use Rattle.answer.specs.AnsweredLaws.{with-stretch}
-use Rattle.two_models.specs.declared.TwoRead.{TwoRead}
-use Rattle.two_models.specs.declared.TwoRead.TheVariants.{Sound, Refused}
 use Rattle.two_models.specs.TwoModels.{SoundFile, BothSound, RefusesTwo, TwoReadIs}
 
 -- a file that the reader found sound
-pub sound-file : (s : List ℕ) {table : List ℕ} {r : Scanned} → Scans s (scan_whole current s) r table → {m : Found} → r ≡ scanned.Sound m → Bytes s → SoundFile s m
+pub sound-file : (s : List ℕ) {table : List ℕ} {r : Result Found Fault} → Scans s (scan_whole current s) r table → {m : Found} → r ≡ Ok m → Bytes s → SoundFile s m
 unfolding automaton_of
 sound-file s {table} g e b =
     let k = sound-known current_terms s g e b in
@@ -42,7 +38,7 @@ sound-file s {table} g e b =
       transitions = known-transitions k.0;
     }
 
-pub both-sound : (first second : List ℕ) {table : List ℕ} {m n : Found} {r : Scanned} → SoundFile first m → Scans second (scan_whole current second) r table → r ≡ scanned.Sound n → Bytes second → BothSound first m second n table
+pub both-sound : (first second : List ℕ) {table : List ℕ} {m n : Found} {r : Result Found Fault} → SoundFile first m → Scans second (scan_whole current second) r table → r ≡ Ok n → Bytes second → BothSound first m second n table
 both-sound first second f g e b = record { one = f; other = sound-file second g e b; known = (sound-known current_terms second g e b).0 }
 
 -- a file is refused
@@ -55,10 +51,3 @@ pub refused-second : (first second : List ℕ) (f : Fault) {m : Found} {r : Answ
 unfolding file_of
 refused-second first second f s q h a =
     record { refuses = λ made before. with-stretch (two_files first second) before (fault_of f) 3 f.place a (second-refused (read_whole current) made first second before (fault_of f) f.place s.model.reads q) (omega arith) h }
-
--- what was found in its two cases
-pub found-both : {first second table : List ℕ} {r : TwoRead} {m n : Found} → TwoReadIs first second table r → r ≡ Sound m n → BothSound first m second n table
-found-both {first} {second} {table} t e = subst (TwoReadIs first second table) e t
-
-pub found-refused : (table : List ℕ) {first second : List ℕ} {r : TwoRead} {a : Answer} → TwoReadIs first second table r → r ≡ Refused a → RefusesTwo first second a
-found-refused table {first} {second} t e = subst (TwoReadIs first second table) e t

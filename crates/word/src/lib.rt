@@ -41,7 +41,7 @@ pub fn same(a: Word, b: Word) -> bool
     a == b
 }
 
-// The first bit from u on that is 1, no number below BITS where there is none.
+// The first bit from u on that is 1, no number below BITS where there is none: a number, for the scans of the innermost loops.
 pub fn next_bit(word: Word, u: usize) -> usize
     requires { u < word_bits }
     ensures { IsNextBelow word_bits (bit_of word) u result × (result < 2 * word_bits) }

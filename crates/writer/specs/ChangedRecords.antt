@@ -6,7 +6,7 @@ use Rattle.std.proofs.Common.{sym, ◌∙◌, append_assoc}
 use Rattle.std.proofs.Math.ListN.{length, length-append}
 use Rattle.std.proofs.lemmas.List.{length-map}
 use native.Mathlib.Omega.{arith}
-use Rattle.rules.specs.definitions.Bytes.{byte_at, two_at, two_bytes}
+use Rattle.rules.specs.definitions.Bytes.{two_bytes}
 use Rattle.rules.specs.definitions.Model.{Entry, Transition, Model, entries_bytes, transition_bytes, transitions_bytes, head_bytes, labels_bytes, model_bytes}
 use Rattle.rules.specs.definitions.Reading.{states_of, count_of, entry_count_at, after_transition, entries_at, transition_at, transitions_at, model_at, place_of}
 use Rattle.rules.specs.definitions.SoundModel.{Each}
@@ -16,10 +16,6 @@ use Rattle.rules.proofs.argument.ReadingLaws.{place_of-next}
 use Rattle.rules.proofs.argument.FetchedRun.{length-entries_at}
 use Rattle.writer.specs.Appends.{Appends}
 use Rattle.writer.specs.AppendsLaws.{Ahead, ahead-start, ahead-turn, ahead-end}
-
--- the entry at a place
-abbrev pub entry_at : List ℕ → (place : ℕ) → Entry
-entry_at s place = record { state = byte_at s place; weight = two_at s (place + 1) }
 
 -- 'state 1, weight 2': an entry's fields have room for it
 abbrev pub EntryFits : Entry → Type 0
@@ -36,46 +32,39 @@ module _ (f : Entry → Entry) where
     pub fit : Each (λ (e : Entry). EntryFits (f e)) (entries_at s left place)
     pub room : at + 3 * left ≤ length out
 
-  -- what is known before each entry that is written
-  pub record ChangingEntries (s all : List ℕ) (at : ℕ) (before : List ℕ) (left place : ℕ) (out : List ℕ) (next : ℕ) : Type 0 where
-    pub asked : CanChangeEntries s left place out next
-    pub ahead : Ahead all at before (changed_entries (entries_at s left place)) next out
+  -- what is known before each entry that is written, with the entries that are left
+  pub record ChangingEntries (all : List ℕ) (at : ℕ) (before : List ℕ) (es : List Entry) (out : List ℕ) (next : ℕ) : Type 0 where
+    pub fit : Each (λ (e : Entry). EntryFits (f e)) es
+    pub room : next + 3 * length es ≤ length out
+    pub ahead : Ahead all at before (changed_entries es) next out
 
-  pub entries-start : {s : List ℕ} {count place at : ℕ} {out : List ℕ} → CanChangeEntries s count place out at → ChangingEntries s (changed_entries (entries_at s count place)) at out count place out at
-  entries-start a = record { asked = a; ahead = ahead-start (omega (arith, a.room)) }
+  pub entries-start : {s : List ℕ} {count place at : ℕ} {out : List ℕ} {es : List Entry} → es ≡ entries_at s count place → CanChangeEntries s count place out at → ChangingEntries (changed_entries (entries_at s count place)) at out es out at
+  entries-start {s} {count} {place} {at} {out} e a =
+      subst (λ (l : List Entry). ChangingEntries (changed_entries (entries_at s count place)) at out l out at) (sym e)
+      (record { fit = a.fit; room = omega (arith, a.room, length-entries_at s count place); ahead = ahead-start (omega (arith, a.room)) })
 
-  module _ {s all : List ℕ} {at : ℕ} {before : List ℕ} where
-    -- the next one fits its fields
-    pub entries_fit : (left : ℕ) {place next : ℕ} {out : List ℕ} → ChangingEntries s all at before left place out next → 0 < left → EntryFits (f (entry_at s place))
-    unfolding Each entries_at
-    entries_fit zero h some = absurd (omega arith)
-    entries_fit (suc left) h some = h.asked.fit.0
+  module _ {all : List ℕ} {at : ℕ} {before : List ℕ} {es : List Entry} {out : List ℕ} {next : ℕ} (h : ChangingEntries all at before es out next) where
+    module _ {e : Entry} {others : List Entry} (first : es ≡ e ∷ others) where
+      here : ChangingEntries all at before (e ∷ others) out next
+      here = subst (λ (l : List Entry). ChangingEntries all at before l out next) first h
 
-    one_entry : (left place next past state weight : ℕ) (out more : List ℕ) → ChangingEntries s all at before (suc left) place out next → state ≡ (f (entry_at s place)).state → weight ≡ (f (entry_at s place)).weight → Appends (state ∷ two_bytes weight) next out more past → ChangingEntries s all at before left (place + 3) more past
-    unfolding Each entries_at entries_bytes two_bytes
-    one_entry left place next past state weight out more h is_state is_weight a =
-        record {
-          asked =
-              record {
-                inside = omega (arith, h.asked.inside);
-                fit = h.asked.fit.1;
-                room = omega (arith, h.asked.room, a.place, a.size);
-              };
-          ahead = ahead-turn h.ahead (ap₂ (λ (x y : ℕ). x ∷ (two_bytes y ++ changed_entries (entries_at s left (place + 3)))) (sym is_state) (sym is_weight)) a;
-        }
+      -- the next one fits its fields, and there is room for it
+      pub entries_fit : EntryFits (f e) × (next + 3 ≤ length out)
+      unfolding Each
+      entries_fit = (here.fit.0, omega (arith, here.room))
 
-    pub entries-turn : (left : ℕ) {place next past state weight after : ℕ} {out more : List ℕ} → ChangingEntries s all at before left place out next → 0 < left → state ≡ (f (entry_at s place)).state → weight ≡ (f (entry_at s place)).weight → after ≡ place + 3 → Appends (state ∷ two_bytes weight) next out more past → ChangingEntries s all at before (left - 1) after more past
-    entries-turn zero h some is_state is_weight e a = absurd (omega arith)
-    entries-turn (suc left) {place} {next} {past} {state} {weight} {after} {out} {more} h some is_state is_weight e a =
-        let one : left ≡ suc left - 1 = omega arith in
-        subst (λ (n : ℕ). ChangingEntries s all at before n after more past) one
-        (subst (λ (p : ℕ). ChangingEntries s all at before left p more past) (sym e)
-        (one_entry left place next past state weight out more h is_state is_weight a))
+      pub entries-turn : {past state weight : ℕ} {more : List ℕ} → state ≡ (f e).state → weight ≡ (f e).weight → Appends (state ∷ two_bytes weight) next out more past → ChangingEntries all at before others more past
+      unfolding Each entries_bytes two_bytes
+      entries-turn is_state is_weight a =
+          record {
+            fit = here.fit.1;
+            room = omega (arith, here.room, a.place, a.size);
+            ahead = ahead-turn here.ahead (ap₂ (λ (x y : ℕ). x ∷ (two_bytes y ++ changed_entries others)) (sym is_state) (sym is_weight)) a;
+          }
 
-    pub entries-end : (left : ℕ) {place next : ℕ} {out : List ℕ} → ChangingEntries s all at before left place out next → left ≤ 0 → Appends all at before out next
-    unfolding entries_at entries_bytes
-    entries-end zero h none = ahead-end h.ahead refl
-    entries-end (suc left) h none = absurd (omega arith)
+    pub entries-end : es ≡ [] → Appends all at before out next
+    unfolding entries_bytes
+    entries-end none = ahead-end h.ahead (ap changed_entries none)
 
 -- what stands in a model's file before its transition records
 abbrev pub front_bytes : Model → List ℕ
@@ -140,7 +129,6 @@ module _ (f : Transition → Transition) (keeps : (t : Transition) → length (f
 
   -- what is known before each record that is written: it is written as far behind the first as it stands behind the model's first
   pub record Changing (s : List ℕ) (count at : ℕ) (before : List ℕ) (r : ℕ) (out : List ℕ) (next : ℕ) : Type 0 where
-    pub among : r ≤ count
     pub place : next + (8 + states_of s) ≡ at + place_of s r
     pub ahead : Ahead (changed_transitions (model_at s).transitions) at before (changed_transitions (transitions_at s (count - r) (place_of s r))) next out
 
@@ -150,7 +138,6 @@ module _ (f : Transition → Transition) (keeps : (t : Transition) → length (f
     changing-start all room =
         let e : count_of s ≡ count - 0 = omega (arith, all) in
         record {
-          among = omega arith;
           place = refl;
           ahead =
               subst (λ (n : ℕ). Ahead (changed_transitions (model_at s).transitions) at before (changed_transitions (transitions_at s n (8 + states_of s))) at before) e
@@ -164,7 +151,6 @@ module _ (f : Transition → Transition) (keeps : (t : Transition) → length (f
           let e : count - r - 1 ≡ count - (r + 1) = omega arith in
           let later = place_of-next s r in
           record {
-            among = omega arith;
             place = omega (arith, later, h.place, a.place, changed-past s (place_of s r));
             ahead =
                 ahead-turn h.ahead

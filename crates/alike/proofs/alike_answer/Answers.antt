@@ -7,30 +7,31 @@ use Rattle.judgement.specs.VerdictLaws.{found-accepted, found-refused}
 use Rattle.alike.specs.AlikeLaws.{pair-refused, pair-compared}
 use Rattle.alike.proofs.alike_answer.Goals as goal
 
-pub returns-then-head-ne0 : goal.returns-then-head-ne0
+pub returns-in-Err : goal.returns-in-Err
 unfolding Bytes byte_at
-returns-then-head-ne0 c =
+returns-in-Err c =
+    rw c.unsaid.ensures (
     pair-refused (λ i h. omega (arith, c.shared_slice_known-1.given i)) (λ i h. omega (arith, c.shared_slice_known-2-1.given i)) _
-    (c.head_answer-head.ensures.refused c.if-head-ne0.true _ _ _ _) refl
+    (c.in-Err.ensures.refused _ _ _ _) refl
+    )
 
-pub judge_files-found-requires : goal.judge_files-found-requires
-judge_files-found-requires c = c.head_answer-head.ensures.good c.if-head-ne0.false
+pub overflow_add-blocks : goal.overflow_add-blocks
+overflow_add-blocks c =
+    omega (arith, (found-accepted c.judge_files.ensures c.in-Ok.is).inside, c.well_formed.1.1.0.0)
 
-pub overflow_add-at : goal.overflow_add-at
-overflow_add-at c =
-    omega (arith, (found-accepted c.judge_files-found.ensures c.in-Accepted.is).inside, c.well_formed.1.1.0.0)
+pub slice_bounds-blocks-end : goal.slice_bounds-blocks-end
+slice_bounds-blocks-end c = omega (arith, (found-accepted c.judge_files.ensures c.in-Ok.is).inside)
 
-pub slice_bounds-compare-end : goal.slice_bounds-compare-end
-slice_bounds-compare-end c = omega (arith, (found-accepted c.judge_files-found.ensures c.in-Accepted.is).inside)
-
-pub returns-in-Accepted : goal.returns-in-Accepted
+pub returns-in-Ok : goal.returns-in-Ok
 unfolding Bytes byte_at
-returns-in-Accepted c =
+returns-in-Ok c =
     pair-compared (λ i h. omega (arith, c.shared_slice_known-1.given i)) (λ i h. omega (arith, c.shared_slice_known-2-1.given i)) _
-    (found-accepted c.judge_files-found.ensures c.in-Accepted.is) c.compare.ensures
+    (found-accepted c.judge_files.ensures c.in-Ok.is) c.compare.ensures
 
-pub returns-in-Refused : goal.returns-in-Refused
+pub returns-in-Err-judge_files : goal.returns-in-Err-judge_files
 unfolding Bytes byte_at
-returns-in-Refused c =
+returns-in-Err-judge_files c =
+    rw c.unsaid-in-Err-judge_files.ensures (
     pair-refused (λ i h. omega (arith, c.shared_slice_known-1.given i)) (λ i h. omega (arith, c.shared_slice_known-2-1.given i)) _
-    (found-refused c.judge_files-found.ensures c.in-Refused.is) refl
+    (found-refused c.judge_files.ensures c.in-Err-judge_files.is) refl
+    )

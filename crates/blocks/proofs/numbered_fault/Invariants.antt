@@ -4,9 +4,6 @@ use mathlib.Core.Path.{◌≡◌}
 use Rattle.rules.specs.definitions.Certificate.{numbered_fault}
 use Rattle.blocks.proofs.numbered_fault.Given as goal
 
-abbrev pub invariant-loop-left : goal.invariant-loop-left
-invariant-loop-left l =
-    (l.place.at + l.left ≡ l.at + l.n) × (l.seen + l.left ≤ l.n) × (numbered_fault l.cert l.left l.place.at l.seen ≡ numbered_fault l.cert l.n l.at 0)
-
-abbrev pub decreases-loop-left : goal.decreases-loop-left
-decreases-loop-left l = l.left
+abbrev pub invariant-loop-byte : goal.invariant-loop-byte
+invariant-loop-byte l =
+    (l.seen ≤ l.byte-index) × (numbered_fault l.cert (l.n - l.byte-index) (l.at + l.byte-index) l.seen ≡ numbered_fault l.cert l.n l.at 0)

@@ -1,7 +1,6 @@
 -- `compose_sound` meets its contract: 37 by states or labels, or what the moves say.
 use mathlib.Core.Path.{sym, ◌∙◌}
 use native.Mathlib.Omega.{arith}
-use Rattle.answer.specs.AnsweredLaws.{without-as}
 use Rattle.compose.specs.ComposeLaws.{few-pairs, small-highest, small-label, many-pairs, states-within, limit-passed}
 use Rattle.compose.proofs.compose_sound.Goals as goal
 
@@ -36,7 +35,7 @@ pub returns-then-passes_states : goal.returns-then-passes_states
 returns-then-passes_states c =
     let over = sym c.if-passes_states.true ∙ c.passes_states.ensures in
     limit-passed _ (many-pairs c.requires c.highest_label-own.ensures c.highest_label-highest.ensures over)
-    (without-as 37 0 c.without_place.ensures (omega arith) (omega arith))
+    c.refused.ensures
 
 pub overflow_add-highest-2 : goal.overflow_add-highest-2
 overflow_add-highest-2 c =

@@ -6,6 +6,9 @@ use Rattle.writer.specs.AppendsLaws.{file-filled}
 use Rattle.compose.specs.ComposeLaws.{few-sizes, composed-size, composed-room}
 use Rattle.compose.proofs.write_file.Goals as goal
 
+pub overflow_mul-states : goal.overflow_mul-states
+overflow_mul-states c = omega (arith, few-sizes c.requires)
+
 pub overflow_mul-size : goal.overflow_mul-size
 overflow_mul-size c = omega (arith, few-sizes c.requires)
 

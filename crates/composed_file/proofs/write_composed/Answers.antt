@@ -3,8 +3,8 @@ use native.Mathlib.Omega.{arith}
 use Rattle.composed_file.specs.FileLaws.{states-fit, head-fits, labels-fit, records-fit, file-written}
 use Rattle.composed_file.proofs.write_composed.Goals as goal
 
-pub overflow_mul-m : goal.overflow_mul-m
-overflow_mul-m c = omega (arith, states-fit c.requires)
+pub overflow_mul-left : goal.overflow_mul-left
+overflow_mul-left c = omega (arith, states-fit c.requires)
 
 pub head-labels-requires : goal.head-labels-requires
 head-labels-requires c =

@@ -1,11 +1,7 @@
 -- `write_label_row` meets its contract. The invariant is `Gathering`.
-use Prim.Native.Nat.{◌-◌}
 use Rattle.composed_states.specs.Gathering.{Gathering}
 use Rattle.composed_file.specs.Labels.{label_byte}
 use Rattle.composed_file.proofs.write_label_row.Given as goal
 
-abbrev pub invariant-loop-e : goal.invariant-loop-e
-invariant-loop-e l = Gathering (label_byte l.label l.factor l.right) l.n l.at l.initial.out l.e l.out l.next
-
-abbrev pub decreases-loop-e : goal.decreases-loop-e
-decreases-loop-e l = l.n - l.e
+abbrev pub invariant-loop-own : goal.invariant-loop-own
+invariant-loop-own l = Gathering (label_byte l.label l.factor l.right.file.now) l.right.model.states l.at l.initial.out l.own-index l.out l.next

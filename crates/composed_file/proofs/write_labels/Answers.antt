@@ -1,40 +1,25 @@
 -- `write_labels` meets its contract. The invariant is `Gathering`.
-use Prim.Native.Nat.{◌+◌, ◌-◌}
+use Rattle.std.specs.Prelude.{◌<◌}
 use native.Mathlib.Omega.{arith}
-use Rattle.rules.specs.definitions.Bytes.{byte_at}
+use Rattle.composed_size.specs.CountedLaws.{label-item}
 use Rattle.composed_states.specs.Gathering.{gathering-turn}
 use Rattle.composed_file.specs.LabelsLaws.{labels-start, labels-ask, labels-end}
 use Rattle.composed_file.proofs.write_labels.Goals as goal
 
-pub loop-s-init : goal.loop-s-init
-loop-s-init c = labels-start c.requires
-
-pub overflow_add-s : goal.overflow_add-s
-overflow_add-s c = omega arith
-
-pub bounds-left-s : goal.bounds-left-s
-bounds-left-s c = omega arith
-
-pub overflow_cast-left : goal.overflow_cast-left
-overflow_cast-left c = omega (arith, c.shared_slice_known-in-loop-s-1.given (8 + c.loop-s.s))
+pub loop-label-init : goal.loop-label-init
+loop-label-init c = labels-start c.requires
 
 pub write_label_row-next-requires : goal.write_label_row-next-requires
-unfolding byte_at
-write_label_row-next-requires c = labels-ask c.requires c.loop-s.invariant (omega arith)
+write_label_row-next-requires c =
+    let l = c.loop-label in
+    let i : l.label-index < c.args.left.model.states = omega arith in
+    rw (label-item c.args.left.file.now c.args.left.model.states l.label-index i) (labels-ask c.requires l.invariant i)
 
-pub overflow_add-s-in-loop-s : goal.overflow_add-s-in-loop-s
-overflow_add-s-in-loop-s c = omega arith
-
-pub loop-s-smaller : goal.loop-s-smaller
-loop-s-smaller c = omega arith
-
-pub loop-s-preserved : goal.loop-s-preserved
-unfolding byte_at
-loop-s-preserved c =
-    gathering-turn c.loop-s.invariant (omega arith) c.write_label_row-next.ensures
-
-pub shape_of-out : goal.shape_of-out
-shape_of-out c = c.loop-s.invariant.appended.size
+pub loop-label-preserved : goal.loop-label-preserved
+loop-label-preserved c =
+    let l = c.loop-label in
+    let i : l.label-index < c.args.left.model.states = omega arith in
+    gathering-turn l.invariant i (rw (label-item c.args.left.file.now c.args.left.model.states l.label-index i) at c.write_label_row-next.ensures)
 
 pub returns : goal.returns
-returns c = labels-end c.requires c.loop-s.invariant (omega arith)
+returns c = labels-end c.requires c.loop-label.invariant (omega arith)

@@ -1,7 +1,5 @@
 -- `write_moves` meets its contract. The invariant is `StateLoop`.
-use Prim.Native.Nat.{◌-◌}
 use native.Mathlib.Omega.{arith}
-use Rattle.transition.specs.KnownLaws.{few-states}
 use Rattle.composed_states.specs.ModelsLaws.{left-known}
 use Rattle.composed_file.specs.StateLoops.{states-start, states-ask, states-room, states-run, states-turn, states-end}
 use Rattle.composed_file.specs.RowsLaws.{all-parts}
@@ -22,20 +20,10 @@ write_row-next-requires c =
       states-run k (all-parts _ _) c.loop-s.invariant (omega arith) c.run_past-past.ensures,
     )
 
-pub overflow_add-s : goal.overflow_add-s
-overflow_add-s c =
-    omega (arith, few-states (left-known c.requires.models))
-
-pub loop-s-smaller : goal.loop-s-smaller
-loop-s-smaller c = omega arith
-
 pub loop-s-preserved : goal.loop-s-preserved
 loop-s-preserved c =
     states-turn (left-known c.requires.models) (all-parts _ _) c.loop-s.invariant
     (omega arith) c.run_past-past.ensures c.write_row-next.ensures
-
-pub shape_of-out : goal.shape_of-out
-shape_of-out c = c.loop-s.invariant.gathering.appended.size
 
 pub returns : goal.returns
 returns c =

@@ -1,7 +1,5 @@
 -- `write_row` meets its contract. The invariant is `StateLoop`.
-use Prim.Native.Nat.{◌-◌}
 use native.Mathlib.Omega.{arith}
-use Rattle.transition.specs.KnownLaws.{few-states}
 use Rattle.composed_states.specs.ModelsLaws.{right-known}
 use Rattle.composed_file.specs.StateLoops.{states-start, states-ask, states-room, states-run, states-turn, states-end}
 use Rattle.composed_file.specs.RowsLaws.{row-parts}
@@ -23,20 +21,10 @@ write_state-next-requires c =
       states-run k (row-parts _ _ _) c.loop-e.invariant (omega arith) c.run_past-past.ensures,
     )
 
-pub overflow_add-e : goal.overflow_add-e
-overflow_add-e c =
-    omega (arith, few-states (right-known c.requires.0.models))
-
-pub loop-e-smaller : goal.loop-e-smaller
-loop-e-smaller c = omega arith
-
 pub loop-e-preserved : goal.loop-e-preserved
 loop-e-preserved c =
     states-turn (right-known c.requires.0.models) (row-parts _ _ _) c.loop-e.invariant
     (omega arith) c.run_past-past.ensures c.write_state-next.ensures
-
-pub shape_of-out : goal.shape_of-out
-shape_of-out c = c.loop-e.invariant.gathering.appended.size
 
 pub returns : goal.returns
 returns c =

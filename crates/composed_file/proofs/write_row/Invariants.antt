@@ -1,5 +1,4 @@
 -- `write_row` meets its contract. The invariant is `StateLoop`.
-use Prim.Native.Nat.{◌-◌}
 use Rattle.transition.specs.Known.{automaton_in}
 use Rattle.composed_states.specs.Records.{state_records}
 use Rattle.composed_file.specs.StateLoops.{StateLoop}
@@ -7,7 +6,4 @@ use Rattle.composed_file.proofs.write_row.Given as goal
 
 abbrev pub invariant-loop-e : goal.invariant-loop-e
 invariant-loop-e l =
-    StateLoop (automaton_in l.right) l.k.transitions (state_records l.left l.right l.from.state) l.at l.initial.out l.first l.e l.out l.next
-
-abbrev pub decreases-loop-e : goal.decreases-loop-e
-decreases-loop-e l = l.n - l.e
+    StateLoop (automaton_in l.right.file.now) l.right.model.transitions (state_records l.left.file.now l.right.file.now l.from.state) l.at l.initial.out l.first l.e l.out l.next

@@ -1,34 +1,24 @@
 -- `write_pairs` meets its contract. The invariant is `Pairing`.
+use mathlib.Core.Path.{refl, ap, ◌∙◌}
 use native.Mathlib.Omega.{arith}
+use Rattle.transition.specs.EntriesLeft.{entries_left}
 use Rattle.composed_moves.specs.MoveRecordsLaws.{pairing-start, row-state, row-asks, pairing-turn, pairing-end}
 use Rattle.composed_moves.proofs.write_pairs.Goals as goal
 
-pub loop-ahead-init : goal.loop-ahead-init
-loop-ahead-init c = pairing-start c.requires
-
-pub entry_at-entry-requires : goal.entry_at-entry-requires
-entry_at-entry-requires c = omega arith
+pub loop-entry-init : goal.loop-entry-init
+loop-entry-init c =
+    pairing-start (ap entries_left c.into_iter-entry-iterator.ensures.into_iter_gives ∙ c.entries-entry-items.ensures) c.requires
 
 pub overflow_mul-entry : goal.overflow_mul-entry
-overflow_mul-entry c =
-    omega (arith, row-state _ c.loop-ahead.invariant (omega arith) c.entry_at-entry.ensures)
+overflow_mul-entry c = omega (arith, row-state c.loop-entry.invariant c.in-Some.ensures.steps)
 
 pub write_entries-next-requires : goal.write_entries-next-requires
 write_entries-next-requires c =
-    row-asks _ c.loop-ahead.invariant (omega arith) c.entry_at-entry.ensures
+    row-asks c.loop-entry.invariant c.in-Some.ensures.steps refl c.requires.right_inside
 
-pub overflow_sub-ahead : goal.overflow_sub-ahead
-overflow_sub-ahead c = omega arith
-
-pub loop-ahead-smaller : goal.loop-ahead-smaller
-loop-ahead-smaller c = omega arith
-
-pub loop-ahead-preserved : goal.loop-ahead-preserved
-loop-ahead-preserved c =
-    pairing-turn _ c.loop-ahead.invariant (omega arith) c.entry_at-entry.ensures c.write_entries-next.ensures
-
-pub shape_of-out : goal.shape_of-out
-shape_of-out c = c.loop-ahead.invariant.ahead.size
+pub loop-entry-preserved : goal.loop-entry-preserved
+loop-entry-preserved c =
+    pairing-turn c.loop-entry.invariant c.in-Some.ensures.steps c.write_entries-next.ensures
 
 pub returns : goal.returns
-returns c = pairing-end _ c.loop-ahead.invariant (omega arith)
+returns c = pairing-end c.loop-entry.invariant c.in-None.ensures.steps.0

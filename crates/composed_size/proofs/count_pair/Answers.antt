@@ -4,7 +4,7 @@ use Rattle.composed_size.specs.CountedLaws.{small-products, no-pair, one-pair}
 use Rattle.composed_size.proofs.count_pair.Goals as goal
 
 pub returns-then-u-t : goal.returns-then-u-t
-returns-then-u-t c = no-pair (λ e. omega arith) c.no_sizes.ensures
+returns-then-u-t c = no-pair (λ e. omega arith) (omega arith)
 
 pub overflow_mul-result : goal.overflow_mul-result
 overflow_mul-result c =

@@ -1,41 +1,25 @@
--- `highest_label` meets its contract. The invariant: the highest of the first v labels.
-use Prim.Native.Nat.{ℕ, ◌+◌, ◌-◌}
-use mathlib.Core.Path.{◌≡◌, refl, ◌∙◌, ap}
-use native.Mathlib.Omega.{arith}
+-- `highest_label` meets its contract. The invariant: the highest of the labels so far.
+use Rattle.std.proofs.Common.{ℕ, ◌<◌, ◌≡◌, refl, ap, ◌∙◌, arith}
 use Rattle.bisimulation.specs.definitions.Composed.{highest}
-use Rattle.rules.specs.definitions.Bytes.{byte_at}
 use Rattle.rules.proofs.argument.ModelAutomaton.{automaton-states}
 use Rattle.transition.specs.Known.{automaton_in}
-use Rattle.composed_size.specs.CountedLaws.{highest-more}
+use Rattle.composed_size.specs.CountedLaws.{highest-more, label-item}
 use Rattle.composed_size.proofs.highest_label.Goals as goal
 
-pub loop-v-init : goal.loop-v-init
+pub loop-label-init : goal.loop-label-init
 unfolding highest
-loop-v-init c = (omega arith, refl)
+loop-label-init c = refl
 
-pub overflow_add-v : goal.overflow_add-v
-overflow_add-v c = omega arith
-
-pub bounds-s-v : goal.bounds-s-v
-bounds-s-v c = omega arith
-
-pub overflow_cast-s : goal.overflow_cast-s
-overflow_cast-s c = omega (arith, c.shared_slice_known-in-loop-v-1.given (8 + c.loop-v.v))
-
-pub overflow_add-v-in-loop-v : goal.overflow_add-v-in-loop-v
-overflow_add-v-in-loop-v c = omega arith
-
-pub loop-v-smaller : goal.loop-v-smaller
-loop-v-smaller c = omega arith
-
-pub loop-v-preserved : goal.loop-v-preserved
-unfolding byte_at
-loop-v-preserved c =
-    let l = c.loop-v in
-    (omega arith, highest-more _ l.v (omega (arith, c.requires.0)) l.invariant.1 refl c.larger-most.ensures)
+pub loop-label-preserved : goal.loop-label-preserved
+loop-label-preserved c =
+    let s = c.args.s.now in
+    let l = c.loop-label in
+    let i : l.label-index < c.args.n = omega arith in
+    highest-more _ l.label-index (omega (arith, i, c.requires.0)) l.invariant
+    (label-item s c.args.n l.label-index i) c.max-most.ensures
 
 pub returns : goal.returns
 returns c =
-    let l = c.loop-v in
-    let e : l.v ≡ (automaton_in c.args.s.now).states = omega (arith, c.requires, automaton-states c.args.s.now (omega (arith, c.requires))) in
-    l.invariant.1 ∙ ap (λ (k : ℕ). highest k (automaton_in c.args.s.now).label) e
+    let s = c.args.s.now in
+    let e : c.loop-label.label-index ≡ (automaton_in s).states = omega (arith, c.requires, automaton-states s (omega (arith, c.requires))) in
+    c.loop-label.invariant ∙ ap (λ (k : ℕ). highest k (automaton_in s).label) e

@@ -1,5 +1,4 @@
 -- `write_own_moves` meets its contract. The invariant is `RunLoop`.
-use Prim.Native.Nat.{◌-◌}
 use native.Mathlib.Omega.{arith}
 use Rattle.composed_states.specs.RunLoops.{run-start, run-turn, run_end}
 use Rattle.composed_states.specs.OwnLaws.{own-of-run, owns-ask}
@@ -11,18 +10,9 @@ loop-r-init c = let p = c.requires in run-start (own-of-run _ _ _ p.leaving) p.r
 pub write_own_move-next-requires : goal.write_own_move-next-requires
 write_own_move-next-requires c = owns-ask c.requires c.loop-r.invariant (omega arith)
 
-pub overflow_add-r : goal.overflow_add-r
-overflow_add-r c = omega arith
-
-pub loop-r-smaller : goal.loop-r-smaller
-loop-r-smaller c = omega arith
-
 pub loop-r-preserved : goal.loop-r-preserved
 loop-r-preserved c =
     run-turn (own-of-run _ _ _ c.requires.leaving) c.loop-r.invariant (omega arith) c.write_own_move-next.ensures
-
-pub shape_of-out : goal.shape_of-out
-shape_of-out c = c.loop-r.invariant.gathering.appended.size
 
 pub returns : goal.returns
 returns c =

@@ -1,5 +1,4 @@
 -- `write_partners` meets its contract. The invariant is `RunLoop`.
-use Prim.Native.Nat.{◌-◌}
 use native.Mathlib.Omega.{arith}
 use Rattle.composed_states.specs.RunLoops.{run-start, run-turn, run_end}
 use Rattle.composed_states.specs.RecordsLaws.{partners-of-run}
@@ -12,18 +11,9 @@ loop-partner-init c = let p = c.requires in run-start (partners-of-run _ _ _ p.l
 pub write_partner-next-requires : goal.write_partner-next-requires
 write_partner-next-requires c = partners-ask c.requires c.loop-partner.invariant (omega arith)
 
-pub overflow_add-partner : goal.overflow_add-partner
-overflow_add-partner c = omega arith
-
-pub loop-partner-smaller : goal.loop-partner-smaller
-loop-partner-smaller c = omega arith
-
 pub loop-partner-preserved : goal.loop-partner-preserved
 loop-partner-preserved c =
     run-turn (partners-of-run _ _ _ c.requires.leaving) c.loop-partner.invariant (omega arith) c.write_partner-next.ensures
-
-pub shape_of-out : goal.shape_of-out
-shape_of-out c = c.loop-partner.invariant.gathering.appended.size
 
 pub returns : goal.returns
 returns c =

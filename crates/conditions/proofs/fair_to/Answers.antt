@@ -14,15 +14,15 @@ neither Unasked e f = refl
 
 pub returns-in-Across : goal.returns-in-Across
 returns-in-Across c =
-    let fields = c.fields_of-fields.ensures in
+    let fields = c.fields-fields.ensures in
     fair-across _ _ _ _ _ _ _ _ _ c.condition_of-condition.ensures fields.source fields.action c.in-Across.is (rw (to_z-of_z c.ranges.l) at c.fair.ensures)
 
 pub returns-in-Within : goal.returns-in-Within
 returns-in-Within c =
-    let fields = c.fields_of-fields.ensures in
+    let fields = c.fields-fields.ensures in
     fair-within _ _ _ _ _ _ _ _ _ c.condition_of-condition.ensures fields.source fields.action c.in-Within.is (rw (to_z-of_z c.ranges.l) at c.fair_twice.ensures)
 
 pub returns : goal.returns
 returns c =
-    let fields = c.fields_of-fields.ensures in
+    let fields = c.fields-fields.ensures in
     fair-unasked _ _ _ _ _ _ _ _ _ c.condition_of-condition.ensures fields.source fields.action (neither _ c.in_default.not-Across c.in_default-condition.not-Within)

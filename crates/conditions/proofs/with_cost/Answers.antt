@@ -1,7 +1,12 @@
 -- `with_cost` meets its contract: the term of the cost is added, where there is one.
 use native.Mathlib.Omega.{arith}
+use Rattle.transition.specs.KnownLaws.{known-own}
 use Rattle.conditions.specs.ConditionsLaws.{weight-small, term-addable, no-term, with-its-term}
 use Rattle.conditions.proofs.with_cost.Goals as goal
+
+pub cost_of-cost-requires : goal.cost_of-cost-requires
+cost_of-cost-requires c =
+    record { known = known-own c.args.model.known; stands = c.requires.stands; below = c.requires.below }
 
 pub returns-then-cost-eq0 : goal.returns-then-cost-eq0
 returns-then-cost-eq0 c =

@@ -1,10 +1,7 @@
 -- `scan_costs` meets its contract: the record is opened, then each cost is judged, then what is left of the file.
-use Prim.Native.Nat.{◌+◌}
+use Prim.Native.Nat.{◌+◌, ◌-◌}
 use Rattle.cost_model.specs.CostsRead.{CostsLeft}
 use Rattle.cost_model.proofs.scan_costs.Given as goal
 
-abbrev pub invariant-loop-left : goal.invariant-loop-left
-invariant-loop-left l = CostsLeft l.s l.count (l.m.end + 2) l.left l.place.at
-
-abbrev pub decreases-loop-left : goal.decreases-loop-left
-decreases-loop-left l = l.left
+abbrev pub invariant-loop : goal.invariant-loop
+invariant-loop l = CostsLeft l.s l.count (l.m.end + 2) (l.count - l.counter) l.place.at

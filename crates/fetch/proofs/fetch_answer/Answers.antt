@@ -3,7 +3,7 @@
 use native.Mathlib.Omega.{arith}
 use Prim.Native.Nat.{ℕ, ◌≤◌}
 use mathlib.Core.List.{List}
-use mathlib.Core.Path.{◌≡◌, sym, ◌∙◌, ap}
+use mathlib.Core.Path.{◌≡◌, refl, ◌∙◌, ap}
 use lib.ListN.{length}
 use Rattle.rules.specs.definitions.Limits.{current}
 use Rattle.rules.specs.definitions.Bytes.{byte_at}
@@ -11,10 +11,10 @@ use Rattle.rules.specs.definitions.SoundModel.{Bytes}
 use Rattle.rules.specs.definitions.Answers.{Answer, refusal_in, fetch_answer}
 use Rattle.rules.specs.definitions.Faults.{Fault}
 use Rattle.rules.proofs.argument.AnswerLaws.{fetch-inside}
-use Rattle.fetch.specs.Fetched.{answer_of, FetchAnswered, fetch-answered}
+use Rattle.fetch.specs.Fetched.{FetchAnswered, fetch-answered}
 use Rattle.answer.specs.declared.Answer as declared
 use Rattle.answer.specs.Answered.{Says}
-use Rattle.answer.specs.AnsweredLaws.{without-as, refusal-as}
+use Rattle.answer.specs.AnsweredLaws.{refusal-as}
 use Rattle.fetch.proofs.fetch_answer.Goals as goal
 
 told : {a b : Answer} (s : List ℕ) (x y : ℕ) {r : declared.Answer} → Bytes s → Says a 0 r → a ≡ b → b ≡ fetch_answer current s x → x ≡ y → FetchAnswered s y r
@@ -25,21 +25,18 @@ placed : (s : List ℕ) (state : ℕ) (f : Fault) (place : ℕ) → refusal_in f
 unfolding refusal_in
 placed s state f place e = omega (arith, ap (λ (a : Answer). a.stretch_start) e, ap (λ (a : Answer). a.stretch_length) e, fetch-inside current s state)
 
-pub refusal_in-requires : goal.refusal_in-requires
-refusal_in-requires c = placed _ _ _ _ (sym (ap (answer_of _) c.in-Unsound.is) ∙ c.fetch_run-fetched.ensures)
+pub refused_in-requires : goal.refused_in-requires
+refused_in-requires c = placed _ _ _ _ c.in-Err.ensures
 
-pub returns-in-Found : goal.returns-in-Found
+pub returns-in-Ok-Some : goal.returns-in-Ok-Some
 unfolding Bytes byte_at
-returns-in-Found c = told _ _ _ (λ i h. omega (arith, c.shared_slice_known-1.given i)) c.run_from.ensures (sym (ap (answer_of _) c.in-Found.is)) c.fetch_run-fetched.ensures (omega arith)
+returns-in-Ok-Some c = told _ _ _ (λ i h. omega (arith, c.shared_slice_known-1.given i)) c.run_from.ensures refl (rw c.in-Ok-Some.field-0-is at c.in-Ok-Some.ensures) (omega arith)
 
-pub returns-in-NoState : goal.returns-in-NoState
+pub returns-in-Ok-None : goal.returns-in-Ok-None
 unfolding Bytes byte_at
-returns-in-NoState c =
-    told _ _ _ (λ i h. omega (arith, c.shared_slice_known-1.given i)) (without-as 24 0 c.without_place.ensures (omega arith) (omega arith)) (sym (ap (answer_of _) c.in-NoState.is))
-    c.fetch_run-fetched.ensures (omega arith)
+returns-in-Ok-None c = told _ _ _ (λ i h. omega (arith, c.shared_slice_known-1.given i)) c.refused.ensures refl (rw c.in-Ok-None.field-0-is at c.in-Ok-None.ensures) (omega arith)
 
-pub returns-in-Unsound : goal.returns-in-Unsound
+pub returns-in-Err : goal.returns-in-Err
 unfolding Bytes byte_at
-returns-in-Unsound c =
-    told _ _ _ (λ i h. omega (arith, c.shared_slice_known-1.given i)) (refusal-as _ 1 _ _ c.refusal_in.ensures (omega arith) (omega arith)) (sym (ap (answer_of _) c.in-Unsound.is))
-    c.fetch_run-fetched.ensures (omega arith)
+returns-in-Err c =
+    told _ _ _ (λ i h. omega (arith, c.shared_slice_known-1.given i)) (refusal-as _ 1 _ _ c.refused_in.ensures (omega arith) (omega arith)) refl c.in-Err.ensures (omega arith)

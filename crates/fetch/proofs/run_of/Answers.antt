@@ -26,26 +26,26 @@ module _ (s table : List ℕ) (state count : ℕ) {n : ℕ} (w : Known s n count
   past-most first past next e f g = omega (arith, w.transitions, past_is first past next e f g, run-most s state)
 
 pub first_not_below-past-requires : goal.first_not_below-past-requires
-first_not_below-past-requires c = (first-most _ _ _ _ c.requires.1 _ c.first_not_below-first.ensures, c.requires.1)
+first_not_below-past-requires c = first-most _ _ _ _ c.args.model.known _ c.first_not_below-first.ensures
 
-pub offset_bounds-places-first : goal.offset_bounds-places-first
-offset_bounds-places-first c = omega (arith, first-most _ _ _ _ c.requires.1 _ c.first_not_below-first.ensures, few-transitions c.requires.1, c.requires.1.size)
+pub offset_bounds-model-first : goal.offset_bounds-model-first
+offset_bounds-model-first c = omega (arith, first-most _ _ _ _ c.args.model.known _ c.first_not_below-first.ensures, few-transitions c.args.model.known, c.args.model.known.size)
 
-pub bounds-places-first : goal.bounds-places-first
-bounds-places-first c = omega (arith, first-most _ _ _ _ c.requires.1 _ c.first_not_below-first.ensures, few-transitions c.requires.1, c.requires.1.size)
+pub bounds-model-first : goal.bounds-model-first
+bounds-model-first c = omega (arith, first-most _ _ _ _ c.args.model.known _ c.first_not_below-first.ensures, few-transitions c.args.model.known, c.args.model.known.size)
 
-pub offset_bounds-places-past : goal.offset_bounds-places-past
-offset_bounds-places-past c = omega (arith, past-most _ _ _ _ c.requires.1 _ _ _ (first-is _ _ _ _ c.requires.1 _ c.first_not_below-first.ensures) c.first_not_below-past.ensures (omega arith), few-transitions c.requires.1, c.requires.1.size)
+pub offset_bounds-model-past : goal.offset_bounds-model-past
+offset_bounds-model-past c = omega (arith, past-most _ _ _ _ c.args.model.known _ _ _ (first-is _ _ _ _ c.args.model.known _ c.first_not_below-first.ensures) c.first_not_below-past.ensures (omega arith), few-transitions c.args.model.known, c.args.model.known.size)
 
-pub bounds-places-past : goal.bounds-places-past
-bounds-places-past c = omega (arith, past-most _ _ _ _ c.requires.1 _ _ _ (first-is _ _ _ _ c.requires.1 _ c.first_not_below-first.ensures) c.first_not_below-past.ensures (omega arith), few-transitions c.requires.1, c.requires.1.size)
+pub bounds-model-past : goal.bounds-model-past
+bounds-model-past c = omega (arith, past-most _ _ _ _ c.args.model.known _ _ _ (first-is _ _ _ _ c.args.model.known _ c.first_not_below-first.ensures) c.first_not_below-past.ensures (omega arith), few-transitions c.args.model.known, c.args.model.known.size)
 
 pub returns : goal.returns
 unfolding run_start run_end
 returns c =
-    let w = c.requires.1 in
-    let s = c.args.s.now in
+    let w = c.args.model.known in
+    let s = c.args.model.file.now in
     record {
-      start = w.places.held _ (omega (arith, first-most _ _ _ _ c.requires.1 _ c.first_not_below-first.ensures)) ∙ ap (place_of s) (first-is _ _ _ _ c.requires.1 _ c.first_not_below-first.ensures);
-      end = w.places.held _ (omega (arith, past-most _ _ _ _ c.requires.1 _ _ _ (first-is _ _ _ _ c.requires.1 _ c.first_not_below-first.ensures) c.first_not_below-past.ensures (omega arith))) ∙ ap (place_of s) (past_is _ _ _ _ c.requires.1 _ _ _ (first-is _ _ _ _ c.requires.1 _ c.first_not_below-first.ensures) c.first_not_below-past.ensures (omega arith));
+      start = w.places.held _ (omega (arith, first-most _ _ _ _ c.args.model.known _ c.first_not_below-first.ensures)) ∙ ap (place_of s) (first-is _ _ _ _ c.args.model.known _ c.first_not_below-first.ensures);
+      end = w.places.held _ (omega (arith, past-most _ _ _ _ c.args.model.known _ _ _ (first-is _ _ _ _ c.args.model.known _ c.first_not_below-first.ensures) c.first_not_below-past.ensures (omega arith))) ∙ ap (place_of s) (past_is _ _ _ _ c.args.model.known _ _ _ (first-is _ _ _ _ c.args.model.known _ c.first_not_below-first.ensures) c.first_not_below-past.ensures (omega arith));
     }

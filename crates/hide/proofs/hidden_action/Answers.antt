@@ -8,6 +8,6 @@ pub returns-then-members-action : goal.returns-then-members-action
 unfolding hidden_action
 returns-then-members-action c = is_true _ c.if-members-action.true refl
 
-pub returns : goal.returns
+pub returns-else-members-action : goal.returns-else-members-action
 unfolding hidden_action
-returns c = is_false _ c.if-members-action.false refl
+returns-else-members-action c = is_false _ c.if-members-action.false refl

@@ -3,4 +3,4 @@ use Rattle.answer.specs.AnsweredLaws.{file-stretch}
 use Rattle.hide.proofs.hide_sound.Goals as goal
 
 pub returns : goal.returns
-returns c = file-stretch 38 _ _ c.write_file-size.ensures c.file_answer.ensures
+returns c = file-stretch 38 _ _ c.write_file-size.ensures c.of_file.ensures

@@ -2,21 +2,17 @@
 use native.Mathlib.Omega.{arith}
 use Rattle.rules.specs.definitions.Bytes.{byte_at}
 use Rattle.rules.specs.definitions.SoundModel.{Bytes}
-use Rattle.two_models.specs.TwoModelsLaws.{found-both, found-refused}
 use Rattle.join.specs.JoinLaws.{two-sound, two-refused}
 use Rattle.join.proofs.join_answer.Goals as goal
 
-pub join_sound-requires : goal.join_sound-requires
-join_sound-requires c = found-both c.read_two-read.ensures c.in-Sound.is
-
-pub returns-in-Sound : goal.returns-in-Sound
+pub returns-in-Ok : goal.returns-in-Ok
 unfolding Bytes byte_at
-returns-in-Sound c =
+returns-in-Ok c =
     two-sound (λ i h. omega (arith, c.shared_slice_known-1.given i)) (λ i h. omega (arith, c.shared_slice_known-2-1.given i)) _
-    (found-both c.read_two-read.ensures c.in-Sound.is) c.join_sound.ensures
+    c.in-Ok.ensures c.join_sound.ensures
 
-pub returns-in-Refused : goal.returns-in-Refused
+pub returns-in-Err : goal.returns-in-Err
 unfolding Bytes byte_at
-returns-in-Refused c =
+returns-in-Err c =
     two-refused (λ i h. omega (arith, c.shared_slice_known-1.given i)) (λ i h. omega (arith, c.shared_slice_known-2-1.given i)) _
-    (found-refused _ c.read_two-read.ensures c.in-Refused.is)
+    c.in-Err.ensures

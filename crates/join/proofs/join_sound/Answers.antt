@@ -1,7 +1,6 @@
 -- `join_sound` meets its contract: 25, 26, or the joined file.
 use mathlib.Core.Path.{refl, sym, ◌∙◌}
 use native.Mathlib.Omega.{arith}
-use Rattle.answer.specs.AnsweredLaws.{without-as}
 use Rattle.joined_file.specs.JoinedFileLaws.{sums}
 use Rattle.join.specs.JoinLaws.{over-limit, in-limit, file-joined}
 use Rattle.join.proofs.join_sound.Goals as goal
@@ -17,7 +16,7 @@ overflow_sub-records-3 c = omega (arith, sums c.requires)
 
 pub returns-then-passes_limit : goal.returns-then-passes_limit
 returns-then-passes_limit c =
-    over-limit c.requires refl refl refl _ (sym c.if-passes_limit.true ∙ c.passes_limit.ensures) (without-as 25 0 c.without_place.ensures (omega arith) (omega arith))
+    over-limit c.requires refl refl refl _ (sym c.if-passes_limit.true ∙ c.passes_limit.ensures) c.refused.ensures
 
 pub write_file-size-requires : goal.write_file-size-requires
 write_file-size-requires c =
@@ -25,4 +24,4 @@ write_file-size-requires c =
 
 pub returns : goal.returns
 returns c =
-    file-joined c.requires refl refl refl _ (sym c.if-passes_limit.false ∙ c.passes_limit.ensures) c.write_file-size.ensures c.file_answer.ensures
+    file-joined c.requires refl refl refl _ (sym c.if-passes_limit.false ∙ c.passes_limit.ensures) c.write_file-size.ensures c.of_file.ensures

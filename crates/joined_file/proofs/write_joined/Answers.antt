@@ -14,6 +14,9 @@ write_labels-records-requires c =
 pub overflow_add-m-3 : goal.overflow_add-m-3
 overflow_add-m-3 c = omega (arith, sums c.requires.models)
 
+pub invariant_of-other : goal.invariant_of-other
+invariant_of-other c = record { known = c.requires.models.known }
+
 pub write_records-requires : goal.write_records-requires
 write_records-requires c =
     records-fit c.requires c.larger-actions.ensures c.head-labels.ensures c.write_labels-records.ensures

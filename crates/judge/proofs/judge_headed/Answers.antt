@@ -8,28 +8,28 @@ use Rattle.judge.proofs.judge_headed.Goals as goal
 
 pub overflow_add-at : goal.overflow_add-at
 overflow_add-at c =
-    omega (arith, (found-accepted c.judge_files-found.ensures c.in-Accepted.is).inside, c.well_formed.1.1.0.0)
+    omega (arith, (found-accepted c.judge_files.ensures c.in-Ok.is).inside, c.well_formed.1.1.0.0)
 
 pub slice_bounds-write_blocks-end : goal.slice_bounds-write_blocks-end
-slice_bounds-write_blocks-end c = omega (arith, (found-accepted c.judge_files-found.ensures c.in-Accepted.is).inside)
+slice_bounds-write_blocks-end c = omega (arith, (found-accepted c.judge_files.ensures c.in-Ok.is).inside)
 
 pub write_blocks-requires : goal.write_blocks-requires
 unfolding Bytes byte_at
 write_blocks-requires c =
     let a = c.args in
     blocks-fit a.kind (λ i h. omega (arith, c.shared_slice_known-1.given i)) (λ i h. omega (arith, c.shared_slice_known-2-1.given i))
-    a.blocks.now (found-accepted c.judge_files-found.ensures c.in-Accepted.is)
+    a.blocks.now (found-accepted c.judge_files.ensures c.in-Ok.is)
 
-pub returns-in-Accepted : goal.returns-in-Accepted
+pub returns-in-Ok : goal.returns-in-Ok
 unfolding Bytes byte_at
-returns-in-Accepted c =
+returns-in-Ok c =
     let a = c.args in
     blocks-written a.kind (λ i h. omega (arith, c.shared_slice_known-1.given i)) (λ i h. omega (arith, c.shared_slice_known-2-1.given i))
-    a.blocks.now (found-accepted c.judge_files-found.ensures c.in-Accepted.is) c.write_blocks.ensures
+    a.blocks.now (found-accepted c.judge_files.ensures c.in-Ok.is) c.write_blocks.ensures
 
-pub returns-in-Refused : goal.returns-in-Refused
+pub returns-in-Err : goal.returns-in-Err
 unfolding Bytes byte_at
-returns-in-Refused c =
+returns-in-Err c =
     let a = c.args in
     pair-refused a.kind (λ i h. omega (arith, c.shared_slice_known-1.given i)) (λ i h. omega (arith, c.shared_slice_known-2-1.given i))
-    a.blocks.now (found-refused c.judge_files-found.ensures c.in-Refused.is)
+    a.blocks.now (found-refused c.judge_files.ensures c.in-Err.is)

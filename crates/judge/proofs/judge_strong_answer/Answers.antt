@@ -6,12 +6,9 @@ use Rattle.judge.specs.JudgeLaws.{pair-refused}
 use Rattle.rule_kind.specs.declared.Kind.TheVariants.{Strong}
 use Rattle.judge.proofs.judge_strong_answer.Goals as goal
 
-pub returns-then-head-ne0 : goal.returns-then-head-ne0
+pub returns-in-Err : goal.returns-in-Err
 unfolding Bytes byte_at
-returns-then-head-ne0 c =
+returns-in-Err c =
     let a = c.args in
     pair-refused Strong (λ i h. omega (arith, c.shared_slice_known-1.given i)) (λ i h. omega (arith, c.shared_slice_known-2-1.given i))
-    a.blocks.now (c.head_answer-head.ensures.refused c.if-head-ne0.true Strong _ _ _)
-
-pub judge_headed-requires : goal.judge_headed-requires
-judge_headed-requires c = c.head_answer-head.ensures.good c.if-head-ne0.false
+    a.blocks.now (c.in-Err.ensures.refused Strong _ _ _)

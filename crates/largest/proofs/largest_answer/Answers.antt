@@ -7,7 +7,7 @@ use Rattle.largest.proofs.largest_answer.Goals as goal
 
 pub returns-then-outside : goal.returns-then-outside
 returns-then-outside c =
-    outside-refused _ _ _ _ (sym c.if-outside.true ∙ c.outside.ensures) c.without_place.ensures c.unwritten.ensures
+    outside-refused _ _ _ _ (sym c.if-outside.true ∙ c.outside.ensures) c.refused.ensures c.unwritten.ensures
 
 pub write_pair-requires : goal.write_pair-requires
 write_pair-requires c =

@@ -10,11 +10,11 @@ unfolding two_bytes
 write_zeros-records-requires c =
     omega (arith, c.head-labels.ensures.place, c.head-labels.ensures.size)
 
-pub write_transitions-requires : goal.write_transitions-requires
+pub write_repeated-requires : goal.write_repeated-requires
 unfolding two_bytes
-write_transitions-requires c =
+write_repeated-requires c =
     omega (arith, c.head-labels.ensures.place, c.head-labels.ensures.size, c.write_zeros-records.ensures.place, c.write_zeros-records.ensures.size, length-zeros c.args.n)
 
 pub returns : goal.returns
 returns c =
-    model-written _ _ c.head-labels.ensures c.write_zeros-records.ensures c.write_transitions.ensures
+    model-written _ _ c.head-labels.ensures c.write_zeros-records.ensures c.write_repeated.ensures

@@ -15,12 +15,12 @@ overflow_add-certificate_size-2 c = let w = c.requires in omega (arith, w.states
 
 pub returns-then-model_out-model_size : goal.returns-then-model_out-model_size
 returns-then-model_out-model_size c =
-    model-short _ _ _ _ c.requires c.if-model_out-model_size.true c.without_place.ensures c.unwritten.ensures
+    model-short _ _ _ _ c.requires c.if-model_out-model_size.true c.refused.ensures c.unwritten.ensures
 
 pub returns-then-certificate_out-certificate_size : goal.returns-then-certificate_out-certificate_size
 returns-then-certificate_out-certificate_size c =
-    certificate-short _ _ _ _ c.requires c.if-model_out-model_size.false c.if-certificate_out-certificate_size.true c.without_place-then-certificate_out-certificate_size.ensures c.unwritten-then-certificate_out-certificate_size.ensures
+    certificate-short _ _ _ _ c.requires c.if-model_out-model_size.false c.if-certificate_out-certificate_size.true c.refused-then-certificate_out-certificate_size.ensures c.unwritten-then-certificate_out-certificate_size.ensures
 
 pub returns : goal.returns
 returns c =
-    pair-written _ _ _ _ c.requires c.write_model.ensures c.write_certificate.ensures c.without_place-2.ensures refl
+    pair-written _ _ _ _ c.requires c.write_model.ensures c.write_certificate.ensures c.written.ensures refl

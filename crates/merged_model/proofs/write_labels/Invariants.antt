@@ -1,5 +1,5 @@
 -- `write_labels` meets its contract. The invariant: the labels of the blocks before b are appended.
-use Prim.Native.Nat.{◌+◌, ◌-◌, ◌≤◌}
+use Prim.Native.Nat.{◌+◌}
 use mathlib.Core.Path.{◌≡◌}
 use Rattle.quotient.specs.definitions.Quotient.{block_labels}
 use Rattle.writer.specs.Appends.{Appends}
@@ -7,7 +7,4 @@ use Rattle.merged_model.proofs.write_labels.Given as goal
 
 abbrev pub invariant-loop-b : goal.invariant-loop-b
 invariant-loop-b l =
-    (l.b ≤ l.k) × (l.next ≡ l.at + l.b) × Appends (block_labels l.blocks l.labels l.b 0) l.at l.initial.out l.out l.next
-
-abbrev pub decreases-loop-b : goal.decreases-loop-b
-decreases-loop-b l = l.k - l.b
+    (l.next ≡ l.at + l.b) × Appends (block_labels l.blocks l.labels l.b 0) l.at l.initial.out l.out l.next

@@ -1,11 +1,9 @@
 -- `add_weights` meets its contract. The invariant is `Adding`.
+use Prim.Native.Nat.{◌-◌}
 use Rattle.transition.specs.Known.{entries_of}
 use Rattle.merged_transition.specs.WeightsLaws.{Adding}
 use Rattle.merged_transition.proofs.add_weights.Given as goal
 
-abbrev pub invariant-loop-left : goal.invariant-loop-left
-invariant-loop-left l =
-    Adding l.s l.blocks (entries_of l.s l.r) l.weights l.count l.left l.place.at
-
-abbrev pub decreases-loop-left : goal.decreases-loop-left
-decreases-loop-left l = l.left
+abbrev pub invariant-loop : goal.invariant-loop
+invariant-loop l =
+    Adding l.model.file.now l.blocks (entries_of l.model.file.now l.r) l.weights l.count (l.end - l.counter) l.place.at

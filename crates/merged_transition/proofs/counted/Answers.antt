@@ -16,8 +16,5 @@ an-entry n = not_same 0 n refl
 pub returns-then-before-ne0 : goal.returns-then-before-ne0
 returns-then-before-ne0 c = omega (arith, an-entry c.if-before-ne0.true, an-entry {weight = c.args.after} (λ e. c.if-before-ne0.true (omega (arith, e, c.requires.1))))
 
-pub returns-then-after-eq0 : goal.returns-then-after-eq0
-returns-then-after-eq0 c = omega (arith, no-entry c.if-before-ne0.false, no-entry c.if-after-eq0.true)
-
 pub returns : goal.returns
 returns c = omega (arith, no-entry c.if-before-ne0.false, an-entry c.if-after-eq0.false)

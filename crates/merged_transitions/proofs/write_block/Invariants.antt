@@ -8,7 +8,7 @@ use Rattle.merged_transitions.proofs.write_block.Given as goal
 
 abbrev pub invariant-loop-r : goal.invariant-loop-r
 invariant-loop-r l =
-    (length l.out ≡ length l.initial.out) × NoWeights l.weights × InBlock l.s l.blocks l.b l.r l.start l.out l.kept × (l.r ≤ l.count) × (l.r < l.count → block_of_source l.s l.blocks l.r ≡ l.b)
+    (length l.out ≡ length l.initial.out) × NoWeights l.weights × InBlock l.model.file.now l.blocks l.b l.r l.start l.out l.kept × (l.r ≤ l.model.transitions) × (l.r < l.model.transitions → block_of_source l.model.file.now l.blocks l.r ≡ l.b)
 
 abbrev pub decreases-loop-r : goal.decreases-loop-r
-decreases-loop-r l = l.count - l.r
+decreases-loop-r l = l.model.transitions - l.r

@@ -1,5 +1,4 @@
 -- `write_transitions` meets its contract. The invariant: the transitions of the blocks before the next one stand in the buffer.
-use Prim.Native.Nat.{◌-◌, ◌≤◌}
 use mathlib.Core.Path.{◌≡◌}
 use lib.ListN.{length}
 use Rattle.merged_transition.specs.MergedTransition.{NoWeights}
@@ -8,7 +7,4 @@ use Rattle.merged_transitions.proofs.write_transitions.Given as goal
 
 abbrev pub invariant-loop-block : goal.invariant-loop-block
 invariant-loop-block l =
-    (l.block ≤ l.k) × (length l.out ≡ length l.initial.out) × NoWeights l.weights × Holds (before l.blocks (transitions_in l.s) l.block) l.out l.kept
-
-abbrev pub decreases-loop-block : goal.decreases-loop-block
-decreases-loop-block l = l.k - l.block
+    (length l.out ≡ length l.initial.out) × NoWeights l.weights × Holds (before l.blocks (transitions_in l.model.file.now) l.block) l.out l.kept

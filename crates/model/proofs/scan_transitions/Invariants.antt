@@ -12,18 +12,14 @@ use mathlib.Core.List.{List}
 use mathlib.Core.Path.{◌≡◌}
 use Rattle.model.proofs.scan_transitions.Given as goal
 
-pub record Walked (terms : Terms) (s : List ℕ) (n m count : ℕ) (places : List ℕ) (left last entries at : ℕ) : Type 0 where
-  pub some : left ≤ count
+pub record Walked (terms : Terms) (s : List ℕ) (n m count : ℕ) (places : List ℕ) (r last entries at : ℕ) : Type 0 where
   pub inside : at ≤ length s
   pub few : entries ≤ limits.entries
   pub size : length places ≡ sizes.places
-  pub place : at ≡ place_of s (count - left)
-  pub held : PlacesHeld s (count - left) places
-  pub scan : scan_transitions (limits_by terms) s n m count left last entries at ≡ scan_transitions (limits_by terms) s n m count count 0 0 (8 + n)
+  pub place : at ≡ place_of s r
+  pub held : PlacesHeld s r places
+  pub scan : scan_transitions (limits_by terms) s n m count (count - r) last entries at ≡ scan_transitions (limits_by terms) s n m count count 0 0 (8 + n)
 
-abbrev pub invariant-loop-left : goal.invariant-loop-left
-invariant-loop-left l =
-    Walked l.terms l.s l.n l.m l.count l.places l.left l.last l.entries l.place.at
-
-abbrev pub decreases-loop-left : goal.decreases-loop-left
-decreases-loop-left l = l.left
+abbrev pub invariant-loop-r : goal.invariant-loop-r
+invariant-loop-r l =
+    Walked l.terms l.s l.n l.m l.count l.places l.r l.last l.entries l.place.at

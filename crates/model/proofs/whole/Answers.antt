@@ -7,7 +7,7 @@ use Rattle.model.proofs.whole.Goals as goal
 
 pub returns-then-m-s : goal.returns-then-m-s
 unfolding refuse_bytes_left
-returns-then-m-s c = ap₂ refused (c.at.ensures.is ∙ c.refusal.ensures) c.at.ensures.at ∙ less _ (omega arith) refl
+returns-then-m-s c = ap₂ refused (c.at.ensures.is ∙ c.fault.ensures) c.at.ensures.at ∙ less _ (omega arith) refl
 
 pub returns : goal.returns
 unfolding refuse_bytes_left

@@ -1,19 +1,10 @@
 -- `next_in_second` meets its contract: the next bit of the second word.
-use native.Mathlib.Omega.{arith}
-use Rattle.pairs.specs.RowsLaws.{next-second}
+use Rattle.std.proofs.Common.{arith}
+use Rattle.pairs.specs.RowsLaws.{next-second, no-state}
 use Rattle.pairs.proofs.next_in_second.Goals as goal
 
-pub word_at-requires : goal.word_at-requires
-word_at-requires c = omega arith
-
-pub overflow_sub-u : goal.overflow_sub-u
-overflow_sub-u c = omega arith
-
-pub next_bit-requires : goal.next_bit-requires
-next_bit-requires c = omega arith
-
-pub overflow_add-result : goal.overflow_add-result
-overflow_add-result c = omega arith
+pub returns-then-second-lt-BITS : goal.returns-then-second-lt-BITS
+returns-then-second-lt-BITS c = (omega arith, next-second _ _ c.word_at.ensures c.next_bit-second.ensures.0 (omega arith))
 
 pub returns : goal.returns
-returns c = next-second _ _ c.word_at.ensures c.next_bit.ensures.0 (omega arith)
+returns c = no-state (next-second _ _ c.word_at.ensures c.next_bit-second.ensures.0 (omega arith)) (omega arith) (omega arith)

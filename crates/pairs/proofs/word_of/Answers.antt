@@ -3,11 +3,5 @@ use native.Mathlib.Omega.{arith}
 use Rattle.pairs.specs.RowsLaws.{word-place}
 use Rattle.pairs.proofs.word_of.Goals as goal
 
-pub overflow_mul-result : goal.overflow_mul-result
-overflow_mul-result c = omega arith
-
-pub overflow_add-result : goal.overflow_add-result
-overflow_add-result c = omega arith
-
 pub returns : goal.returns
 returns c = (word-place _ _ (omega arith), omega arith)

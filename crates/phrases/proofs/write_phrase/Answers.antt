@@ -1,10 +1,8 @@
--- `write_phrase` meets its contract: the constants are the table, which one computed equation each says.
+-- `write_phrase` meets its contract: the table has the phrases, which one computed equation says.
 use mathlib.Core.Path.{refl}
-use native.Mathlib.Omega.{arith}
-use Rattle.sentences.specs.definitions.Phrases.{bytes_of, phrases, other_phrase}
-use Rattle.phrases.specs.Table.{rows, table_of, lengths_of}
+use Rattle.sentences.specs.definitions.Phrases.{bytes_of, phrases}
 use Rattle.phrases.proofs.write_phrase.Goals as goal
 
-pub write_row-requires : goal.write_row-requires
-unfolding bytes_of phrases other_phrase rows table_of lengths_of
-write_row-requires c = (record { phrase = refl; size = refl }, omega (arith, c.requires))
+pub phrase_of-requires : goal.phrase_of-requires
+unfolding bytes_of phrases
+phrase_of-requires c = refl

@@ -1,14 +1,8 @@
 -- `write_choice` meets its contract: the fixed fields, and then the entries.
 use native.Mathlib.Omega.{arith}
-use native.Mathlib.Nat.{div-le_self}
 use Rattle.rules.specs.definitions.Bytes.{two_bytes}
 use Rattle.prism_choice.specs.TargetsLaws.{choice-written}
 use Rattle.prism_choice.proofs.write_choice.Goals as goal
-
-pub fixed-entries-requires : goal.fixed-entries-requires
-fixed-entries-requires c =
-    let h = c.requires in
-    (omega arith, omega arith, omega arith, omega (arith, div-le_self 10000 c.args.divisor), omega (arith, h.targets.most))
 
 pub write_targets-requires : goal.write_targets-requires
 unfolding two_bytes

@@ -1,61 +1,35 @@
 -- `read_lines` meets its contract. The invariant: what the text holds is what follows from the place on, with what has been read.
-use native.Mathlib.Omega.{arith}
-use Prim.Native.Nat.{◌-◌}
-use mathlib.Core.Path.{sym, ◌∙◌}
-use borrow.Author.Tests.{not-true, not-false}
-use Rattle.prism_step.specs.PartLaws.{count-least}
-use Rattle.prism_text.specs.LinesLaws.{lines_start, lines-can-step, lines-short, lines-last, lines-fault, lines-turn}
+use Rattle.std.proofs.Common.{sym, ◌∙◌}
+use Rattle.prism_text.specs.LinesLaws.{lines_start, lines-short, lines-held, lines-open, lines-other, lines-fault, lines-turn}
 use Rattle.prism_text.proofs.read_lines.Goals as goal
+use Rattle.prism_text.proofs.read_lines.Goals.{else-at-end-via-then-at-end+else-counts, else-at-end-via-else-at-end}
 
-pub loop-head-init : goal.loop-head-init
-loop-head-init c = lines_start c.requires c.nothing_read-p.ensures
+pub lines-init : goal.lines-init
+lines-init c = lines_start c.requires c.nothing_read-p.ensures
 
-pub piece_end-end-requires : goal.piece_end-end-requires
-piece_end-end-requires c = c.loop-head.invariant.inside
+pub returns-in-Some : goal.returns-in-Some
+returns-in-Some c =
+    lines-short c.lines.invariant c.piece_end-end.ensures c.read_line-line.ensures (sym c.short_at.ensures ∙ c.in-Some.is)
+    (record { is = c.at.ensures.is ∙ c.fault.ensures; at = c.at.ensures.at })
 
-pub slice_bounds-read_line-count : goal.slice_bounds-read_line-count
-slice_bounds-read_line-count c = omega arith
-
-pub slice_bounds-read_line-start : goal.slice_bounds-read_line-start
-slice_bounds-read_line-start c = omega arith
-
-pub slice_bounds-read_line-end : goal.slice_bounds-read_line-end
-slice_bounds-read_line-end c = omega arith
-
-pub shape_of-records-then-is_short : goal.shape_of-records-then-is_short
-shape_of-records-then-is_short c = omega arith
-
-pub returns-then-is_short : goal.returns-then-is_short
-returns-then-is_short c =
-    lines-short c.loop-head.invariant c.piece_end-end.ensures c.read_line-line.ensures (sym c.is_short.ensures ∙ c.if-is_short.true)
-
-pub at_end-requires : goal.at_end-requires
-at_end-requires c = omega (arith, count-least c.loop-head.p)
-
-pub shape_of-records-then-end-text : goal.shape_of-records-then-end-text
-shape_of-records-then-end-text c = omega arith
+pub returns-then-counts : goal.returns-then-counts
+returns-then-counts c =
+    lines-held c.lines.invariant c.piece_end-end.ensures c.read_line-line.ensures (sym c.short_at.ensures ∙ c.in_default.is)
+    c.if-end-text.true c.if-at-end.true (sym c.counts.ensures ∙ c.if-counts.true)
 
 pub returns-then-end-text : goal.returns-then-end-text
 returns-then-end-text c =
-    lines-last c.loop-head.invariant c.piece_end-end.ensures c.read_line-line.ensures (sym c.is_short.ensures ∙ c.if-is_short.false) c.if-end-text.true c.at_end.ensures
+    let adds = sym c.short_at.ensures ∙ c.in_default.is in
+    elim c.else-at-end.branch [
+      | else-at-end-via-then-at-end+else-counts w ↦ lines-other c.lines.invariant c.piece_end-end.ensures c.read_line-line.ensures adds (record { is = c.at-then-end-text.ensures.is ∙ c.fault-then-end-text.ensures; at = c.at-then-end-text.ensures.at }) c.if-end-text.true w.if-at-end.true (sym w.counts.ensures ∙ w.if-counts.false)
+      | else-at-end-via-else-at-end w ↦ lines-open c.lines.invariant c.piece_end-end.ensures c.read_line-line.ensures adds (record { is = c.at-then-end-text.ensures.is ∙ c.fault-then-end-text.ensures; at = c.at-then-end-text.ensures.at }) c.if-end-text.true w.if-at-end.false
+    ]
 
-pub step-stepped-requires : goal.step-stepped-requires
-step-stepped-requires c =
-    lines-can-step c.loop-head.invariant c.piece_end-end.ensures c.read_line-line.ensures
+pub returns-in_default-step : goal.returns-in_default-step
+returns-in_default-step c =
+    lines-fault c.lines.invariant c.piece_end-end.ensures c.read_line-line.ensures (sym c.short_at.ensures ∙ c.in_default.is) c.if-end-text.false
+    (record { is = c.at-in_default-step.ensures.is ∙ c.fault-in_default-step.ensures; at = c.at-in_default-step.ensures.at }) c.in_default-step.ensures
 
-pub shape_of-records-then-not-stepped : goal.shape_of-records-then-not-stepped
-shape_of-records-then-not-stepped c = omega (arith, c.requires.room)
-
-pub returns-then-not-stepped : goal.returns-then-not-stepped
-returns-then-not-stepped c =
-    lines-fault c.loop-head.invariant c.piece_end-end.ensures c.read_line-line.ensures (sym c.is_short.ensures ∙ c.if-is_short.false) c.if-end-text.false c.step-stepped.ensures (not-true _ c.if-not-stepped.true)
-
-pub overflow_add-at : goal.overflow_add-at
-overflow_add-at c = omega (arith, c.well_formed.0.0)
-
-pub loop-head-smaller : goal.loop-head-smaller
-loop-head-smaller c = omega arith
-
-pub loop-head-preserved : goal.loop-head-preserved
-loop-head-preserved c =
-    lines-turn c.loop-head.invariant c.piece_end-end.ensures c.read_line-line.ensures (sym c.is_short.ensures ∙ c.if-is_short.false) c.if-end-text.false c.step-stepped.ensures (not-false _ c.if-not-stepped.false)
+pub lines-preserved : goal.lines-preserved
+lines-preserved c =
+    lines-turn c.lines.invariant c.piece_end-end.ensures c.read_line-line.ensures (sym c.short_at.ensures ∙ c.in_default.is) c.if-end-text.false c.in-Some-step.ensures

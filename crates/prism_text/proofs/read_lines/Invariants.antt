@@ -4,8 +4,8 @@ use lib.ListN.{length}
 use Rattle.prism_text.specs.LinesLaws.{Between}
 use Rattle.prism_text.proofs.read_lines.Given as goal
 
-abbrev pub invariant-loop-head : goal.invariant-loop-head
-invariant-loop-head l = Between l.text l.from l.head l.names l.targets l.records l.p l.at
+abbrev pub invariant-lines : goal.invariant-lines
+invariant-lines l = Between l.text l.from l.head l.names l.targets l.records l.p l.at
 
-abbrev pub decreases-loop-head : goal.decreases-loop-head
-decreases-loop-head l = length l.text - l.at
+abbrev pub decreases-lines : goal.decreases-lines
+decreases-lines l = length l.text - l.at

@@ -1,21 +1,14 @@
 -- `write_transitions` meets its contract. The invariant is `Changing`.
-use Prim.Native.Nat.{◌-◌}
 use native.Mathlib.Omega.{arith}
 use Rattle.writer.specs.ChangedRecords.{changing-start, changing-turn, changing-end}
 use Rattle.raised.specs.RaisedLaws.{record-asks}
 use Rattle.raised.proofs.write_transitions.Goals as goal
 
 pub loop-r-init : goal.loop-r-init
-loop-r-init c = let a = c.requires in changing-start _ _ a.known.transitions (omega (arith, a.room))
+loop-r-init c = changing-start _ _ c.args.model.known.transitions (omega (arith, c.requires.room))
 
 pub write_transition-next-requires : goal.write_transition-next-requires
-write_transition-next-requires c = record-asks c.requires c.loop-r.invariant (omega arith)
-
-pub overflow_add-r : goal.overflow_add-r
-overflow_add-r c = omega arith
-
-pub loop-r-smaller : goal.loop-r-smaller
-loop-r-smaller c = omega arith
+write_transition-next-requires c = record-asks c.args.model.known c.requires c.loop-r.invariant (omega arith)
 
 pub loop-r-preserved : goal.loop-r-preserved
 loop-r-preserved c =

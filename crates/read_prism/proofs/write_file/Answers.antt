@@ -1,12 +1,8 @@
 -- `write_file` meets its contract: the length is known before the first byte is written.
-use mathlib.Core.Path.{refl, sym}
-use lib.Seq.{length-take-le}
+use mathlib.Core.Path.{refl}
 use native.Mathlib.Omega.{arith}
 use Rattle.read_prism.specs.PrismLaws.{zeros-taken, can_write, file-written, file-short}
 use Rattle.read_prism.proofs.write_file.Goals as goal
-
-pub slice_bounds-write_model-end : goal.slice_bounds-write_model-end
-slice_bounds-write_model-end c = sym (length-take-le _ _ (omega (arith, c.requires.states)))
 
 pub write_model-requires : goal.write_model-requires
 write_model-requires c = can_write c.requires (zeros-taken _ _ c.requires.states) (omega arith)

@@ -1,8 +1,6 @@
 -- `write_held` meets its contract: the last choice ends, and the file was written, or there was no room for it.
-use mathlib.Core.Path.{sym}
-use lib.Seq.{length-take-le}
 use Rattle.prism_step.specs.PartLaws.{can-end}
-use Rattle.read_prism.specs.PrismLaws.{used-inside, can-write-file, held-written}
+use Rattle.read_prism.specs.PrismLaws.{can-write-file, held-written}
 use Rattle.read_prism.proofs.write_held.Goals as goal
 
 pub end_choice-used-requires : goal.end_choice-used-requires
@@ -10,14 +8,10 @@ end_choice-used-requires c =
     let asked = c.requires in
     can-end asked.holds asked.most asked.room
 
-pub slice_bounds-write_file-end-2 : goal.slice_bounds-write_file-end-2
-slice_bounds-write_file-end-2 c =
-    sym (length-take-le _ _ (used-inside c.requires c.end_choice-used.ensures))
-
 pub write_file-size-requires : goal.write_file-size-requires
 write_file-size-requires c =
     can-write-file c.requires c.end_choice-used.ensures
 
 pub returns : goal.returns
 returns c =
-    held-written c.requires c.end_choice-used.ensures c.write_file-size.ensures c.file_answer.ensures
+    held-written c.requires c.end_choice-used.ensures c.write_file-size.ensures c.of_file.ensures

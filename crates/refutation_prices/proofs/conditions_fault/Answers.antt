@@ -1,6 +1,6 @@
 -- `conditions_fault` meets its contract: each test in its order.
 use native.Mathlib.Omega.{arith}
-use mathlib.Core.Path.{sym, ◌∙◌, ap}
+use mathlib.Core.Path.{refl, sym, ◌∙◌, ap}
 use mir.Facts.{to_z-of_z}
 use borrow.Author.Tests.{not-true, not-false}
 use Rattle.bisimulation.proofs.argument.ChoiceLaws.{is_true, is_false}
@@ -16,19 +16,19 @@ use Rattle.refutation_prices.proofs.conditions_fault.Goals as goal
 pub all_fair-requires : goal.all_fair-requires
 all_fair-requires c =
     let pre = c.requires in
-    let k = pre.0.known in
-    (rw (to_z-of_z c.ranges.l) (all_asked pre.0 _ pre.4), prices-there k pre.1, prices-there k pre.2)
+    let k = c.args.model.known in
+    (rw (to_z-of_z c.ranges.l) (all_asked k pre.0 _ pre.4), prices-there k pre.1, prices-there k pre.2)
 
 pub returns-then-not-all_fair : goal.returns-then-not-all_fair
 unfolding conditions_fault
 returns-then-not-all_fair c =
     let back = to_z-of_z c.ranges.l in
-    record { number = λ R held. is_false _ (sym (rw back at c.all_fair.ensures) ∙ c.if-not-all_fair.true) c.refusal.ensures }
+    record { number = λ R held. is_false _ (sym (rw back at c.all_fair.ensures) ∙ c.if-not-all_fair.true) c.fault.ensures }
 
 pub all_related-requires : goal.all_related-requires
 all_related-requires c =
     let pre = c.requires in
-    (few-states pre.0.known, search rules, search rules)
+    (few-states c.args.model.known, search rules, search rules)
 
 pub returns-then-not-all_related : goal.returns-then-not-all_related
 unfolding conditions_fault
@@ -37,32 +37,32 @@ returns-then-not-all_related c =
     record {
       number = λ R held.
           is_true _ (sym (rw back at c.all_fair.ensures) ∙ c.if-not-all_fair.false)
-          (is_false _ (sym (c.all_related.ensures.tells _ R (known-states c.requires.0.known) held) ∙ c.if-not-all_related.true)
-          c.refusal-then-not-all_related.ensures);
+          (is_false _ (sym (c.all_related.ensures.tells _ R (known-states c.args.model.known) held) ∙ c.if-not-all_related.true)
+          c.fault-then-not-all_related.ensures);
     }
 
 pub last_off-off-requires : goal.last_off-off-requires
 last_off-off-requires c =
     let pre = c.requires in
-    rw (to_z-of_z c.ranges.l) (last-asked pre.0 _ pre.4 pre.1 pre.3)
+    rw (to_z-of_z c.ranges.l) (last-asked c.args.model.known pre.0 _ pre.4 pre.1 pre.3)
 
 pub broken-requires : goal.broken-requires
 broken-requires c =
-    let asked = c.requires.0 in omega (arith, asked.defender, few-states asked.known)
+    let asked = c.requires.0 in omega (arith, asked.defender, few-states c.args.model.known)
 
 pub returns-then-off-ge0 : goal.returns-then-off-ge0
 unfolding conditions_fault last_fault below
 returns-then-off-ge0 c =
     let pre = c.requires in
     let back = to_z-of_z c.ranges.l in
-    let asked = last-asked pre.0 _ pre.4 pre.1 pre.3 in
+    let asked = last-asked c.args.model.known pre.0 _ pre.4 pre.1 pre.3 in
     let off = rw back at c.last_off-off.ensures in
     record {
       number = λ R held.
           is_true _ (sym (rw back at c.all_fair.ensures) ∙ c.if-not-all_fair.false)
-          (is_true _ (sym (c.all_related.ensures.tells _ R (known-states pre.0.known) held) ∙ c.if-not-all_related.false)
-          (is_false _ (not-true _ (sym (off-tells asked off) ∙ c.if-off-ge0.true))
-          (c.broken.ensures ∙ ap (fault_by 16 _) (off-back asked off))));
+          (is_true _ (sym (c.all_related.ensures.tells _ R (known-states c.args.model.known) held) ∙ c.if-not-all_related.false)
+          (is_false _ (not-true _ (sym (off-tells c.args.model.known asked off) ∙ c.if-off-ge0.true))
+          (c.broken.ensures ∙ ap (fault_by 16 _) (off-back c.args.model.known asked off))));
     }
 
 pub returns : goal.returns
@@ -74,7 +74,7 @@ returns c =
     record {
       number = λ R held.
           is_true _ (sym (rw back at c.all_fair.ensures) ∙ c.if-not-all_fair.false)
-          (is_true _ (sym (c.all_related.ensures.tells _ R (known-states pre.0.known) held) ∙ c.if-not-all_related.false)
-          (is_true _ (not-false _ (sym (off-tells (last-asked pre.0 _ pre.4 pre.1 pre.3) off) ∙ c.if-off-ge0.false))
-          c.none.ensures));
+          (is_true _ (sym (c.all_related.ensures.tells _ R (known-states c.args.model.known) held) ∙ c.if-not-all_related.false)
+          (is_true _ (not-false _ (sym (off-tells c.args.model.known (last-asked c.args.model.known pre.0 _ pre.4 pre.1 pre.3) off) ∙ c.if-off-ge0.false))
+          refl));
     }

@@ -1,10 +1,6 @@
 -- `highest_of_all` meets its contract. The invariant is `AboveAll`, for the states so far.
-use Prim.Native.Nat.{◌-◌, ◌≤◌}
 use Rattle.related_prices.specs.Highest.{AboveAll}
 use Rattle.related_prices.proofs.highest_of_all.Given as goal
 
 abbrev pub invariant-loop-u : goal.invariant-loop-u
-invariant-loop-u l = (l.u ≤ l.n) × AboveAll l.u l.g l.most
-
-abbrev pub decreases-loop-u : goal.decreases-loop-u
-decreases-loop-u l = l.n - l.u
+invariant-loop-u l = AboveAll l.u l.g l.most

@@ -7,9 +7,9 @@ use Rattle.judgement.specs.VerdictLaws.{found-accepted, found-refused}
 use Rattle.rewrite.specs.RewriteLaws.{pair-refused}
 use Rattle.rewrite.proofs.rewrite_headed.Goals as goal
 
-pub overflow_add-blocks : goal.overflow_add-blocks
-overflow_add-blocks c =
-    omega (arith, (found-accepted c.judge_files-found.ensures c.in-Accepted.is).inside, c.well_formed.1.1.0.0)
+pub overflow_add-flows : goal.overflow_add-flows
+overflow_add-flows c =
+    omega (arith, (found-accepted c.judge_files.ensures c.in-Ok.is).inside, c.well_formed.1.1.0.0)
 
 pub write_pair-requires : goal.write_pair-requires
 unfolding Bytes byte_at
@@ -19,12 +19,12 @@ write_pair-requires c =
       is_model = λ i h. omega (arith, c.shared_slice_known-1.given i);
       is_certificate = λ i h. omega (arith, c.shared_slice_known-2-1.given i);
       blocks = _;
-      accepted = found-accepted c.judge_files-found.ensures c.in-Accepted.is;
+      accepted = found-accepted c.judge_files.ensures c.in-Ok.is;
       place = refl;
     }
 
-pub returns-in-Refused : goal.returns-in-Refused
+pub returns-in-Err : goal.returns-in-Err
 unfolding Bytes byte_at
-returns-in-Refused c =
+returns-in-Err c =
     pair-refused _ c.requires.1 (λ i h. omega (arith, c.shared_slice_known-1.given i)) (λ i h. omega (arith, c.shared_slice_known-2-1.given i)) _ _
-    (found-refused c.judge_files-found.ensures c.in-Refused.is) c.unwritten.ensures
+    (found-refused c.judge_files.ensures c.in-Err.is) c.unwritten.ensures

@@ -1,5 +1,4 @@
 -- `first_large` meets its contract. The invariant is `Searching`.
-use Prim.Native.Nat.{◌-◌}
 use mathlib.Core.Path.{sym, ◌∙◌}
 use native.Mathlib.Omega.{arith}
 use Rattle.rewritten_flows.specs.FlowLoops.{search-start, search-inside, search-end, search-first, search-asks, search-behind, search-large, search-past, search-turn}
@@ -10,9 +9,6 @@ loop-at-init c = search-start c.requires
 
 pub overflow_add-at : goal.overflow_add-at
 overflow_add-at c = omega (arith, search-inside c.loop-at.invariant)
-
-pub new-requires : goal.new-requires
-new-requires c = tt
 
 pub pair-ks-requires : goal.pair-ks-requires
 pair-ks-requires c = omega (arith, c.new.ensures, search-first c.loop-at.invariant (omega arith))
@@ -33,9 +29,6 @@ overflow_mul-behind c = omega (arith, c.pair-ks.ensures.small)
 pub overflow_add-behind-in-loop-at : goal.overflow_add-behind-in-loop-at
 overflow_add-behind-in-loop-at c =
     omega (arith, search-behind c.loop-at.invariant (omega arith) c.pair-ks.ensures c.new.ensures)
-
-pub new-requires-in-loop-at : goal.new-requires-in-loop-at
-new-requires-in-loop-at c = tt
 
 pub pair-ws-requires : goal.pair-ws-requires
 pair-ws-requires c =

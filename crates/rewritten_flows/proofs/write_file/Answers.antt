@@ -1,5 +1,4 @@
 -- `write_file` meets its contract. The invariant is `Writing`.
-use Prim.Native.Nat.{◌-◌}
 use mathlib.Core.Path.{sym, ◌∙◌}
 use native.Mathlib.Omega.{arith}
 use Rattle.rewritten_flows.specs.FlowLoops.{start-inside, start-length, writing_start, file-written, writing-end, writing-asks, writing-less, writing-turn}

@@ -1,42 +1,29 @@
 -- `write_entries` meets its contract. The invariant is `ChangingEntries`.
-use Prim.Native.Nat.{ℕ, ◌/◌}
-use mathlib.Core.Path.{ap}
+use mathlib.Core.Path.{refl, ap, ◌∙◌}
 use native.Mathlib.Omega.{arith}
 use Rattle.rules.specs.definitions.LowestTerms.{divided_entry}
+use Rattle.transition.specs.EntriesLeft.{entries_left}
 use Rattle.writer.specs.ChangedRecords.{entries-start, entries_fit, entries-turn, entries-end}
 use Rattle.rewritten_model.proofs.write_entries.Goals as goal
 
-pub loop-left-init : goal.loop-left-init
-loop-left-init c = entries-start _ c.requires.entries
+pub entries-entry-items-requires : goal.entries-entry-items-requires
+entries-entry-items-requires c = c.requires.entries.inside
 
-pub entry_at-entry-requires : goal.entry_at-entry-requires
-entry_at-entry-requires c = omega arith
+pub loop-entry-init : goal.loop-entry-init
+loop-entry-init c =
+    entries-start _ (ap entries_left c.into_iter-entry-iterator.ensures.into_iter_gives ∙ c.entries-entry-items.ensures) c.requires.entries
 
 pub nonzero_div-entry : goal.nonzero_div-entry
 nonzero_div-entry c = omega (arith, c.requires.divisor)
 
 pub entry-next-requires : goal.entry-next-requires
 unfolding divided_entry
-entry-next-requires c =
-    let e = c.entry_at-entry.ensures in
-    let g = c.args.g in
-    omega (arith, entries_fit _ _ c.loop-left.invariant (omega arith), e.state, ap (λ (x : ℕ). x / g) e.weight)
+entry-next-requires c = omega (arith, entries_fit _ c.loop-entry.invariant c.in-Some.ensures.steps)
 
-pub overflow_sub-left : goal.overflow_sub-left
-overflow_sub-left c = omega arith
-
-pub loop-left-smaller : goal.loop-left-smaller
-loop-left-smaller c = omega arith
-
-pub loop-left-preserved : goal.loop-left-preserved
+pub loop-entry-preserved : goal.loop-entry-preserved
 unfolding divided_entry
-loop-left-preserved c =
-    let e = c.entry_at-entry.ensures in
-    let g = c.args.g in
-    entries-turn _ _ c.loop-left.invariant (omega arith) e.state (ap (λ (x : ℕ). x / g) e.weight) e.next c.entry-next.ensures
-
-pub shape_of-out : goal.shape_of-out
-shape_of-out c = c.loop-left.invariant.ahead.size
+loop-entry-preserved c =
+    entries-turn _ c.loop-entry.invariant c.in-Some.ensures.steps refl refl c.entry-next.ensures
 
 pub returns : goal.returns
-returns c = entries-end _ _ c.loop-left.invariant (omega arith)
+returns c = entries-end _ c.loop-entry.invariant c.in-None.ensures.steps.0

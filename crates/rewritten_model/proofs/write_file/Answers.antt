@@ -5,28 +5,28 @@ use Rattle.rewritten_model.specs.WritingLaws.{front_length, records-fit, tail-in
 use Rattle.rewritten_model.proofs.write_file.Goals as goal
 
 pub slice_bounds-part-end : goal.slice_bounds-part-end
-slice_bounds-part-end c = sym (front_length c.requires.0)
+slice_bounds-part-end c = sym (front_length c.args.model.known)
 
 pub part-at-requires : goal.part-at-requires
-part-at-requires c = omega (arith, front_length c.requires.0)
+part-at-requires c = omega (arith, front_length c.args.model.known)
 
 pub write_transitions-next-requires : goal.write_transitions-next-requires
 write_transitions-next-requires c =
     let p = c.requires in
-    records-fit p.0 p.1 c.part-at.ensures p.2
+    records-fit c.args.model.known p.0 c.part-at.ensures p.1
 
 pub slice_bounds-part-count : goal.slice_bounds-part-count
-slice_bounds-part-count c = tail-inside c.requires.0
+slice_bounds-part-count c = tail-inside c.args.model.known
 
 pub slice_bounds-part-start : goal.slice_bounds-part-start
-slice_bounds-part-start c = tail-inside c.requires.0
+slice_bounds-part-start c = tail-inside c.args.model.known
 
 pub part-requires : goal.part-requires
 part-requires c =
     let p = c.requires in
-    tail-fits p.0 p.1 c.part-at.ensures p.2 c.write_transitions-next.ensures
+    tail-fits c.args.model.known p.0 c.part-at.ensures p.1 c.write_transitions-next.ensures
 
 pub returns : goal.returns
 returns c =
     let p = c.requires in
-    file-written p.0 p.1 c.part-at.ensures p.2 c.write_transitions-next.ensures c.part.ensures
+    file-written c.args.model.known p.0 c.part-at.ensures p.1 c.write_transitions-next.ensures c.part.ensures

@@ -1,5 +1,4 @@
 -- `write_transitions` meets its contract. The invariant is `Changing`.
-use Prim.Native.Nat.{◌-◌}
 use native.Mathlib.Omega.{arith}
 use Rattle.rules.specs.definitions.LowestTerms.{in_lowest}
 use Rattle.rules.proofs.argument.TermsLaws.{lowest-count}
@@ -8,7 +7,7 @@ use Rattle.rewritten_model.specs.WritingLaws.{record-asks}
 use Rattle.rewritten_model.proofs.write_transitions.Goals as goal
 
 pub loop-r-init : goal.loop-r-init
-loop-r-init c = let a = c.requires in changing-start in_lowest lowest-count a.known.transitions (omega (arith, a.place, a.known.labels, a.room))
+loop-r-init c = let a = c.requires in let k = c.args.model.known in changing-start in_lowest lowest-count k.transitions (omega (arith, a.place, k.labels, k.states, a.room))
 
 pub offset_bounds-divisors-r : goal.offset_bounds-divisors-r
 offset_bounds-divisors-r c = omega (arith, c.requires.held.few)
@@ -17,13 +16,7 @@ pub bounds-divisors-r : goal.bounds-divisors-r
 bounds-divisors-r c = omega (arith, c.requires.held.few)
 
 pub write_transition-next-requires : goal.write_transition-next-requires
-write_transition-next-requires c = record-asks c.requires c.loop-r.invariant (omega arith)
-
-pub overflow_add-r : goal.overflow_add-r
-overflow_add-r c = omega arith
-
-pub loop-r-smaller : goal.loop-r-smaller
-loop-r-smaller c = omega arith
+write_transition-next-requires c = record-asks c.args.model.known c.requires c.loop-r.invariant (omega arith)
 
 pub loop-r-preserved : goal.loop-r-preserved
 loop-r-preserved c =

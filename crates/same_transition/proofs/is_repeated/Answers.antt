@@ -1,19 +1,12 @@
 -- `is_repeated` meets its contract. The invariant: none of the records before `place` is the same as the last. The measure is what is left
 -- before `at`.
-use Prim.Native.Nat.{◌+◌, ◌-◌}
+use Prim.Native.Nat.{◌+◌}
 use mathlib.Core.Path.{subst⁻¹}
 use native.Mathlib.Omega.{arith}
 use Rattle.rules.specs.definitions.Reading.{after_transition, entry_count_at}
 use Rattle.field.specs.Taken.{taken_at}
 use Rattle.same_transition.specs.SameTransitionLaws.{last-inside, Walked, walk_start, walk_inside, walk-found, walk_turn, walk_end}
 use Rattle.same_transition.proofs.is_repeated.Goals as goal
-
-pub overflow_add-at : goal.overflow_add-at
-unfolding after_transition
-overflow_add-at c = omega (arith, last-inside c.requires)
-
-pub new-requires : goal.new-requires
-new-requires c = tt
 
 pub byte-count-requires : goal.byte-count-requires
 unfolding after_transition

@@ -6,9 +6,6 @@ use Rattle.field.specs.Taken.{taken_at}
 use Rattle.same_transition.specs.SameTransitionLaws.{pass-longer, pass_same, pass-other}
 use Rattle.same_transition.proofs.pass.Goals as goal
 
-pub overflow_mul-entries : goal.overflow_mul-entries
-overflow_mul-entries c = omega arith
-
 pub overflow_add-place : goal.overflow_add-place
 unfolding after_transition
 overflow_add-place c = omega arith
@@ -17,16 +14,9 @@ pub byte-requires : goal.byte-requires
 unfolding after_transition
 byte-requires c = omega arith
 
-pub after_transition-requires : goal.after_transition-requires
-unfolding after_transition
-after_transition-requires c = omega arith
-
 pub returns-then-byte-count : goal.returns-then-byte-count
 returns-then-byte-count c =
     pass-longer c.requires (taken_at c.byte.ensures _ (omega arith)) c.if-byte-count.true c.after_transition.ensures
-
-pub overflow_add-at : goal.overflow_add-at
-overflow_add-at c = omega arith
 
 pub same_bytes-requires : goal.same_bytes-requires
 unfolding after_transition

@@ -10,4 +10,4 @@ start-requires c =
     (omega (arith, blocks.few), omega arith, small-blocks _ blocks, c.no_rows-rows.ensures.whole)
 
 pub returns : goal.returns
-returns c = gives-file 28 _ _ c.write_sheet-size.ensures c.file_answer.ensures
+returns c = gives-file 28 _ _ c.write_sheet-size.ensures c.of_file.ensures

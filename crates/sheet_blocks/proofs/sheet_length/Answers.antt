@@ -1,5 +1,4 @@
 -- `sheet_length` meets its contract. The invariant is `Counting`.
-use Prim.Native.Nat.{◌-◌}
 use native.Mathlib.Omega.{arith}
 use Rattle.sheet_blocks.specs.BlocksLaws.{counting-start, counting-turn, counting-end}
 use Rattle.sheet_blocks.proofs.sheet_length.Goals as goal
@@ -12,12 +11,6 @@ count_block-counted-requires c = record { in_rows = c.requires; inside = omega a
 
 pub overflow_add-total : goal.overflow_add-total
 overflow_add-total c = omega (arith, c.count_block-counted.ensures.few, c.requires.model.few)
-
-pub overflow_add-v : goal.overflow_add-v
-overflow_add-v c = omega arith
-
-pub loop-v-smaller : goal.loop-v-smaller
-loop-v-smaller c = omega arith
 
 pub loop-v-preserved : goal.loop-v-preserved
 loop-v-preserved c = counting-turn c.loop-v.invariant (omega arith) c.count_block-counted.ensures

@@ -1,11 +1,6 @@
 -- `sheet_length` meets its contract. The invariant is `Counting`.
-use Prim.Native.Nat.{◌-◌}
-use lib.ListN.{length}
 use Rattle.sheet_blocks.specs.BlocksLaws.{Counting}
 use Rattle.sheet_blocks.proofs.sheet_length.Given as goal
 
 abbrev pub invariant-loop-v : goal.invariant-loop-v
 invariant-loop-v l = Counting l.blocks l.total l.seen l.v
-
-abbrev pub decreases-loop-v : goal.decreases-loop-v
-decreases-loop-v l = length l.blocks - l.v

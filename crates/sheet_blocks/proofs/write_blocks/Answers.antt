@@ -1,5 +1,4 @@
 -- `write_blocks` meets its contract. The invariant is `Writing`.
-use Prim.Native.Nat.{◌-◌}
 use native.Mathlib.Omega.{arith}
 use Rattle.sheet_blocks.specs.BlocksLaws.{writing_start, writing-turn, writing-end}
 use Rattle.sheet_blocks.proofs.write_blocks.Goals as goal
@@ -10,17 +9,8 @@ loop-v-init c = writing_start _ _ (omega arith)
 pub write_block-put-requires : goal.write_block-put-requires
 write_block-put-requires c = (record { in_rows = c.requires.0; inside = omega arith; known = c.loop-v.invariant.known }, c.loop-v.invariant.room)
 
-pub overflow_add-v : goal.overflow_add-v
-overflow_add-v c = omega arith
-
-pub loop-v-smaller : goal.loop-v-smaller
-loop-v-smaller c = omega arith
-
 pub loop-v-preserved : goal.loop-v-preserved
 loop-v-preserved c = writing-turn c.loop-v.invariant (omega arith) c.write_block-put.ensures
-
-pub shape_of-out : goal.shape_of-out
-shape_of-out c = c.loop-v.invariant.ahead.size
 
 pub returns : goal.returns
 returns c = writing-end c.requires.0.model c.loop-v.invariant (omega arith)

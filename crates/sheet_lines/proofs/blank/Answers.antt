@@ -1,8 +1,7 @@
 -- `blank` meets its contract: four spaces.
-use mathlib.Core.Path.{refl}
-use Rattle.sheet_lines.specs.LinesLaws.{blank-written}
+use Rattle.block_sheet.specs.definitions.Sheet.{blank}
 use Rattle.sheet_lines.proofs.blank.Goals as goal
 
 pub returns : goal.returns
-returns c =
-    blank-written c.byte-second.ensures c.byte-third.ensures c.byte-last.ensures c.byte.ensures refl refl refl refl
+unfolding blank
+returns c = c.part.ensures

@@ -5,4 +5,4 @@ use Rattle.sheet_lines.proofs.line_count.Goals as goal
 
 pub returns : goal.returns
 unfolding line_count
-returns c = omega arith
+returns c = omega (arith, c.div_ceil.ensures)

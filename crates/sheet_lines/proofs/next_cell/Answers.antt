@@ -1,12 +1,12 @@
 -- `next_cell` meets its contract: the next member, or none.
-use native.Mathlib.Omega.{arith}
+use Rattle.std.proofs.Common.{arith}
 use Rattle.sheet_lines.specs.LinesLaws.{cell-taken, none-taken}
 use Rattle.sheet_lines.proofs.next_cell.Goals as goal
 
-pub returns-then-member-lt-STATES : goal.returns-then-member-lt-STATES
-returns-then-member-lt-STATES c =
-    cell-taken c.next_related-member.ensures (omega arith) c.cell-next.ensures
+pub returns-in_default : goal.returns-in_default
+returns-in_default c = none-taken c.in_default.ensures (omega arith) (omega arith) c.blank-next.ensures
 
 pub returns : goal.returns
 returns c =
-    none-taken c.next_related-member.ensures (omega arith) (omega arith) c.blank-next.ensures
+    let (small, next) = c.in-Some.ensures in
+    cell-taken next small c.cell-next.ensures

@@ -1,29 +1,16 @@
--- `is_name` meets its contract. The invariant: whether all bytes are shown is told by those from here on.
-use Prim.Native.Nat.{◌-◌}
-use native.Mathlib.Omega.{arith}
-use Rattle.text_fields.specs.FieldLaws.{shown-all, shown-next, shown-low, shown-high, shown-end}
+-- `is_name` meets its contract.
+use Rattle.std.proofs.Common.{rules, ◌≡◌, ◌<◌, ◌↔◌, true, ℕ, length, get_or}
+use Rattle.std.specs.Int.{is_in_range}
+use Rattle.text_fields.specs.FieldLaws.{shown-tells, no-name}
 use Rattle.text_fields.proofs.is_name.Goals as goal
 
-pub loop-at-init : goal.loop-at-init
-loop-at-init c = shown-all _
+pub returns-then-not-is_empty : goal.returns-then-not-is_empty
+returns-then-not-is_empty c =
+    let s = c.args.s.now in
+    let e : (c.all.result ≡ true) ↔ ((k : ℕ) → k < length s → is_in_range 0x21 0x7E (get_or s k 0) ≡ true) = search rules in
+    shown-tells s (search rules) e
 
-pub bounds-s-at : goal.bounds-s-at
-bounds-s-at c = omega arith
-
-pub returns-then-b-lt33 : goal.returns-then-b-lt33
-returns-then-b-lt33 c = shown-low c.loop-at.invariant (omega arith) (omega arith)
-
-pub returns-then-b-gt126 : goal.returns-then-b-gt126
-returns-then-b-gt126 c = shown-high c.loop-at.invariant (omega arith) (omega arith)
-
-pub overflow_add-at : goal.overflow_add-at
-overflow_add-at c = omega arith
-
-pub loop-at-smaller : goal.loop-at-smaller
-loop-at-smaller c = omega arith
-
-pub loop-at-preserved : goal.loop-at-preserved
-loop-at-preserved c = shown-next c.loop-at.invariant (omega arith) (omega arith) (omega arith)
-
-pub returns : goal.returns
-returns c = shown-end c.loop-at.invariant (omega arith)
+pub returns-else-not-is_empty : goal.returns-else-not-is_empty
+returns-else-not-is_empty c =
+    let none : length c.args.s.now ≡ 0 = search rules in
+    rw c.if-not-is_empty.false (no-name c.args.s.now none)

@@ -1,6 +1,6 @@
 -- `places_of` meets its contract: each record begins where the one before it ends.
 -- the places of the first r transitions stand in the table, and the next one begins here
-use Prim.Native.Nat.{ℕ, ◌+◌, ◌-◌}
+use Prim.Native.Nat.{ℕ, ◌+◌}
 use mathlib.Core.Path.{◌≡◌, sym, ◌∙◌, ap, subst}
 use lib.ListN.{length-set}
 use native.Mathlib.Omega.{arith}
@@ -18,7 +18,6 @@ pub loop-r-init : goal.loop-r-init
 unfolding place_of
 loop-r-init c =
     record {
-      some = omega arith;
       here = ap (λ (k : ℕ). 8 + k) c.requires.known.states;
       held = none-held _ _;
       size = sym c.no_places-places.ensures;
@@ -33,19 +32,12 @@ bounds-places-r c = omega (arith, few-transitions c.requires.known)
 pub after_transition-place-requires : goal.after_transition-place-requires
 after_transition-place-requires c = let s = c.args.s.now in let l = c.loop-r in omega (arith, ap (after_transition s) l.invariant.here, c.requires.known.records l.r (omega arith))
 
-pub overflow_add-r : goal.overflow_add-r
-overflow_add-r c = omega (arith, few-transitions c.requires.known)
-
-pub loop-r-smaller : goal.loop-r-smaller
-loop-r-smaller c = omega arith
-
 pub loop-r-preserved : goal.loop-r-preserved
 loop-r-preserved c =
     let s = c.args.s.now in
     let l = c.loop-r in
     let few = few-transitions c.requires.known in
     record {
-      some = omega arith;
       here = c.after_transition-place.ensures ∙ ap (after_transition s) l.invariant.here ∙ sym (place_of-next s l.r);
       held = one-more-held s l.places l.r l.place l.invariant.held (omega (arith, l.invariant.size, few)) l.invariant.here;
       size = length-set l.places l.r l.place ∙ l.invariant.size;

@@ -7,7 +7,7 @@
  *
  * Stack. zolkirta_judge, zolkirta_judge_costs, zolkirta_judge_strong and zolkirta_alike use at most 12,500 bytes each, zolkirta_sheet
  * 16,500, zolkirta_reduce 23,500, zolkirta_rewrite and zolkirta_rewrite_costs 18,600, zolkirta_read_prism 11,000, zolkirta_compose 7,000,
- * zolkirta_hide 2,700, zolkirta_join 2,600, zolkirta_fetch 2,500, zolkirta_sentence 500, zolkirta_largest 180 (measured, rounded up). In a
+ * zolkirta_hide 2,700, zolkirta_join 2,600, zolkirta_fetch 2,500, zolkirta_sentence 350, zolkirta_largest 160 (measured, rounded up). In a
  * dynamically linked program the loader adds some 3 KiB when it binds memcpy or memset at the first call. No heap is used.
  *
  * Threads. The library has no state and keeps no pointer: any number of calls may run at once.

@@ -4,10 +4,12 @@
 ghost use Rattle.std.specs.Prelude.{◌≤◌, [], ◌∷◌};
 ghost use Rattle.rules.specs.definitions.Answers.{refusal_in, answer_without_place};
 ghost use Rattle.fault.specs.Faults.{number_of, fault_of};
+ghost use Rattle.fault.specs.Numbers.{numbered_of};
 ghost use Rattle.answer.specs.Answered.{Says, FileAnswered, StretchInside};
 ghost use Rattle.answer.specs.Handing.{HandsBack};
 ghost use Rattle.answer.specs.TwoBuffers.{Unwritten};
 
+use fault::numbered::Numbered;
 use fault::{Fault, Refusal};
 
 // What a call answers: the papers' number, file (1 model, 2 certificate, 3 second model) and place; where the stretch, or the run of a
@@ -34,35 +36,62 @@ pub struct PairAnswer {
     pub certificate_written: usize,
 }
 
-impl Answer {
-    // The number, and how many bytes were written, of a call that says no more.
-    fn numbered(number: u32, written: usize) -> Answer
-        ensures { Says (answer_without_place number) written result }
-    {
-        Answer {
-            number,
-            file: 0,
-            place: 0,
-            stretch_start: 0,
-            stretch_length: 0,
-            written,
-            state: 0,
-            remainder: 0,
-        }
+// The number, and how many bytes were written, of a call that says no more.
+pub fn without_place(number: u32, written: usize) -> Answer
+    ensures { Says (answer_without_place number) written result }
+{
+    Answer {
+        number,
+        file: 0,
+        place: 0,
+        stretch_start: 0,
+        stretch_length: 0,
+        written,
+        state: 0,
+        remainder: 0,
     }
+}
 
+// A fault by its number in a file of so many bytes.
+pub fn refusal_in(fault: Numbered, file: u32, size: usize) -> Answer
+    requires { fault.place ≤ size }
+    ensures { Says (refusal_in (numbered_of fault) file fault.place size) 0 result }
+{
+    Answer {
+        number: fault.number,
+        file,
+        place: fault.place,
+        stretch_start: fault.place,
+        stretch_length: size - fault.place,
+        written: 0,
+        state: fault.state,
+        remainder: fault.remainder,
+    }
+}
+
+// The answer of a call that writes a file of so many bytes where its buffer has room for it, with the number that it has where there is none.
+pub fn file_answer(short: u32, size: usize, room: usize) -> Answer
+    ensures { FileAnswered short size room result }
+{
+    if room < size {
+        return without_place(short, 0);
+    }
+    without_place(0, size)
+}
+
+impl Answer {
     // Nothing is refused, and so many bytes were written.
-    pub fn written(size: usize) -> Answer
-        ensures { Says (answer_without_place 0) size result }
+    pub fn written(bytes: usize) -> Answer
+        ensures { Says (answer_without_place 0) bytes result }
     {
-        Answer::numbered(0, size)
+        without_place(0, bytes)
     }
 
     // A refusal that has no place.
     pub fn refused(refusal: Refusal) -> Answer
         ensures { Says (answer_without_place (number_of refusal)) 0 result }
     {
-        Answer::numbered(refusal.number(), 0)
+        without_place(refusal.number(), 0)
     }
 
     // A fault in a file of so many bytes.
@@ -70,26 +99,14 @@ impl Answer {
         requires { fault.place ≤ size }
         ensures { Says (refusal_in (fault_of fault) file fault.place size) 0 result }
     {
-        Answer {
-            number: fault.refusal.number(),
-            file,
-            place: fault.place,
-            stretch_start: fault.place,
-            stretch_length: size - fault.place,
-            written: 0,
-            state: fault.state,
-            remainder: fault.remainder,
-        }
+        refusal_in(Numbered::of(fault), file, size)
     }
 
     // The answer of a call that writes a file of so many bytes where its buffer has room for it, and refuses where there is none.
     pub fn of_file(short: Refusal, size: usize, room: usize) -> Answer
         ensures { FileAnswered (number_of short) size room result }
     {
-        if room < size {
-            return Answer::refused(short);
-        }
-        Answer::written(size)
+        file_answer(short.number(), size, room)
     }
 }
 

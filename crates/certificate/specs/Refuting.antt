@@ -50,7 +50,7 @@ module _ {s C table : List ℕ} {n count : ℕ} (k : Known s n count table) {row
       record { answer = λ R h. record-refused f _ (j.is (automaton_in s) (known-states k) R h) j.place; inside = omega (arith, inside, j.place) }
 
   module _ {v : T} (j : BlocksJudged C at n rows (Ok v)) where
-    blocks-agree : BlocksAgree C n rows (at + 2)
+    pub blocks-agree : BlocksAgree C n rows (at + 2)
     unfolding blocks_at same_block
     blocks-agree =
         record { shared = λ R h v u l m. go R (related R h v u l m) (R v u) refl }

@@ -103,7 +103,7 @@ RowTold blocks members rows told v = AreSame row_bits (row_bit rows v) (row_bit 
 
 -- the rows are compared: every row is that of its state's block, or one is not
 module _ {blocks members rows : List ℕ} {n : ℕ} (c : AreClasses blocks n members) (k : SmallBytes n blocks) where
-  agrees-all : ((v : ℕ) → v < n → (u : ℕ) → row_bit rows v u ≡ row_bit members (get_or blocks v 0) u) → Agrees blocks n rows true
+  pub agrees-all : ((v : ℕ) → v < n → (u : ℕ) → row_bit rows v u ≡ row_bit members (get_or blocks v 0) u) → Agrees blocks n rows true
   unfolding same_block
   agrees-all e =
       record {
@@ -111,7 +111,7 @@ module _ {blocks members rows : List ℕ} {n : ℕ} (c : AreClasses blocks n mem
             same-agree _ _ (sym ((c.row (get_or blocks v 0) (k.small v less)).bits u below) ∙ sym (e v less u) ∙ h.bits v u less below))));
       }
 
-  agrees-not : (v : ℕ) → v < n → (((u : ℕ) → row_bit rows v u ≡ row_bit members (get_or blocks v 0) u) → ⊥) → Agrees blocks n rows false
+  pub agrees-not : (v : ℕ) → v < n → (((u : ℕ) → row_bit rows v u ≡ row_bit members (get_or blocks v 0) u) → ⊥) → Agrees blocks n rows false
   unfolding same_block
   agrees-not v less o = record { tells = λ R h. go R h (shared_as_related n blocks R) refl }
     where

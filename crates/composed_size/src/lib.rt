@@ -97,7 +97,8 @@ fn count_pair(t: Fields, u: Fields) -> Sizes
     }
 }
 
-// A transition of the left with each partner that the right has for it.
+// A transition of the left with each partner that the right has for it. Out of line its loop keeps all it reads in registers.
+#[inline(never)]
 fn count_partners(t: Fields, right: Side) -> Sizes
     requires { SmallFields t }
     ensures { PartnersCounted t right.entry.file.now (SumsCounted right.entry.model.transitions pair_most) result }

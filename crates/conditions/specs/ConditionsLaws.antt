@@ -46,7 +46,7 @@ pub state-price : {s places : List ℕ} {n count r v : ℕ} {f : Fields} {table 
 state-price k h small less = (h.small, omega (arith, less, few-states k, k.states), small.small _ less)
 
 -- the cost of a transition is not above the highest
-cost-low : {kind : Kind} {s places : List ℕ} {count r : ℕ} → CostAsked kind s count places r → cost_in kind s r ≤ highest_cost
+pub cost-low : {kind : Kind} {s places : List ℕ} {count r : ℕ} → CostAsked kind s count places r → cost_in kind s r ≤ highest_cost
 cost-low {kind = Plain} a = omega arith
 cost-low {kind = Strong} a = omega arith
 cost-low {kind = Costs} {s} {r = r} a =

@@ -5,6 +5,8 @@ ghost use Rattle.std.specs.Prelude.{◌<◌, ◌≡◌, Result};
 ghost use Rattle.rules.specs.definitions.Faults as rules;
 ghost use Rattle.fault.specs.Faults.{number_of, fault_of, PlacedAt, AtPlace};
 
+pub mod numbered;
+
 // The refusals of the papers, each with its number.
 #[derive(Clone, Copy)]
 pub enum Refusal {

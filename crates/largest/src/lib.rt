@@ -107,11 +107,11 @@ fn write_pair(
     if certificate_out.len() < certificate_size {
         return answer::unwritten(Answer::refused(Refusal::LargestRoom));
     }
-    write_model(model_out, n, count);
-    write_certificate(certificate_out, n, count);
+    let model_written = write_model(model_out, n, count);
+    let certificate_written = write_certificate(certificate_out, n, count);
     PairAnswer {
-        answer: Answer::written(model_size),
-        certificate_written: certificate_size,
+        answer: Answer::written(model_written),
+        certificate_written,
     }
 }
 

@@ -1,11 +1,11 @@
 -- Laws of a line and of the head: their fields are the pieces at the spaces.
-use Rattle.std.specs.Prelude.{Option, None, Some, ℕ, ◌+◌, ◌-◌, ◌≤◌, ◌<◌, Bool, true, false, eqb, length, take, drop}
+use Rattle.std.specs.Prelude.{Option, None, Some, MatchOption, ℕ, ◌+◌, ◌-◌, ◌≤◌, ◌<◌, Bool, true, false, eqb, length, take, drop}
 use Rattle.std.proofs.Math.Path.{◌≡◌, refl, ap}
-use Rattle.std.proofs.Common.{sym, ◌∙◌, ap₂, inl, inr, length-drop, drop_of_length-le, take_all, eq-eqb, eqb-true, arith}
+use Rattle.std.proofs.Common.{sym, ◌∙◌, subst, inl, inr, length-drop, drop_of_length-le, take_all, eq-eqb, eqb-true, arith}
 use mathlib.Core.List.{List, [], ◌∷◌}
 use Rattle.std.proofs.Math.Decide.{ℕ_discrete, dec_lt}
 use Rattle.bisimulation.specs.definitions.Choice.{both}
-use Rattle.bisimulation.proofs.argument.ChoiceLaws.{less, not_less, not_same, is_true, is_false, either_true, past_less, past_same, kept_true, one-test, false-not, both_true, true-both}
+use Rattle.bisimulation.proofs.argument.ChoiceLaws.{less, not_less, same, not_same, is_true, is_false, either_true, past_less, past_same, kept_true, one-test, false-not, both_true, true-both}
 use Rattle.numbers.specs.definitions.Decimal.{value_of, is_number}
 use Rattle.numbers.proofs.argument.DecimalLaws.{number_digits}
 use Rattle.rules.specs.definitions.Limits.{limits}
@@ -16,10 +16,11 @@ use Rattle.prism.proofs.argument.PieceLaws.{digits-without, pieces-one, pieces-s
 use Rattle.prism.proofs.argument.LineLaws.{name-shown, shown-without, good-not}
 use Rattle.prism.proofs.argument.HeadLaws.{HeadRules, head-not}
 use Rattle.prism.proofs.argument.GoesOnLaws.{GoesOn, goes-on-pieces}
-use Rattle.text_fields.specs.Fields.{PieceEnds, number_below}
+use Rattle.text_fields.specs.Fields.{PieceEnds, number_below, IsBelow}
 use Rattle.text_fields.specs.FieldLaws.{ends-parted, ends_last, number_small, small-number, parts-most}
-use Rattle.prism_line.specs.LineRead.{FormRead, LineRead, HeadIs}
+use Rattle.prism_line.specs.LineRead.{with_target, FormRead, OnlyLines, WholeRead, are_both, LineRead, NumberTold, SameLine, RestTold, LineTold, HeadIs}
 use Rattle.prism_line.specs.LineParts.{TwoFields, RestIs, RestRead}
+use Rattle.prism_line.specs.declared.Line.{Line}
 use Rattle.prism_line.specs.declared.Rest.{Rest}
 
 -- a number that is none, or too high, is not below 65,536
@@ -30,66 +31,47 @@ number-high bs e n = go (dec_lt (value_of bs) 65536)
     go (yes h) = absurd (omega (arith, number_small 65536 bs n h))
     go (no h) = omega arith
 
--- what the fields of a line tell
-record Told (a b : List ℕ) (fields : List (List ℕ)) (x : prism.Line) : Type 0 where
-  third : List ℕ
-  fourth : List ℕ
-  more : List (List ℕ)
-  whole : fields ≡ third ∷ fourth ∷ more
-  is_source : is_number a ≡ true
-  is_choice : is_number b ≡ true
-  is_target : is_number third ≡ true
-  source : value_of a ≡ x.source
-  choice : value_of b ≡ x.choice
-  target : value_of third ≡ x.target
-  some : ten_thousandths fourth ≡ 0 → ⊥
+-- so is one that is told
+told : (bs : List ℕ) (r : Option ℕ) → is_number bs ≡ true → IsBelow 65536 (number_below 65536 bs) r → NumberTold (value_of bs) r
+told bs None n e = number-high bs e n
+told bs (Some v) n e = let k = small-number 65536 bs e.0 e.1 in (sym k.1, e.1)
 
-by-line : (a b t p name : List ℕ) (more : List (List ℕ)) (x : prism.Line) → line_by a b t p name ≡ prism.good x → Told a b (t ∷ p ∷ more) x
+-- what the fields of a line tell
+record LineOf (a b t p name : List ℕ) (x : prism.Line) : Type 0 where
+  source : is_number a ≡ true
+  choice : is_number b ≡ true
+  target : is_number t ≡ true
+  whole : record { source = value_of a; choice = value_of b; target = value_of t; parts = ten_thousandths p; name = name } ≡ x
+
+by-line : (a b t p name : List ℕ) (x : prism.Line) → line_by a b t p name ≡ prism.good x → LineOf a b t p name x
 unfolding line_by
-by-line a b t p name more x g =
+by-line a b t p name x g =
     let n1 = kept_true _ prism.broken (is_number a) (good-not x) (sym g) in
     let n2 = kept_true _ prism.broken (is_number b) (good-not x) n1.1 in
     let n3 = kept_true _ prism.broken (is_number t) (good-not x) n2.1 in
     let n4 = past_same prism.broken _ (ten_thousandths p) 0 (good-not x) n3.1 in
-    let whole : record { source = value_of a; choice = value_of b; target = value_of t; parts = ten_thousandths p; name = name } ≡ x = cc n4.1 in
-    record {
-      third = t;
-      fourth = p;
-      more = more;
-      whole = refl;
-      is_source = n1.0;
-      is_choice = n2.0;
-      is_target = n3.0;
-      source = ap (λ (y : prism.Line). y.source) whole;
-      choice = ap (λ (y : prism.Line). y.choice) whole;
-      target = ap (λ (y : prism.Line). y.target) whole;
-      some = n4.0;
-    }
-
-tells : (a b : List ℕ) (fields : List (List ℕ)) (x : prism.Line) → fields_line (a ∷ b ∷ fields) ≡ prism.good x → Told a b fields x
-unfolding fields_line line_by
-tells a b [] x g = absurd (good-not x (sym g))
-tells a b (t ∷ []) x g = absurd (good-not x (sym g))
-tells a b (t ∷ p ∷ name ∷ more ∷ ps) x g = absurd (good-not x (sym g))
-tells a b (t ∷ p ∷ []) x g = by-line a b t p [] [] x g
-tells a b (t ∷ p ∷ name ∷ []) x g = by-line a b t p name (name ∷ []) x (sym (kept_true _ prism.broken (is_name name) (good-not x) (sym g)).1)
+    record { source = n1.0; choice = n2.0; target = n3.0; whole = cc n4.1 }
 
 -- no line begins with two numbers
-module _ (s : List ℕ) (broken : read_line s ≡ prism.broken) (n : (c : Choice) → GoesOn c (pieces 0x20 s) → ⊥) where
-  read_none : LineRead s None
-  read_none =
-      record {
-        prefix = λ c low few. one-test _ _ (λ g. absurd (n c ((goes-on-pieces c s).0 g))) (λ f. absurd (false-not f));
-        form = λ x g. absurd (good-not x (sym g ∙ broken));
-      }
+abbrev pub unread : Line
+unread = record { source = None; choice = None; rest = None }
+
+read_none : (s : List ℕ) → read_line s ≡ prism.broken → ((c : Choice) → GoesOn c (pieces 0x20 s) → ⊥) → LineRead s unread
+read_none s broken n =
+    record {
+      prefix = λ c low few. one-test _ _ (λ g. absurd (n c ((goes-on-pieces c s).0 g))) (λ f. absurd (false-not f));
+      form = λ x g. absurd (good-not x (sym g ∙ broken));
+    }
 
 -- one field, or two
 module _ (s : List ℕ) (first : ℕ) (end : PieceEnds s 0 0x20 first) where
-  pub one_field : first ≡ length s → LineRead s None
+  pub one-broken : first ≡ length s → LineTold s unread
   unfolding read_line fields_line
+  one-broken e = ap fields_line (ends_last end e)
+
+  pub one_field : first ≡ length s → LineRead s unread
   one_field e =
-      let whole = ends_last end e in
-      read_none s (ap fields_line whole) (λ c g. let z : ◌≡◌ {A = ℕ} 0 1 = cc (g.whole, whole) in omega arith)
+      read_none s (one-broken e) (λ c g. let whole = ends_last end e in let z : ◌≡◌ {A = ℕ} 0 1 = cc (g.whole, whole) in omega arith)
 
   module _ (more : first ≡ length s → ⊥) where
     first-parted : pieces 0x20 s ≡ take first s ∷ pieces 0x20 (drop (first + 1) s)
@@ -101,11 +83,13 @@ module _ (s : List ℕ) (first : ℕ) (end : PieceEnds s 0 0x20 first) where
       second-last : second ≡ length s → pieces 0x20 s ≡ take first s ∷ take (second - (first + 1)) (drop (first + 1) s) ∷ []
       second-last e = first-parted ∙ ap (λ (l : List (List ℕ)). take first s ∷ l) (ends_last next e)
 
-      pub two_fields : second ≡ length s → LineRead s None
+      pub two-broken : second ≡ length s → LineTold s unread
       unfolding read_line fields_line
+      two-broken e = ap fields_line (second-last e)
+
+      pub two_fields : second ≡ length s → LineRead s unread
       two_fields e =
-          let whole = second-last e in
-          read_none s (ap fields_line whole) (λ c g. let z : ◌≡◌ {A = ℕ} 0 1 = cc (g.whole, whole) in omega arith)
+          read_none s (two-broken e) (λ c g. let whole = second-last e in let z : ◌≡◌ {A = ℕ} 0 1 = cc (g.whole, whole) in omega arith)
 
       pub fields-two : (second ≡ length s → ⊥) → TwoFields s first second
       fields-two n =
@@ -133,69 +117,90 @@ module _ {s : List ℕ} {first second : ℕ} (two : TwoFields s first second) wh
       let h : on.second ≡ other = cc (on.whole, two.fields) in
       ((sym (ap is_number f) ∙ on.is_source, sym (ap value_of f) ∙ on.source), (sym (ap is_number h) ∙ on.is_choice, sym (ap value_of h) ∙ on.number))
 
-  -- one of them is no number, or too high
-  pub no-source : number_below 65536 one ≡ 65536 → LineRead s None
-  no-source e =
-      record {
-        prefix = λ c low few.
-            one-test _ _
-            (λ g. let k = (begins ((goes-on-pieces c s).0 g)).0 in absurd (omega (arith, number-high one e k.0)))
-            (λ f. absurd (false-not f));
-        form = λ x g. let t = tells one other behind x (sym its-fields ∙ g) in inl (omega (arith, number-high one e t.is_source, t.source));
-      }
+  -- both are below 65,536
+  begins-two : {v w : ℕ} → (v ≡ number_below 65536 one) × (v < 65536) → (w ≡ number_below 65536 other) × (w < 65536) → (c : Choice) → goes_on (begun c) s ≡ both (eqb v c.source) (eqb w c.number)
+  begins-two {v} {w} source choice c = one-test _ _ there (back behind refl)
+    where
+      first-is : (is_number one ≡ true) × (value_of one ≡ v)
+      first-is = small-number 65536 one source.0 source.1
 
-  pub no-choice : number_below 65536 other ≡ 65536 → LineRead s None
-  no-choice e =
-      record {
-        prefix = λ c low few.
-            one-test _ _
-            (λ g. let k = (begins ((goes-on-pieces c s).0 g)).1 in absurd (omega (arith, number-high other e k.0)))
-            (λ f. absurd (false-not f));
-        form = λ x g.
-            let t = tells one other behind x (sym its-fields ∙ g) in
-            inr (omega (arith, number-high other e t.is_choice, t.choice));
-      }
+      second-is : (is_number other ≡ true) × (value_of other ≡ w)
+      second-is = small-number 65536 other choice.0 choice.1
 
-  -- both are read
-  module _ {v w : ℕ} (source : (v ≡ number_below 65536 one) × (v < 65536)) (choice : (w ≡ number_below 65536 other) × (w < 65536)) where
-    first-is : (is_number one ≡ true) × (value_of one ≡ v)
-    first-is = small-number 65536 one source.0 source.1
+      there : goes_on (begun c) s ≡ true → both (eqb v c.source) (eqb w c.number) ≡ true
+      there g =
+          let k = begins ((goes-on-pieces c s).0 g) in
+          true-both (eq-eqb _ _ (sym first-is.1 ∙ k.0.1)) (eq-eqb _ _ (sym second-is.1 ∙ k.1.1))
 
-    second-is : (is_number other ≡ true) × (value_of other ≡ w)
-    second-is = small-number 65536 other choice.0 choice.1
+      back : (ps : List (List ℕ)) → behind ≡ ps → both (eqb v c.source) (eqb w c.number) ≡ true → goes_on (begun c) s ≡ true
+      back [] q t = absurd (pieces-some 0x20 (drop (second + 1) s) q)
+      back (x ∷ xs) q t =
+          let k = both_true (eqb v c.source) (eqb w c.number) t in
+          let f : v ≡ c.source = eqb-true _ _ k.0 in
+          let h : w ≡ c.number = eqb-true _ _ k.1 in
+          (goes-on-pieces c s).1 (record { first = one; second = other; third = x; more = xs; whole = two.fields ∙ ap (λ (l : List (List ℕ)). one ∷ other ∷ l) q; is_source = first-is.0; source = first-is.1 ∙ f; is_choice = second-is.0; number = second-is.1 ∙ h })
 
-    begins-two : (c : Choice) → goes_on (begun c) s ≡ both (eqb v c.source) (eqb w c.number)
-    begins-two c = one-test _ _ there (back behind refl)
-      where
-        there : goes_on (begun c) s ≡ true → both (eqb v c.source) (eqb w c.number) ≡ true
-        there g =
-            let k = begins ((goes-on-pieces c s).0 g) in
-            true-both (eq-eqb _ _ (sym first-is.1 ∙ k.0.1)) (eq-eqb _ _ (sym second-is.1 ∙ k.1.1))
+  -- or one is no number, or too high
+  begins-with : (a b : Option ℕ) → IsBelow 65536 (number_below 65536 one) a → IsBelow 65536 (number_below 65536 other) b → (c : Choice) → c.source < 65536 → c.number < 65536 → goes_on (begun c) s ≡ are_both a b c.source c.number
+  begins-with None b e m c low few =
+      one-test _ _ (λ g. let k = (begins ((goes-on-pieces c s).0 g)).0 in absurd (omega (arith, number-high one e k.0))) (λ f. absurd (false-not f))
+  begins-with (Some v) None e m c low few =
+      one-test _ _ (λ g. let k = (begins ((goes-on-pieces c s).0 g)).1 in absurd (omega (arith, number-high other m k.0))) (λ f. absurd (false-not f))
+  begins-with (Some v) (Some w) e m c low few = begins-two e m c
 
-        back : (ps : List (List ℕ)) → behind ≡ ps → both (eqb v c.source) (eqb w c.number) ≡ true → goes_on (begun c) s ≡ true
-        back [] q t = absurd (pieces-some 0x20 (drop (second + 1) s) q)
-        back (x ∷ xs) q t =
-            let k = both_true (eqb v c.source) (eqb w c.number) t in
-            let f : v ≡ c.source = eqb-true _ _ k.0 in
-            let h : w ≡ c.number = eqb-true _ _ k.1 in
-            (goes-on-pieces c s).1 (record { first = one; second = other; third = x; more = xs; whole = two.fields ∙ ap (λ (l : List (List ℕ)). one ∷ other ∷ l) q; is_source = first-is.0; source = first-is.1 ∙ f; is_choice = second-is.0; number = second-is.1 ∙ h })
+  module _ (l : Line) (source : IsBelow 65536 (number_below 65536 one) l.source) (choice : IsBelow 65536 (number_below 65536 other) l.choice) where
+    same-line : {r : Rest} → RestIs behind s r → OnlyLines s (SameLine s l r)
+    same-line {r} k x g =
+        let line = k.line one other in
+        let w = by-line one other k.third k.fourth (drop r.name s) x (sym (its-fields ∙ line) ∙ g) in
+        subst (SameLine s l r) w.whole
+        (record { source = told one l.source w.source source; choice = told other l.choice w.choice choice; target = told k.third r.target w.target k.target; parts = k.parts; name = refl })
 
-    form-of : (r : Option Rest) → RestRead behind s r → FormRead s (Some (record { source = v; choice = w; rest = r }))
-    form-of None none =
-        λ x g. none one other x (sym its-fields ∙ g)
-    form-of (Some r) k =
+    told-with : (q : Option Rest) → RestRead behind s q → MatchOption q (read_line s ≡ prism.broken) (RestTold s l)
+    told-with None k = its-fields ∙ k one other
+    told-with (Some r) k =
+        record { same = same-line k; some = k.some; most = k.most; inside = k.inside }
+
+    pub line-told : RestRead behind s l.rest → LineTold s l
+    line-told = told-with l.rest
+
+  -- the rest of a line that begins with two numbers below 65,536
+  module _ {v w : ℕ} (source : (v ≡ number_below 65536 one) × (v < 65536)) (choice : (w ≡ number_below 65536 other) × (w < 65536)) {r : Rest} (k : RestIs behind s r) where
+    form-to : (t : Option ℕ) → IsBelow 65536 (number_below 65536 k.third) t → MatchOption (with_target v w r t) (OnlyLines s (λ x. 65536 ≤ x.target)) (WholeRead s)
+    unfolding line_by
+    form-to None n =
+        let line = k.line one other in
+        λ x g.
+        let m = by-line one other k.third k.fourth (drop r.name s) x (sym (its-fields ∙ line) ∙ g) in
+        omega (arith, number-high k.third n m.target, ap (λ (y : prism.Line). y.target) m.whole)
+    form-to (Some t) n =
+        let a = small-number 65536 one source.0 source.1 in
+        let b = small-number 65536 other choice.0 choice.1 in
+        let d = small-number 65536 k.third n.0 n.1 in
+        let line = k.line one other in
         record {
           good =
-              its-fields
-              ∙ k.line one other first-is.0 second-is.0
-              ∙ ap₂ (λ (a b : ℕ). prism.good (record { source = a; choice = b; target = r.target; parts = r.parts; name = drop r.name s })) first-is.1 second-is.1;
+              its-fields ∙ line
+              ∙ sym (is_true _ a.0 (is_true _ b.0 (is_true _ d.0 (not_same _ (λ z. omega (arith, k.parts, k.some)) refl))))
+              ∙ (λ i. prism.good (record { source = a.1 i; choice = b.1 i; target = d.1 i; parts = sym k.parts i; name = drop r.name s }));
           some = k.some;
           most = k.most;
           inside = k.inside;
         }
 
-    pub line-read : (r : Option Rest) → RestRead behind s r → LineRead s (Some (record { source = v; choice = w; rest = r }))
-    line-read r k = record { prefix = λ c low few. begins-two c; form = form-of r k }
+  form-of : (a b : Option ℕ) → IsBelow 65536 (number_below 65536 one) a → IsBelow 65536 (number_below 65536 other) b → (q : Option Rest) → RestRead behind s q → FormRead s (record { source = a; choice = b; rest = q })
+  form-of None b e m None k = λ x g. absurd (good-not x (sym g ∙ its-fields ∙ k one other))
+  form-of None b e m (Some r) k =
+      λ x g. inl (same-line (record { source = None; choice = b; rest = None }) e m k x g).source
+  form-of (Some v) None e m None k = λ x g. absurd (good-not x (sym g ∙ its-fields ∙ k one other))
+  form-of (Some v) None e m (Some r) k =
+      λ x g. inr (same-line (record { source = Some v; choice = None; rest = None }) e m k x g).choice
+  form-of (Some v) (Some w) e m None k = λ x g. absurd (good-not x (sym g ∙ its-fields ∙ k one other))
+  form-of (Some v) (Some w) e m (Some r) k = form-to e m k r.target k.target
+
+  pub line-read : {l : Line} → IsBelow 65536 (number_below 65536 one) l.source → IsBelow 65536 (number_below 65536 other) l.choice → RestRead behind s l.rest → LineRead s l
+  line-read {l} source choice rest =
+      record { prefix = begins-with l.source l.choice source choice; form = form-of l.source l.choice source choice l.rest rest }
 
 -- the part of the bytes from a place on
 to_end : (s : List ℕ) (at : ℕ) → take (length s - at) (drop at s) ≡ drop at s
@@ -217,6 +222,20 @@ unnamed-fields a b t p rest e = go (pieces 0x20 rest) refl
     go (x ∷ []) q = sym (is_false _ (ap is_name (piece-last 0x20 rest x q).1 ∙ e) refl)
     go (x ∷ y ∷ ys) q = refl
 
+-- what is no probability breaks the line
+partless : (a b t p name : List ℕ) → ten_thousandths p ≡ 0 → line_by a b t p name ≡ prism.broken
+unfolding line_by
+partless a b t p name e =
+    let Broken : prism.ReadLine → Type 0 = λ x. x ≡ prism.broken in
+    either_true Broken (is_number a) (either_true Broken (is_number b) (either_true Broken (is_number t) (sym (same _ e refl)) refl) refl) refl
+
+partless-fields : (a b t p : List ℕ) (ps : List (List ℕ)) → ten_thousandths p ≡ 0 → fields_line (a ∷ b ∷ t ∷ p ∷ ps) ≡ prism.broken
+unfolding fields_line
+partless-fields a b t p [] e = partless a b t p [] e
+partless-fields a b t p (name ∷ []) e =
+    either_true (λ (x : prism.ReadLine). x ≡ prism.broken) (is_name name) (partless a b t p name e) refl
+partless-fields a b t p (name ∷ more ∷ ps) e = refl
+
 -- the fields behind the two first
 module _ {s : List ℕ} {from third : ℕ} (end : PieceEnds s from 0x20 third) where
   abbrev third-field : List ℕ
@@ -224,19 +243,11 @@ module _ {s : List ℕ} {from third : ℕ} (end : PieceEnds s from 0x20 third) w
 
   pub three-fields : third ≡ length s → RestRead (pieces 0x20 (drop from s)) s None
   unfolding fields_line
-  three-fields e a b x g =
-      absurd (good-not x (sym g ∙ ap (λ (l : List (List ℕ)). fields_line (a ∷ b ∷ l)) (ends_last end e)))
+  three-fields e a b = ap (λ (l : List (List ℕ)). fields_line (a ∷ b ∷ l)) (ends_last end e)
 
   module _ (more : third ≡ length s → ⊥) where
     with-third : pieces 0x20 (drop from s) ≡ third-field ∷ pieces 0x20 (drop (third + 1) s)
     with-third = ends-parted end more
-
-    pub no-target : number_below 65536 third-field ≡ 65536 → RestRead (pieces 0x20 (drop from s)) s None
-    no-target e a b x g =
-        let t = tells a b _ x g in
-        let f : t.third ≡ third-field = cc (t.whole, with-third) in
-        let n = number-high third-field e (sym (ap is_number f) ∙ t.is_target) in
-        omega (arith, n, ap value_of f, t.target)
 
     module _ {fourth : ℕ} (next : PieceEnds s (third + 1) 0x20 fourth) where
       abbrev fourth-field : List ℕ
@@ -245,33 +256,23 @@ module _ {s : List ℕ} {from third : ℕ} (end : PieceEnds s from 0x20 third) w
       with-fourth : (ps : List (List ℕ)) → pieces 0x20 (drop (third + 1) s) ≡ fourth-field ∷ ps → pieces 0x20 (drop from s) ≡ third-field ∷ fourth-field ∷ ps
       with-fourth ps e = with-third ∙ ap (λ (l : List (List ℕ)). third-field ∷ l) e
 
-      next-field : (f : List ℕ) (ps : List (List ℕ)) → pieces 0x20 (drop (third + 1) s) ≡ f ∷ ps → f ≡ fourth-field
-      next-field f ps e = go (ℕ_discrete fourth (length s))
-        where
-          go : Dec (fourth ≡ length s) → f ≡ fourth-field
-          go (yes q) = let z = ends_last next q in cc (e, z)
-          go (no q) = let z = ends-parted next q in cc (e, z)
-
       pub no-parts : ten_thousandths fourth-field ≡ 0 → RestRead (pieces 0x20 (drop from s)) s None
-      no-parts e a b x g =
-          let t = tells a b _ x g in
-          let f : pieces 0x20 (drop (third + 1) s) ≡ t.fourth ∷ t.more = cc (t.whole, with-third) in
-          absurd (t.some (ap ten_thousandths (next-field t.fourth t.more f) ∙ e))
+      no-parts e a b =
+          ap (λ (l : List (List ℕ)). fields_line (a ∷ b ∷ l)) (with-fourth (more-fields (ℕ_discrete fourth (length s))) (next-fields _))
+          ∙ partless-fields a b third-field fourth-field _ e
+        where
+          more-fields : Dec (fourth ≡ length s) → List (List ℕ)
+          more-fields (yes q) = []
+          more-fields (no q) = pieces 0x20 (drop (fourth + 1) s)
 
-      module _ {v p : ℕ} (target : (v ≡ number_below 65536 third-field) × (v < 65536)) (parts : (p ≡ ten_thousandths fourth-field) × (1 ≤ p)) where
+          next-fields : (d : Dec (fourth ≡ length s)) → pieces 0x20 (drop (third + 1) s) ≡ fourth-field ∷ more-fields d
+          next-fields (yes q) = ends_last next q
+          next-fields (no q) = ends-parted next q
+
+      module _ {v : Option ℕ} {p : ℕ} (target : IsBelow 65536 (number_below 65536 third-field) v) (parts : (p ≡ ten_thousandths fourth-field) × (1 ≤ p)) where
         its-rest : (name : ℕ) → name ≤ length s → ((a b : List ℕ) → fields_line (a ∷ b ∷ pieces 0x20 (drop from s)) ≡ line_by a b third-field fourth-field (drop name s)) → RestIs (pieces 0x20 (drop from s)) s (record { target = v; parts = p; name = name })
-        unfolding line_by
         its-rest name inside e =
-            let k = small-number 65536 third-field target.0 target.1 in
-            record {
-              line = λ a b n m.
-                  e a b
-                  ∙ sym (is_true _ n (is_true _ m (is_true _ k.0 (not_same _ (λ z. omega (arith, parts.0, parts.1)) refl))))
-                  ∙ ap₂ (λ (x y : ℕ). prism.good (record { source = value_of a; choice = value_of b; target = x; parts = y; name = drop name s })) k.1 (sym parts.0);
-              some = parts.1;
-              most = omega (arith, parts-most fourth-field, parts.0);
-              inside = inside;
-            }
+            record { third = third-field; fourth = fourth-field; line = e; target = target; parts = parts.0; some = parts.1; most = omega (arith, parts-most fourth-field, parts.0); inside = inside }
 
         pub four-fields : fourth ≡ length s → RestIs (pieces 0x20 (drop from s)) s (record { target = v; parts = p; name = fourth })
         unfolding fields_line
@@ -279,20 +280,19 @@ module _ {s : List ℕ} {from third : ℕ} (end : PieceEnds s from 0x20 third) w
             its-rest fourth (omega arith)
             (λ a b. ap (λ (l : List (List ℕ)). fields_line (a ∷ b ∷ l)) (with-fourth [] (ends_last next e)) ∙ ap (line_by a b third-field fourth-field) (sym (drop_of_length-le s {i = fourth} (omega arith))))
 
-        module _ (n : fourth ≡ length s → ⊥) {shown : Bool} (name : shown ≡ is_name (take (length s - (fourth + 1)) (drop (fourth + 1) s))) where
-          last_name : is_name (drop (fourth + 1) s) ≡ shown
-          last_name = sym (name ∙ ap is_name (to_end s (fourth + 1)))
+      module _ (n : fourth ≡ length s → ⊥) {shown : Bool} (name : shown ≡ is_name (take (length s - (fourth + 1)) (drop (fourth + 1) s))) where
+        last_name : is_name (drop (fourth + 1) s) ≡ shown
+        last_name = sym (name ∙ ap is_name (to_end s (fourth + 1)))
 
-          pub five-fields : shown ≡ true → RestIs (pieces 0x20 (drop from s)) s (record { target = v; parts = p; name = fourth + 1 })
-          five-fields e =
-              its-rest (fourth + 1) (omega (arith, next.within))
-              (λ a b. ap (λ (l : List (List ℕ)). fields_line (a ∷ b ∷ l)) (with-fourth _ (ends-parted next n)) ∙ named-fields a b third-field fourth-field (drop (fourth + 1) s) (last_name ∙ e))
+        pub five-fields : {v : Option ℕ} {p : ℕ} → IsBelow 65536 (number_below 65536 third-field) v → (p ≡ ten_thousandths fourth-field) × (1 ≤ p) → shown ≡ true → RestIs (pieces 0x20 (drop from s)) s (record { target = v; parts = p; name = fourth + 1 })
+        five-fields target parts e =
+            its-rest target parts (fourth + 1) (omega (arith, next.within))
+            (λ a b. ap (λ (l : List (List ℕ)). fields_line (a ∷ b ∷ l)) (with-fourth _ (ends-parted next n)) ∙ named-fields a b third-field fourth-field (drop (fourth + 1) s) (last_name ∙ e))
 
-          pub no-name : shown ≡ false → RestRead (pieces 0x20 (drop from s)) s None
-          no-name e a b x g =
-              absurd (good-not x (sym g
-              ∙ ap (λ (l : List (List ℕ)). fields_line (a ∷ b ∷ l)) (with-fourth _ (ends-parted next n))
-              ∙ unnamed-fields a b third-field fourth-field (drop (fourth + 1) s) (last_name ∙ e)))
+        pub no-name : shown ≡ false → RestRead (pieces 0x20 (drop from s)) s None
+        no-name e a b =
+            ap (λ (l : List (List ℕ)). fields_line (a ∷ b ∷ l)) (with-fourth _ (ends-parted next n))
+            ∙ unnamed-fields a b third-field fourth-field (drop (fourth + 1) s) (last_name ∙ e)
 
 -- the head
 module _ (s : List ℕ) (first : ℕ) (end : PieceEnds s 0 0x20 first) where

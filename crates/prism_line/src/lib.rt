@@ -1,28 +1,36 @@
 // A line of a PRISM text, by its fields.
 #![tactic(auto)]
 
-ghost use Rattle.std.specs.Prelude.{◌≤◌, length, drop};
+ghost use Rattle.std.specs.Prelude.{◌≡◌, ◌≤◌, length, drop};
 ghost use Rattle.prism.specs.definitions.Lines.{pieces};
-ghost use Rattle.prism_line.specs.LineRead.{LineRead, HeadRead};
+ghost use Rattle.prism_line.specs.LineRead.{whole_in, LineRead, LineTold, HeadRead};
 ghost use Rattle.prism_line.specs.LineParts.{RestRead};
 
 const SPACE: u8 = 0x20;
 
-// What stands behind source and choice. The name is told by where it begins in the line, at the end where there is none.
+// What stands behind source and choice; the target is none where its field is no number below 65,536. The name is told by where it begins in the
+// line, at the end where there is none.
 #[derive(Clone, Copy)]
 pub struct Rest {
-    pub target: usize,
+    pub target: Option<usize>,
     pub parts: usize,
     pub name: usize,
 }
 
-// A line that begins with two numbers, each followed by a space; the rest is none where it breaks the form.
+// Source and choice are none where the field is no number below 65,536, or the two are not each followed by a space; the rest is none where it breaks
+// the form.
 #[derive(Clone, Copy)]
 pub struct Line {
-    pub source: usize,
-    pub choice: usize,
+    pub source: Option<usize>,
+    pub choice: Option<usize>,
     pub rest: Option<Rest>,
 }
+
+const BROKEN: Line = Line {
+    source: None,
+    choice: None,
+    rest: None,
+};
 
 // The fields from a place on.
 fn read_rest(s: &[u8], from: usize) -> Option<Rest>
@@ -33,7 +41,7 @@ fn read_rest(s: &[u8], from: usize) -> Option<Rest>
     if third == s.len() {
         return None;
     }
-    let target = text_fields::number(&s[from..third])?;
+    let target = text_fields::number(&s[from..third]);
     let fourth = text_fields::piece_end(s, third + 1, SPACE);
     let parts = text_fields::probability(&s[third + 1..fourth])?;
     if fourth == s.len() {
@@ -53,24 +61,51 @@ fn read_rest(s: &[u8], from: usize) -> Option<Rest>
     })
 }
 
-pub fn read_line(s: &[u8]) -> Option<Line>
-    ensures { LineRead s.now result }
+pub fn read_line(s: &[u8]) -> Line
+    ensures read { LineRead s.now result }
+    ensures told { LineTold s.now result }
 {
     let first = text_fields::piece_end(s, 0, SPACE);
     if first == s.len() {
-        return None;
+        return BROKEN;
     }
     let second = text_fields::piece_end(s, first + 1, SPACE);
     if second == s.len() {
-        return None;
+        return BROKEN;
     }
-    let source = text_fields::number(&s[..first])?;
-    let choice = text_fields::number(&s[first + 1..second])?;
+    let source = text_fields::number(&s[..first]);
+    let choice = text_fields::number(&s[first + 1..second]);
     let rest = read_rest(s, second + 1);
-    Some(Line {
+    Line {
         source,
         choice,
         rest,
+    }
+}
+
+// A line whose numbers are all below 65,536.
+#[derive(Clone, Copy)]
+pub struct Whole {
+    pub source: usize,
+    pub choice: usize,
+    pub target: usize,
+    pub parts: usize,
+    pub name: usize,
+}
+
+pub fn whole_of(line: Line) -> Option<Whole>
+    ensures { result ≡ whole_in line }
+{
+    let source = line.source?;
+    let choice = line.choice?;
+    let rest = line.rest?;
+    let target = rest.target?;
+    Some(Whole {
+        source,
+        choice,
+        target,
+        parts: rest.parts,
+        name: rest.name,
     })
 }
 

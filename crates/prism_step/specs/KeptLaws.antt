@@ -13,8 +13,7 @@ use Rattle.rules.proofs.argument.ReadBack.{transition_bytes-length}
 use Rattle.prism.specs.definitions.Reading.{Choice, begun, choices_with, last_target, action_of, with_name, with_extended, with_begun, choices_of}
 use Rattle.prism.specs.definitions.HeldModel.{weights_of, transition_of, transition_over, entry_over}
 use Rattle.prism.proofs.argument.NameLaws.{with-count}
-use Rattle.prism_line.specs.declared.Line.{Line}
-use Rattle.prism_line.specs.declared.Rest.{Rest}
+use Rattle.prism_line.specs.declared.Whole.{Whole}
 use Rattle.prism_names.specs.declared.Name.{Name}
 use Rattle.prism_choice.specs.declared.Target.{Target}
 use Rattle.prism_line.specs.LineRead.{line_in}
@@ -83,23 +82,23 @@ all-written {targets = targets} {records₁ = records₁} {used = used} {ended =
               ∙ ap (λ (o : Option Begun). transitions_bytes (map transition_of (choices_with ended (pending_in targets o)))) (sym e);
         }
 
-module _ {text : List ℕ} {names : List Name} {targets : List Target} {records : List ℕ} {states : ℕ} {ended : List Choice} {p : Progress} (h : Holds text names targets records states ended p) (most : states ≤ limits.states) {line : Line} {rest : Rest} (fit : Fits states p.lines line rest) (some : 1 ≤ rest.parts) (part : rest.parts ≤ 10000) where
+module _ {text : List ℕ} {names : List Name} {targets : List Target} {records : List ℕ} {states : ℕ} {ended : List Choice} {p : Progress} (h : Holds text names targets records states ended p) (most : states ≤ limits.states) {line : Whole} (fit : Fits states p.lines line) (some : 1 ≤ line.parts) (part : line.parts ≤ 10000) where
   -- a line that goes on
-  module _ {c : Begun} (e : p.begun ≡ Some c) (ascends : c.last < rest.target) where
+  module _ {c : Begun} (e : p.begun ≡ Some c) (ascends : c.last < line.target) where
     b : BegunHolds text states targets p c
     b = choice-holds h most e
 
     room : c.targets < length targets
     room = omega (arith, h.table, b.few, fit.target)
 
-    more : targets_in (set targets c.targets (target_of rest)) (c.targets + 1) ≡ targets_in targets c.targets ++ (record { state = rest.target; weight = rest.parts } ∷ [])
-    more = targets-more targets c.targets (target_of rest) room
+    more : targets_in (set targets c.targets (target_of line)) (c.targets + 1) ≡ targets_in targets c.targets ++ (record { state = line.target; weight = line.parts } ∷ [])
+    more = targets-more targets c.targets (target_of line) room
 
-    pub extend-holds : Holds text names (set targets c.targets (target_of rest)) records states ended (extended_by p c rest)
+    pub extend-holds : Holds text names (set targets c.targets (target_of line)) records states ended (extended_by p c line)
     extend-holds =
         record {
           known = h.known;
-          table = length-set targets c.targets (target_of rest) ∙ h.table;
+          table = length-set targets c.targets (target_of line) ∙ h.table;
           count = h.count;
           bytes = h.bytes;
           size = omega (arith, h.size, ap targets_of e);
@@ -110,28 +109,28 @@ module _ {text : List ℕ} {names : List Name} {targets : List Target} {records 
                 source = b.source;
                 number = b.number;
                 action = b.action;
-                total = omega (arith, b.total, sum-longer (targets_in targets c.targets) (record { state = rest.target; weight = rest.parts }), ap (sum_over (λ (x : Entry). x.weight)) more);
+                total = omega (arith, b.total, sum-longer (targets_in targets c.targets) (record { state = line.target; weight = line.parts }), ap (sum_over (λ (x : Entry). x.weight)) more);
                 most = omega (arith, b.most);
                 last = sym (ap last_target more ∙ last-longer (targets_in targets c.targets) _);
                 below = fit.target;
                 few = omega (arith, b.few);
-                divisor = ap (λ (g : ℕ). divisor g rest.parts) b.divisor ∙ sym (ap (λ (es : List Entry). divisor_of 0 (weights_of es)) more ∙ divisor-longer 0 (targets_in targets c.targets) _);
-                positive = divides-positive (divisor-greatest c.divisor rest.parts).second some;
-                fit = fit-more targets c.targets (target_of rest) room b.fit (omega (arith, b.few, fit.target)) (omega (arith, fit.target)) part;
+                divisor = ap (λ (g : ℕ). divisor g line.parts) b.divisor ∙ sym (ap (λ (es : List Entry). divisor_of 0 (weights_of es)) more ∙ divisor-longer 0 (targets_in targets c.targets) _);
+                positive = divides-positive (divisor-greatest c.divisor line.parts).second some;
+                fit = fit-more targets c.targets (target_of line) room b.fit (omega (arith, b.few, fit.target)) (omega (arith, fit.target)) part;
                 place = b.place;
               };
         }
 
     -- is read as the definition has it
-    pub extend-says : (s : List ℕ) → with_extended (progress_in text names targets ended p) (choice_in targets c) (line_in s line rest) ≡ progress_in text names (set targets c.targets (target_of rest)) ended (extended_by p c rest)
+    pub extend-says : (s : List ℕ) → with_extended (progress_in text names targets ended p) (choice_in targets c) (line_in s line) ≡ progress_in text names (set targets c.targets (target_of line)) ended (extended_by p c line)
     unfolding with_extended
     extend-says s =
         ap (λ (es : List Entry). record { lines = p.lines + 1; names = names_in text names p.names; ended = ended; pending = begun (record { place = c.place; source = c.source; number = c.number; action = c.action; entries = es }) }) (sym more)
 
   -- a line that begins a choice
   module _ {action from to used seen : ℕ} {names₁ : List Name} {records₁ : List ℕ} (starts : Begins p line action) (named : action ≡ action_of (names_in text names p.names) (between text from to)) (order : from ≤ to) (inside : to ≤ length text) (kept : NameKept names names₁ p.names action from to seen) (written : Appends (pending_bytes targets p.begun) p.used records records₁ used) (place : ℕ) (in-text : place ≤ length text) where
-    one : targets_in (set targets 0 (target_of rest)) 1 ≡ record { state = rest.target; weight = rest.parts } ∷ []
-    one = targets-one targets (target_of rest) (omega (arith, h.table))
+    one : targets_in (set targets 0 (target_of line)) 1 ≡ record { state = line.target; weight = line.parts } ∷ []
+    one = targets-one targets (target_of line) (omega (arith, h.table))
 
     seen-names : names_in text names₁ seen ≡ with_name (names_in text names p.names) (between text from to)
     seen-names = kept.names text h.known named
@@ -140,13 +139,13 @@ module _ {text : List ℕ} {names : List Name} {targets : List Target} {records 
     has-action =
         omega (arith, named, ap length seen-names, names-length text names₁ seen, with-count (names_in text names p.names) (between text from to))
 
-    pub begin-holds : Holds text names₁ (set targets 0 (target_of rest)) records₁ states (all_in targets ended p) (begun_by p line rest place action used seen)
+    pub begin-holds : Holds text names₁ (set targets 0 (target_of line)) records₁ states (all_in targets ended p) (begun_by p line place action used seen)
     unfolding sum_over last_target divisor_of
     begin-holds =
         let e = all-written h most written in
         record {
           known = kept.known text h.known order inside;
-          table = length-set targets 0 (target_of rest) ∙ h.table;
+          table = length-set targets 0 (target_of line) ∙ h.table;
           count = sym (all-count targets ended p h.count);
           bytes = e.bytes;
           size = omega (arith, e.size);
@@ -162,19 +161,19 @@ module _ {text : List ℕ} {names : List Name} {targets : List Target} {records 
                 last = sym (ap last_target one);
                 below = fit.target;
                 few = omega arith;
-                divisor = sym (ap (λ (es : List Entry). divisor_of 0 (weights_of es)) one ∙ divisor-first rest.parts);
+                divisor = sym (ap (λ (es : List Entry). divisor_of 0 (weights_of es)) one ∙ divisor-first line.parts);
                 positive = some;
-                fit = fit-more targets 0 (target_of rest) (omega (arith, h.table)) (fit_none h.table) (omega arith) (omega (arith, fit.target)) part;
+                fit = fit-more targets 0 (target_of line) (omega (arith, h.table)) (fit_none h.table) (omega arith) (omega (arith, fit.target)) part;
                 place = in-text;
               };
         }
 
-    pub begin-says : (s : List ℕ) → (line_in s line rest).name ≡ between text from to → with_begun (progress_in text names targets ended p) place (line_in s line rest) ≡ progress_in text names₁ (set targets 0 (target_of rest)) (all_in targets ended p) (begun_by p line rest place action used seen)
+    pub begin-says : (s : List ℕ) → (line_in s line).name ≡ between text from to → with_begun (progress_in text names targets ended p) place (line_in s line) ≡ progress_in text names₁ (set targets 0 (target_of line)) (all_in targets ended p) (begun_by p line place action used seen)
     unfolding with_begun choices_of
     begin-says s n = λ i. record { lines = p.lines + 1; names = all-names i; ended = all_in targets ended p; pending = begun (record { place = place; source = line.source; number = line.choice; action = by i; entries = sym one i }) }
       where
-        all-names : with_name (names_in text names p.names) (line_in s line rest).name ≡ names_in text names₁ seen
+        all-names : with_name (names_in text names p.names) (line_in s line).name ≡ names_in text names₁ seen
         all-names = ap (with_name (names_in text names p.names)) n ∙ sym seen-names
 
-        by : action_of (names_in text names p.names) (line_in s line rest).name ≡ action
+        by : action_of (names_in text names p.names) (line_in s line).name ≡ action
         by = ap (action_of (names_in text names p.names)) n ∙ sym named

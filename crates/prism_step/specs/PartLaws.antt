@@ -5,8 +5,7 @@ use borrow.Author.Rules.{rules}
 use Rattle.bisimulation.proofs.argument.ChoiceLaws.{kept_less, false-not}
 use Rattle.rules.specs.definitions.Limits.{limits}
 use Rattle.prism.specs.definitions.Reading.{Choice}
-use Rattle.prism_line.specs.declared.Line.{Line}
-use Rattle.prism_line.specs.declared.Rest.{Rest}
+use Rattle.prism_line.specs.declared.Whole.{Whole}
 use Rattle.prism_names.specs.declared.Name.{Name}
 use Rattle.prism_choice.specs.declared.Target.{Target}
 use Rattle.prism_choice.specs.Targets.{CanWriteChoice}
@@ -15,16 +14,16 @@ use Rattle.prism_step.specs.declared.Progress.{Progress}
 use Rattle.prism_step.specs.Progressing.{BegunHolds, Holds, count_with, count_by, targets_of, fits_by, CanEnd, CanBegin}
 
 -- a line that fits
-pub record Fits (states count : ℕ) (line : Line) (rest : Rest) : Type 0 where
+pub record Fits (states count : ℕ) (line : Whole) : Type 0 where
   pub source : line.source < states
-  pub target : rest.target < states
+  pub target : line.target < states
   pub lines : count < limits.entries
 
-pub fits-tells : (states lines : ℕ) (line : Line) (rest : Rest) → fits_by states lines line rest ≡ true → Fits states lines line rest
+pub fits-tells : (states lines : ℕ) (line : Whole) → fits_by states lines line ≡ true → Fits states lines line
 unfolding fits_by
-fits-tells states lines line rest e =
+fits-tells states lines line e =
     let source = kept_less _ _ line.source states (λ t. false-not (sym t)) (sym e) in
-    let target = kept_less _ _ rest.target states (λ t. false-not (sym t)) source.1 in
+    let target = kept_less _ _ line.target states (λ t. false-not (sym t)) source.1 in
     let entries = kept_less _ _ lines limits.entries (λ t. false-not (sym t)) target.1 in
     record { source = source.0; target = target.0; lines = entries.0 }
 
@@ -41,10 +40,10 @@ module _ {text : List ℕ} {names : List Name} {targets : List Target} {records 
   pub choice-holds : {c : Begun} → p.begun ≡ Some c → BegunHolds text states targets p c
   choice-holds e = subst (λ (o : Option Begun). IfSome o (BegunHolds text states targets p)) e h.pending
 
-  pub can-extend : {c : Begun} (line : Line) (rest : Rest) → p.begun ≡ Some c → fits_by states p.lines line rest ≡ true → rest.parts ≤ 10000 → (c.targets ≤ c.last + 1) × (rest.target < limits.states) × (p.lines ≤ limits.entries) × (c.total ≤ 10000 * limits.entries) × (rest.parts ≤ 10000)
-  can-extend line rest e fits parts =
+  pub can-extend : {c : Begun} (line : Whole) → p.begun ≡ Some c → fits_by states p.lines line ≡ true → line.parts ≤ 10000 → (c.targets ≤ c.last + 1) × (line.target < limits.states) × (p.lines ≤ limits.entries) × (c.total ≤ 10000 * limits.entries) × (line.parts ≤ 10000)
+  can-extend line e fits parts =
       let b = choice-holds e in
-      let f = fits-tells states p.lines line rest fits in
+      let f = fits-tells states p.lines line fits in
       (b.few, omega (arith, f.target), h.lines, omega (arith, b.most, h.lines), parts)
 
   can-write : length records ≡ 7936 → (o : Option Begun) → p.begun ≡ o → IfSome o (λ c. CanWriteChoice targets c.targets c.source c.action c.divisor records p.used)

@@ -12,7 +12,7 @@ use Rattle.prism.specs.definitions.Lines.{good, broken, read_line}
 use Rattle.prism.specs.definitions.Reading as reading
 use Rattle.prism.specs.definitions.Reading.{Choice, Pending, none, begun, goes_on, total_of, unless_total, refused_at, ReadText, choices_of, choices_with, last_target, action_of, with_name, Step, fault, read, step_read, step_by, step_on, step_begins, with_extended, with_begun}
 use Rattle.prism_line.specs.declared.Line.{Line}
-use Rattle.prism_line.specs.declared.Rest.{Rest}
+use Rattle.prism_line.specs.declared.Whole.{Whole}
 use Rattle.prism_names.specs.declared.Name.{Name}
 use Rattle.prism_choice.specs.declared.Target.{Target}
 use Rattle.prism_line.specs.LineRead.{LineRead, WholeRead, line_in, begins_so}
@@ -39,7 +39,7 @@ true-not : true ≡ false → ⊥
 true-not e = false-not (sym e)
 
 -- what one that begins a choice tells
-follows-tells : (n : ℕ) (o : Option Begun) (line : Line) → IfSome o (λ c. c.number ≤ n) → follows_by o line ≡ true → line.choice ≤ count_with n o
+follows-tells : (n : ℕ) (o : Option Begun) (line : Whole) → IfSome o (λ c. c.number ≤ n) → follows_by o line ≡ true → line.choice ≤ count_with n o
 follows-tells n None line few e = omega (arith, (kept_same true false line.choice 0 true-not (sym e)).0)
 follows-tells n (Some c) line few e = go (ℕ_discrete line.source c.source)
   where
@@ -50,12 +50,12 @@ follows-tells n (Some c) line few e = go (ℕ_discrete line.source c.source)
         let a = kept_less _ false c.source line.source true-not (sym e ∙ sym (not_same _ m refl)) in
         omega (arith, (kept_same true false line.choice 0 true-not a.1).0)
 
-pub record Begins (p : Progress) (line : Line) (action : ℕ) : Type 0 where
+pub record Begins (p : Progress) (line : Whole) (action : ℕ) : Type 0 where
   pub choice : line.choice ≤ count_by p
   pub count : count_by p < limits.transitions
   pub named : action < limits.actions
 
-pub begins-tells : (p : Progress) (line : Line) (action : ℕ) → IfSome p.begun (λ c. c.number ≤ p.choices) → begins_by p line action ≡ true → Begins p line action
+pub begins-tells : (p : Progress) (line : Whole) (action : ℕ) → IfSome p.begun (λ c. c.number ≤ p.choices) → begins_by p line action ≡ true → Begins p line action
 unfolding begins_by
 begins-tells p line action few e =
     let a = kept_true _ false (follows_by p.begun line) true-not (sym e) in
@@ -64,9 +64,9 @@ begins-tells p line action few e =
     record { choice = follows-tells p.choices p.begun line few a.0; count = b.0; named = c.0 }
 
 -- what one that goes on, and is taken, tells
-pub extends-tells : (c : Begun) (rest : Rest) (action : ℕ) → extends_by c rest action ≡ true → c.last < rest.target
+pub extends-tells : (c : Begun) (line : Whole) (action : ℕ) → extends_by c line action ≡ true → c.last < line.target
 unfolding extends_by
-extends-tells c rest action e = (kept_less _ false c.last rest.target true-not (sym e)).0
+extends-tells c line action e = (kept_less _ false c.last line.target true-not (sym e)).0
 
 -- the choice that has begun ends there without adding up, or the line is looked at
 abbrev pub unless_short : Option ℕ → ReadText → ReadText
@@ -78,7 +78,7 @@ module _ {text : List ℕ} {names : List Name} {targets : List Target} {records 
   few : (c : Begun) → p.begun ≡ Some c → c.number < 65535
   few c e = omega (arith, (choice-holds h most e).number, h.choices, ap (count_with p.choices) e)
 
-  module _ {s : List ℕ} {line : Option Line} (r : LineRead s line) where
+  module _ {s : List ℕ} {line : Line} (r : LineRead s line) where
     -- a line goes on, or does not
     goes-on-is : (c : Begun) → p.begun ≡ Some c → goes_on (begun (choice_in targets c)) s ≡ begins_so line c.source c.number
     goes-on-is c e =
@@ -167,17 +167,17 @@ module _ {text : List ℕ} {names : List Name} {targets : List Target} {records 
         fault-high off = ap (step_read limits head so-far place s) form ∙ high-by p.begun off
 
   -- what the definition makes of it, where it has the form
-  module _ {s : List ℕ} {line : Line} {rest : Rest} (r : LineRead s (Some line)) (w : WholeRead s line rest) (head : prism.Head) (same-states : head.states ≡ states) where
+  module _ {s : List ℕ} {l : Line} (r : LineRead s l) {line : Whole} (w : WholeRead s line) (head : prism.Head) (same-states : head.states ≡ states) where
     abbrev before : reading.Progress
     before = progress_in text names targets ended p
 
     abbrev x : prism.Line
-    x = line_in s line rest
+    x = line_in s line
 
-    pub fits-says : reading.fits limits head before x ≡ fits_by states p.lines line rest
+    pub fits-says : reading.fits limits head before x ≡ fits_by states p.lines line
     unfolding reading.fits fits_by
     fits-says =
-        ap (λ (n : ℕ). if_less line.source n (if_less rest.target n (if_less p.lines limits.entries true false) false) false) same-states
+        ap (λ (n : ℕ). if_less line.source n (if_less line.target n (if_less p.lines limits.entries true false) false) false) same-states
 
     follows-says : (o : Option Begun) → reading.follows (pending_in targets o) x ≡ follows_by o line
     unfolding reading.follows
@@ -191,7 +191,7 @@ module _ {text : List ℕ} {names : List Name} {targets : List Target} {records 
     begun_with place = read (with_begun before place x)
 
     -- it goes on with the choice that has begun
-    pub step-on : (place : ℕ) (c : Begun) → p.begun ≡ Some c → begins_so (Some line) c.source c.number ≡ true → reading.step limits head before place s ≡ if_true (reading.extends limits head before (choice_in targets c) x) (on_with c) fault
+    pub step-on : (place : ℕ) (c : Begun) → p.begun ≡ Some c → begins_so l c.source c.number ≡ true → reading.step limits head before place s ≡ if_true (reading.extends limits head before (choice_in targets c) x) (on_with c) fault
     unfolding reading.step step_read step_by step_on
     step-on place c e on =
         ap (step_read limits head before place s) w.good
@@ -199,22 +199,22 @@ module _ {text : List ℕ} {names : List Name} {targets : List Target} {records 
         ∙ sym (is_true _ (goes-on-is r c e ∙ on) refl)
 
     -- or begins one
-    off-by : (place : ℕ) (o : Option Begun) → p.begun ≡ o → goes_on_by o (Some line) ≡ false → step_by limits head before place s (pending_in targets o) x ≡ if_true (reading.begins limits head before x) (begun_with place) fault
+    off-by : (place : ℕ) (o : Option Begun) → p.begun ≡ o → goes_on_by o l ≡ false → step_by limits head before place s (pending_in targets o) x ≡ if_true (reading.begins limits head before x) (begun_with place) fault
     unfolding step_by step_begins
     off-by place None e off = refl
     off-by place (Some c) e off = sym (is_false _ (goes-on-is r c e ∙ off) refl)
 
-    pub step-off : (place : ℕ) → goes_on_by p.begun (Some line) ≡ false → reading.step limits head before place s ≡ if_true (reading.begins limits head before x) (begun_with place) fault
+    pub step-off : (place : ℕ) → goes_on_by p.begun l ≡ false → reading.step limits head before place s ≡ if_true (reading.begins limits head before x) (begun_with place) fault
     unfolding reading.step step_read
     step-off place off = ap (step_read limits head before place s) w.good ∙ off-by place p.begun refl off
 
     -- with the number of its name
-    module _ (fit : fits_by states p.lines line rest ≡ true) {action : ℕ} (named : action ≡ action_of (names_in text names p.names) x.name) where
-      pub extends-says : (c : Begun) → p.begun ≡ Some c → reading.extends limits head before (choice_in targets c) x ≡ extends_by c rest action
+    module _ (fit : fits_by states p.lines line ≡ true) {action : ℕ} (named : action ≡ action_of (names_in text names p.names) x.name) where
+      pub extends-says : (c : Begun) → p.begun ≡ Some c → reading.extends limits head before (choice_in targets c) x ≡ extends_by c line action
       unfolding reading.extends extends_by
       extends-says c e =
           sym (is_true _ (fits-says ∙ fit) refl)
-          ∙ ap₂ (λ (a k : ℕ). if_less a rest.target (if_same k c.action true false) false) (sym (choice-holds h most e).last) (sym named)
+          ∙ ap₂ (λ (a k : ℕ). if_less a line.target (if_same k c.action true false) false) (sym (choice-holds h most e).last) (sym named)
 
       name-fits : if_less (length (with_name (names_in text names p.names) x.name)) limits.actions true false ≡ if_less action limits.actions true false
       name-fits = go (dec_lt action limits.actions)

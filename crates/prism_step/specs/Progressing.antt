@@ -10,7 +10,7 @@ use Rattle.prism.specs.definitions.Reading as reading
 use Rattle.prism.specs.definitions.Reading.{Choice, Pending, none, begun, last_target}
 use Rattle.prism.specs.definitions.HeldModel.{weights_of, transition_of}
 use Rattle.prism_line.specs.declared.Line.{Line}
-use Rattle.prism_line.specs.declared.Rest.{Rest}
+use Rattle.prism_line.specs.declared.Whole.{Whole}
 use Rattle.prism_names.specs.declared.Name.{Name}
 use Rattle.prism_choice.specs.declared.Target.{Target}
 use Rattle.prism_names.specs.Names.{between, names_in, KnownNames, NameKept}
@@ -74,17 +74,17 @@ pub record Holds (text : List ℕ) (names : List Name) (targets : List Target) (
   pub pending : IfSome p.begun (BegunHolds text states targets p)
 
 -- a line begins with the source and number of the choice that has begun
-abbrev pub goes_on_by : Option Begun → Option Line → Bool
+abbrev pub goes_on_by : Option Begun → Line → Bool
 goes_on_by None line = false
 goes_on_by (Some c) line = begins_so line c.source c.number
 
 -- the place of the choice that has begun, where it ends before the line and does not add up
-abbrev pub short_by : Option Begun → Option Line → Option ℕ
+abbrev pub short_by : Option Begun → Line → Option ℕ
 short_by None line = None
 short_by (Some c) line = if_true (begins_so line c.source c.number) None (if_same c.total 10000 None (Some c.place))
 
 -- the line begins the next choice
-abbrev pub follows_by : Option Begun → Line → Bool
+abbrev pub follows_by : Option Begun → Whole → Bool
 follows_by None line = if_same line.choice 0 true false
 follows_by (Some c) line =
     if_same line.source c.source
@@ -92,19 +92,19 @@ follows_by (Some c) line =
     (if_less c.source line.source (if_same line.choice 0 true false) false)
 
 -- its states are there, and it passes no limit
-unfoldable pub fits_by : (states lines : ℕ) → Line → Rest → Bool
-fits_by states lines line rest =
-    if_less line.source states (if_less rest.target states (if_less lines limits.entries true false) false) false
+unfoldable pub fits_by : (states lines : ℕ) → Whole → Bool
+fits_by states lines line =
+    if_less line.source states (if_less line.target states (if_less lines limits.entries true false) false) false
 
 -- it goes on with the choice that has begun, its name having this action
-unfoldable pub extends_by : Begun → Rest → (action : ℕ) → Bool
-extends_by c rest action = if_less c.last rest.target (if_same action c.action true false) false
+unfoldable pub extends_by : Begun → Whole → (action : ℕ) → Bool
+extends_by c line action = if_less c.last line.target (if_same action c.action true false) false
 
-abbrev pub target_of : Rest → Target
-target_of rest = record { state = rest.target; parts = rest.parts }
+abbrev pub target_of : Whole → Target
+target_of line = record { state = line.target; parts = line.parts }
 
-abbrev pub extended_by : Progress → Begun → Rest → Progress
-extended_by p c rest =
+abbrev pub extended_by : Progress → Begun → Whole → Progress
+extended_by p c line =
     record {
       lines = p.lines + 1;
       choices = p.choices;
@@ -117,19 +117,19 @@ extended_by p c rest =
             number = c.number;
             action = c.action;
             targets = c.targets + 1;
-            total = c.total + rest.parts;
-            last = rest.target;
-            divisor = divisor c.divisor rest.parts;
+            total = c.total + line.parts;
+            last = line.target;
+            divisor = divisor c.divisor line.parts;
           });
     }
 
 -- it begins a choice, its name having this action
-unfoldable pub begins_by : Progress → Line → (action : ℕ) → Bool
+unfoldable pub begins_by : Progress → Whole → (action : ℕ) → Bool
 begins_by p line action =
     if_true (follows_by p.begun line) (if_less (count_by p) limits.transitions (if_less action limits.actions true false) false) false
 
-abbrev pub begun_by : Progress → Line → Rest → (place action used names : ℕ) → Progress
-begun_by p line rest place action used names =
+abbrev pub begun_by : Progress → Whole → (place action used names : ℕ) → Progress
+begun_by p line place action used names =
     record {
       lines = p.lines + 1;
       choices = count_by p;
@@ -142,9 +142,9 @@ begun_by p line rest place action used names =
             number = line.choice;
             action = action;
             targets = 1;
-            total = rest.parts;
-            last = rest.target;
-            divisor = rest.parts;
+            total = line.parts;
+            last = line.target;
+            divisor = line.parts;
           });
     }
 
@@ -162,14 +162,14 @@ pub record CanEnd (targets : List Target) (records : List ℕ) (p : Progress) : 
   pub room : p.used ≤ length records
 
 -- a line that goes on was taken into the table
-pub record ExtendedTo (p : Progress) (c : Begun) (rest : Rest) (action : ℕ) (before after : List Target) (q : Progress) : Type 0 where
-  pub good : extends_by c rest action ≡ true
-  pub progress : q ≡ extended_by p c rest
-  pub table : after ≡ set before c.targets (target_of rest)
+pub record ExtendedTo (p : Progress) (c : Begun) (line : Whole) (action : ℕ) (before after : List Target) (q : Progress) : Type 0 where
+  pub good : extends_by c line action ≡ true
+  pub progress : q ≡ extended_by p c line
+  pub table : after ≡ set before c.targets (target_of line)
 
 -- or it may not stand there
-abbrev pub Extended : Progress → Begun → Rest → (action : ℕ) → (before after : List Target) → Option Progress → Type 0
-Extended p c rest action before after r = MatchOption r (extends_by c rest action ≡ false) (ExtendedTo p c rest action before after)
+abbrev pub Extended : Progress → Begun → Whole → (action : ℕ) → (before after : List Target) → Option Progress → Type 0
+Extended p c line action before after r = MatchOption r (extends_by c line action ≡ false) (ExtendedTo p c line action before after)
 
 pub record CanBegin (p : Progress) (action : ℕ) (targets : List Target) (records : List ℕ) : Type 0 where
   pub numbered : IfSome p.begun (λ c. c.number ≤ limits.transitions)
@@ -180,20 +180,20 @@ pub record CanBegin (p : Progress) (action : ℕ) (targets : List Target) (recor
   pub ends : CanEnd targets records p
 
 -- a line that begins a choice: the one before it is written, its name kept, its target taken into the table
-pub record BeganTo (p : Progress) (line : Line) (rest : Rest) (place action from to : ℕ) (names₀ names₁ : List Name) (targets₀ targets₁ : List Target) (records₀ records₁ : List ℕ) (q : Progress) : Type 0 where
+pub record BeganTo (p : Progress) (line : Whole) (place action from to : ℕ) (names₀ names₁ : List Name) (targets₀ targets₁ : List Target) (records₀ records₁ : List ℕ) (q : Progress) : Type 0 where
   pub good : begins_by p line action ≡ true
-  pub progress : q ≡ begun_by p line rest place action q.used q.names
+  pub progress : q ≡ begun_by p line place action q.used q.names
   pub kept : NameKept names₀ names₁ p.names action from to q.names
   pub ended : Appends (pending_bytes targets₀ p.begun) p.used records₀ records₁ q.used
-  pub table : targets₁ ≡ set targets₀ 0 (target_of rest)
+  pub table : targets₁ ≡ set targets₀ 0 (target_of line)
 
 -- or it may not stand there
-abbrev pub Began : Progress → Line → Rest → (place action from to : ℕ) → (names₀ names₁ : List Name) → (targets₀ targets₁ : List Target) → (records₀ records₁ : List ℕ) → Option Progress → Type 0
-Began p line rest place action from to names₀ names₁ targets₀ targets₁ records₀ records₁ r =
-    MatchOption r (begins_by p line action ≡ false) (BeganTo p line rest place action from to names₀ names₁ targets₀ targets₁ records₀ records₁)
+abbrev pub Began : Progress → Whole → (place action from to : ℕ) → (names₀ names₁ : List Name) → (targets₀ targets₁ : List Target) → (records₀ records₁ : List ℕ) → Option Progress → Type 0
+Began p line place action from to names₀ names₁ targets₀ targets₁ records₀ records₁ r =
+    MatchOption r (begins_by p line action ≡ false) (BeganTo p line place action from to names₀ names₁ targets₀ targets₁ records₀ records₁)
 
 -- the line between two places of the text can be looked at
-pub record CanStep (text : List ℕ) (at end states : ℕ) (p : Progress) (line : Option Line) (names : List Name) (targets : List Target) (records : List ℕ) : Type 0 where
+pub record CanStep (text : List ℕ) (at end states : ℕ) (p : Progress) (line : Line) (names : List Name) (targets : List Target) (records : List ℕ) : Type 0 where
   pub ended : List Choice
   pub holds : Holds text names targets records states ended p
   pub reads : LineRead (between text at end) line

@@ -10,7 +10,7 @@ ghost use Rattle.prism_step.specs.Progressing.{nothing_by, short_by, count_by, f
 
 use limits::{ACTIONS, ENTRIES, TRANSITIONS};
 use prism_choice::{Target, Targets};
-use prism_line::{Line, Rest};
+use prism_line::{Line, Whole};
 use prism_names::Names;
 
 // A choice that has begun: the place of its first line, its source, its number and action, how many targets, what they add up to, the last one, and
@@ -51,18 +51,18 @@ pub fn nothing_read() -> Progress
 
 // Whether a line begins with the source and number of a choice, each followed by a space.
 #[tactic(auto, unfolding(bisimulation::specs::definitions::Choice::both))]
-fn goes_on(c: Begun, line: Option<Line>) -> bool
+fn goes_on(c: Begun, line: Line) -> bool
     ensures { result ≡ begins_so line c.source c.number }
 {
-    match line {
-        Some(l) => l.source == c.source && l.choice == c.number,
-        None => false,
+    match (line.source, line.choice) {
+        (Some(source), Some(choice)) => source == c.source && choice == c.number,
+        _ => false,
     }
 }
 
 // The place of the choice that has begun where it ends before this line, and does not add up to 1.
 #[tactic(auto, unfolding(bisimulation::specs::definitions::Choice::if_true, bisimulation::specs::definitions::Choice::if_same))]
-pub fn short_at(p: Progress, line: Option<Line>) -> Option<usize>
+pub fn short_at(p: Progress, line: Line) -> Option<usize>
     ensures { result ≡ short_by p.begun line }
 {
     let c = p.begun?;
@@ -101,7 +101,7 @@ pub fn choices_of(p: Progress) -> usize
 
 // Whether a line may begin the next choice: sources never descend, choices of a source count up from 0.
 #[tactic(auto, unfolding(bisimulation::specs::definitions::Choice::if_less, bisimulation::specs::definitions::Choice::if_same))]
-fn follows(begun: Option<Begun>, line: Line) -> bool
+fn follows(begun: Option<Begun>, line: Whole) -> bool
     requires { IfSome begun (λ c. c.number ≤ limits.transitions) }
     ensures { result ≡ follows_by begun line }
 {
@@ -118,10 +118,10 @@ fn follows(begun: Option<Begun>, line: Line) -> bool
 
 // Whether the states of a line are there, and it passes no limit.
 #[tactic(auto, unfolding(crate::specs::Progressing::fits_by, bisimulation::specs::definitions::Choice::if_less))]
-fn fits(states: usize, lines: usize, line: Line, rest: Rest) -> bool
-    ensures { result ≡ fits_by states lines line rest }
+fn fits(states: usize, lines: usize, line: Whole) -> bool
+    ensures { result ≡ fits_by states lines line }
 {
-    line.source < states && rest.target < states && lines < ENTRIES
+    line.source < states && line.target < states && lines < ENTRIES
 }
 
 // A line that goes on with the choice that has begun; its name has this action.
@@ -129,28 +129,28 @@ fn fits(states: usize, lines: usize, line: Line, rest: Rest) -> bool
 fn extend(
     p: Progress,
     c: Begun,
-    rest: Rest,
+    line: Whole,
     action: usize,
     targets: &mut Targets,
 ) -> Option<Progress>
-    requires { (c.targets ≤ c.last + 1) × (rest.target < limits.states) × (p.lines ≤ limits.entries) × (c.total ≤ 10000 * limits.entries) × (rest.parts ≤ 10000) }
-    ensures { Extended p c rest action targets.old targets.new result }
+    requires { (c.targets ≤ c.last + 1) × (line.target < limits.states) × (p.lines ≤ limits.entries) × (c.total ≤ 10000 * limits.entries) × (line.parts ≤ 10000) }
+    ensures { Extended p c line action targets.old targets.new result }
 {
-    if rest.target <= c.last {
+    if line.target <= c.last {
         return None;
     }
     if action != c.action {
         return None;
     }
     targets[c.targets] = Target {
-        state: rest.target,
-        parts: rest.parts,
+        state: line.target,
+        parts: line.parts,
     };
     let begun = Begun {
         targets: c.targets + 1,
-        total: c.total + rest.parts,
-        last: rest.target,
-        divisor: greatest_divisor::divisor(c.divisor, rest.parts),
+        total: c.total + line.parts,
+        last: line.target,
+        divisor: greatest_divisor::divisor(c.divisor, line.parts),
         ..c
     };
     Some(Progress {
@@ -163,8 +163,7 @@ fn extend(
 // A line at a place that begins a choice; its name has this action, and stands at these places of the text.
 fn begin(
     p: Progress,
-    line: Line,
-    rest: Rest,
+    line: Whole,
     place: usize,
     action: usize,
     from: usize,
@@ -174,7 +173,7 @@ fn begin(
     records: &mut [u8],
 ) -> Option<Progress>
     requires { CanBegin p action targets.old records.old }
-    ensures { Began p line rest place action from to names.old names.new targets.old targets.new records.old records.new result }
+    ensures { Began p line place action from to names.old names.new targets.old targets.new records.old records.new result }
 {
     if !follows(p.begun, line) {
         return None;
@@ -189,8 +188,8 @@ fn begin(
     let used = end_choice(p, targets, records);
     let seen = prism_names::with_name(names, p.names, action, from, to);
     targets[0] = Target {
-        state: rest.target,
-        parts: rest.parts,
+        state: line.target,
+        parts: line.parts,
     };
     let begun = Begun {
         place,
@@ -198,9 +197,9 @@ fn begin(
         number: line.choice,
         action,
         targets: 1,
-        total: rest.parts,
-        last: rest.target,
-        divisor: rest.parts,
+        total: line.parts,
+        last: line.target,
+        divisor: line.parts,
     };
     Some(Progress {
         lines: p.lines + 1,
@@ -218,7 +217,7 @@ pub fn step(
     end: usize,
     states: usize,
     p: Progress,
-    line: Option<Line>,
+    line: Line,
     names: &mut Names,
     targets: &mut Targets,
     records: &mut [u8],
@@ -226,19 +225,16 @@ pub fn step(
     requires { CanStep text.now at end states p line names.old targets.old records.old }
     ensures { StepSays text.now at end states p names.old names.new targets.old targets.new records.old records.new result }
 {
-    let whole = line?;
-    let rest = whole.rest?;
-    if !fits(states, p.lines, whole, rest) {
+    let whole = prism_line::whole_of(line)?;
+    if !fits(states, p.lines, whole) {
         return None;
     }
-    let from = at + rest.name;
+    let from = at + whole.name;
     let action = prism_names::action_of(text, names, p.names, from, end);
     if let Some(c) = p.begun {
         if goes_on(c, line) {
-            return extend(p, c, rest, action, targets);
+            return extend(p, c, whole, action, targets);
         }
     }
-    begin(
-        p, whole, rest, at, action, from, end, names, targets, records,
-    )
+    begin(p, whole, at, action, from, end, names, targets, records)
 }

@@ -123,7 +123,7 @@ as-fault {f = f} p inside e =
     record { inside = omega (arith, p.at, inside); plain = p.is ∙ ap rules-faults.fault (sym number); refused = e ∙ ap₂ refused_at (sym number) (sym p.at) }
 
 -- a line of the loop
-module _ {text : List ℕ} {from : ℕ} {head : Head} {names : List Name} {targets : List Target} {records : List ℕ} {p : Progress} {at : ℕ} (b : Between text from head names targets records p at) {end : ℕ} (e : PieceEnds text at 0x0A end) {line : Option Line} (l : LineRead (between text at end) line) where
+module _ {text : List ℕ} {from : ℕ} {head : Head} {names : List Name} {targets : List Target} {records : List ℕ} {p : Progress} {at : ℕ} (b : Between text from head names targets records p at) {end : ℕ} (e : PieceEnds text at 0x0A end) {line : Line} (l : LineRead (between text at end) line) where
   abbrev now-read : reading.Progress
   now-read = progress_in text names targets b.ended p
 

@@ -64,7 +64,7 @@ pub further-small : {kind : Kind} {C : List ℕ} {at : ℕ} {l : ℤ} → IsFurt
 further-small {l = l} h = rw (price-back l h.small) h.small
 
 -- the prices A stand in the record
-first-inside : (kind : Kind) (n challenger : ℕ) → first_prices kind n ≤ prices_by kind n challenger
+pub first-inside : (kind : Kind) (n challenger : ℕ) → first_prices kind n ≤ prices_by kind n challenger
 unfolding prices_by
 first-inside kind n challenger = omega arith
 

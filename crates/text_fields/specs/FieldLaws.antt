@@ -10,9 +10,8 @@ use borrow.Author.Rules.{rules}
 use lib.Pointwise.{pointwise}
 use Rattle.std.specs.Int.{is_in_range}
 use Rattle.std.specs.Bool.{then_some}
-use Rattle.std.proofs.lemmas.List.{get_or-drop}
 use Rattle.std.proofs.Math.Nat.{one-le-pow}
-use Rattle.std.proofs.Math.Decide.{dec_lt}
+use Rattle.std.proofs.Math.Decide.{ℕ_discrete, dec_lt}
 use Rattle.bisimulation.specs.definitions.Choice.{if_less, if_same, if_true, both}
 use Rattle.bisimulation.proofs.argument.ChoiceLaws.{less, not_less, same, not_same, is_true, is_false, not_true, via, either_same, kept_less, kept_true, past_less, one-test, false-not, both_true, true-both}
 use Rattle.rules.specs.definitions.Bytes.{byte_at}
@@ -30,40 +29,26 @@ true-not e = false-not (sym e)
 byte_next : (s : List ℕ) (at : ℕ) → at < length s → drop at s ≡ get_or s at 0 ∷ drop (at + 1) s
 byte_next s at h = drop-cons s at 0 h ∙ ap (λ (k : ℕ). get_or s at 0 ∷ drop k s) (sym (add-one at))
 
--- the piece from a place on ends where the first byte behind it that parts stands
-module _ (s : List ℕ) (from parting : ℕ) (inside : from ≤ length s) {t : List ℕ} (taken : t ≡ take (length s - from) (drop from s)) where
-  e : t ≡ drop from s
-  e = taken ∙ take_all (length s - from) (drop from s) (omega (arith, length-drop from s))
+-- no byte that parts from a place on up to here
+pub record NoneParts (s : List ℕ) (from parting at : ℕ) : Type 0 where
+  pub after : from ≤ at
+  pub within : at ≤ length s
+  pub clear : (i : ℕ) → from ≤ i → i < at → get_or s i 0 ≡ parting → ⊥
 
-  behind : (i : ℕ) → from ≤ i → get_or s i 0 ≡ get_or t (i - from) 0
-  behind i low =
-      let k : from + (i - from) ≡ i = omega arith in
-      ap (λ (j : ℕ). get_or s j 0) (sym k) ∙ sym (get_or-drop from s (i - from) 0) ∙ ap (λ (l : List ℕ). get_or l (i - from) 0) (sym e)
+pub none_yet : (s : List ℕ) (from parting : ℕ) → from ≤ length s → NoneParts s from parting from
+none_yet s from parting h = record { after = omega arith; within = h; clear = λ i low high e. omega arith }
 
-  size : length t ≡ length s - from
-  size = ap length e ∙ length-drop from s
+module _ {s : List ℕ} {from parting at : ℕ} (w : NoneParts s from parting at) where
+  pub parts-not : at < length s → (get_or s at 0 ≡ parting → ⊥) → NoneParts s from parting (at + 1)
+  parts-not h n = record { after = omega arith; within = omega arith; clear = λ i low high e. go i low high e (ℕ_discrete i at) }
+    where
+      go : (i : ℕ) → from ≤ i → i < at + 1 → get_or s i 0 ≡ parting → Dec (i ≡ at) → ⊥
+      go i low high e (yes p) = n (sym (ap (λ (k : ℕ). get_or s k 0) p) ∙ e)
+      go i low high e (no m) = w.clear i low (omega arith) e
 
-  pub parts-at : {i : ℕ} → ((k : ℕ) → k < i → get_or t k 0 ≡ parting → ⊥) → get_or t i 0 ≡ parting → i < length t → PieceEnds s from parting (from + i)
+  pub parts-here : (at < length s → get_or s at 0 ≡ parting) → PieceEnds s from parting at
   unfolding byte_at
-  parts-at {i} clear here low =
-      let k : from + i - from ≡ i = omega arith in
-      record {
-        after = omega arith;
-        within = omega (arith, size);
-        clear = λ j after before p. clear (j - from) (omega arith) (sym (behind j after) ∙ p);
-        stops = λ _. behind (from + i) (omega arith) ∙ ap (λ (j : ℕ). get_or t j 0) k ∙ here;
-      }
-
-  -- or at the end where none does
-  pub parts-never : ((k : ℕ) → k < length t → get_or t k 0 ≡ parting → ⊥) → PieceEnds s from parting (length s)
-  unfolding byte_at
-  parts-never clear =
-      record {
-        after = inside;
-        within = omega arith;
-        clear = λ j after before p. clear (j - from) (omega (arith, size)) (sym (behind j after) ∙ p);
-        stops = λ less. absurd (omega arith);
-      }
+  parts-here e = record { after = w.after; within = w.within; clear = w.clear; stops = e }
 
 -- where the piece ends, as the pieces of the bytes
 module _ {s : List ℕ} {from parting end : ℕ} (w : PieceEnds s from parting end) where
@@ -108,6 +93,30 @@ unfolding is_name
 shown-tells [] some e = absurd (some refl)
 shown-tells (b ∷ s) some e =
     one-test _ _ (λ p. shown-each (b ∷ s) (e.0 p)) (λ q. e.1 (each-shown (b ∷ s) q))
+
+-- whether the bytes up to a place are all shown
+abbrev pub ShownTo : (s : List ℕ) (at : ℕ) → Bool → Type 0
+ShownTo s at t = (t ≡ true) ↔ ((k : ℕ) → k < at → is_in_range 0x21 0x7E (get_or s k 0) ≡ true)
+
+pub all-shown-start : (s : List ℕ) → ShownTo s 0 true
+all-shown-start s = (λ e k less. absurd (omega arith), λ h. refl)
+
+pub all-shown-next : (s : List ℕ) (at : ℕ) {t u : Bool} → ShownTo s at t → u ≡ t && is_in_range 0x21 0x7E (get_or s at 0) → ShownTo s (at + 1) u
+all-shown-next s at {t} {u} h e = (λ p. all (and_parts t (sym e ∙ p)), λ each. e ∙ both-and (h.1 (λ k less. each k (omega arith))) (each at (omega arith)))
+  where
+    and_parts : (t : Bool) {v : Bool} → t && v ≡ true → (t ≡ true) × (v ≡ true)
+    and_parts true p = (refl, p)
+    and_parts false p = absurd (false-not p)
+
+    both-and : {t v : Bool} → t ≡ true → v ≡ true → t && v ≡ true
+    both-and p q = search rules
+
+    all : (t ≡ true) × (is_in_range 0x21 0x7E (get_or s at 0) ≡ true) → (k : ℕ) → k < at + 1 → is_in_range 0x21 0x7E (get_or s k 0) ≡ true
+    all p k less = go (ℕ_discrete k at)
+      where
+        go : Dec (k ≡ at) → is_in_range 0x21 0x7E (get_or s k 0) ≡ true
+        go (yes q) = ap (λ (j : ℕ). is_in_range 0x21 0x7E (get_or s j 0)) q ∙ p.1
+        go (no n) = h.0 p.0 k (omega arith)
 
 pub no-name : (s : List ℕ) → length s ≡ 0 → false ≡ is_name s
 unfolding is_name
@@ -250,7 +259,7 @@ module _ (most : ℕ) where
 
 -- what the number tells of the field
 module _ (most : ℕ) (bs : List ℕ) where
-  number-value : is_number bs ≡ true → if_less (value_of bs) most (value_of bs) most ≡ number_below most bs
+  pub number-value : is_number bs ≡ true → if_less (value_of bs) most (value_of bs) most ≡ number_below most bs
   unfolding number_below
   number-value e = is_true most e refl
 

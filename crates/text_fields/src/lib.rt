@@ -9,15 +9,18 @@ ghost use Rattle.text_fields.specs.Fields.{PieceEnds, number_below, digits_from,
 // Numbers are read below this: no limit is as high.
 const NUMBERS: usize = 65536;
 
-// Where the piece that begins at a place ends: at the first byte that parts, or at the end.
+// Where the piece that begins at a place ends: at the first byte that parts, or at the end. Out of line its loop keeps one place alone.
+#[inline(never)]
 pub fn piece_end(s: &[u8], from: usize, parting: u8) -> usize
     requires { from ≤ length s.now }
     ensures { PieceEnds s.now from parting result }
 {
-    match s[from..].iter().position(|b| *b == parting) {
-        Some(i) => from + i,
-        None => s.len(),
+    for at in from..s.len() {
+        if s[at] == parting {
+            return at;
+        }
     }
+    s.len()
 }
 
 // The value of digits with one more behind them; none where that is no digit, or the value is too high.
@@ -86,11 +89,15 @@ pub fn probability(s: &[u8]) -> Option<usize>
     (0 < parts).then_some(parts)
 }
 
-// One or more bytes from 21 to 7E (hexadecimal).
+// One or more bytes from 21 to 7E (hexadecimal). No byte ends the loop, so that it takes many at once.
 pub fn is_name(s: &[u8]) -> bool
     ensures { result ≡ is_name s.now }
 {
-    !s.is_empty() && s.iter().all(|b| b.is_ascii_graphic())
+    let mut shown = true;
+    for b in s {
+        shown &= b.is_ascii_graphic();
+    }
+    !s.is_empty() && shown
 }
 
 // Whether two runs of bytes are the same.

@@ -1,5 +1,7 @@
 -- `write_pair` meets its contract: 41, or both files.
 use mathlib.Core.Path.{refl}
+use Rattle.answer.specs.AnsweredLaws.{without-as}
+use Rattle.largest_pair.proofs.argument.LargestLaws.{model-length, certificate-length}
 use native.Mathlib.Omega.{arith}
 use Rattle.largest.specs.LargestLaws.{flows-fit, model-short, certificate-short, pair-written}
 use Rattle.largest.proofs.write_pair.Goals as goal
@@ -23,4 +25,6 @@ returns-then-certificate_out-certificate_size c =
 
 pub returns : goal.returns
 returns c =
-    pair-written _ _ _ _ c.requires c.write_model.ensures c.write_certificate.ensures c.written.ensures refl
+    let p = c.write_model-model_written.ensures in
+    let q = c.write_certificate-certificate_written.ensures in
+    pair-written _ _ _ _ c.requires p q (without-as 0 _ c.written.ensures refl (omega (arith, p.place, model-length c.args.n c.args.count))) (omega (arith, q.place, certificate-length c.args.n c.args.count))

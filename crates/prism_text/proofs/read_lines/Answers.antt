@@ -9,27 +9,27 @@ lines-init c = lines_start c.requires c.nothing_read-p.ensures
 
 pub returns-in-Some : goal.returns-in-Some
 returns-in-Some c =
-    lines-short c.lines.invariant c.piece_end-end.ensures c.read_line-line.ensures (sym c.short_at.ensures ∙ c.in-Some.is)
+    lines-short c.lines.invariant c.piece_end-end.ensures c.read_line-line.ensures.read (sym c.short_at.ensures ∙ c.in-Some.is)
     (record { is = c.at.ensures.is ∙ c.fault.ensures; at = c.at.ensures.at })
 
 pub returns-then-counts : goal.returns-then-counts
 returns-then-counts c =
-    lines-held c.lines.invariant c.piece_end-end.ensures c.read_line-line.ensures (sym c.short_at.ensures ∙ c.in_default.is)
+    lines-held c.lines.invariant c.piece_end-end.ensures c.read_line-line.ensures.read (sym c.short_at.ensures ∙ c.in_default.is)
     c.if-end-text.true c.if-at-end.true (sym c.counts.ensures ∙ c.if-counts.true)
 
 pub returns-then-end-text : goal.returns-then-end-text
 returns-then-end-text c =
     let adds = sym c.short_at.ensures ∙ c.in_default.is in
     elim c.else-at-end.branch [
-      | else-at-end-via-then-at-end+else-counts w ↦ lines-other c.lines.invariant c.piece_end-end.ensures c.read_line-line.ensures adds (record { is = c.at-then-end-text.ensures.is ∙ c.fault-then-end-text.ensures; at = c.at-then-end-text.ensures.at }) c.if-end-text.true w.if-at-end.true (sym w.counts.ensures ∙ w.if-counts.false)
-      | else-at-end-via-else-at-end w ↦ lines-open c.lines.invariant c.piece_end-end.ensures c.read_line-line.ensures adds (record { is = c.at-then-end-text.ensures.is ∙ c.fault-then-end-text.ensures; at = c.at-then-end-text.ensures.at }) c.if-end-text.true w.if-at-end.false
+      | else-at-end-via-then-at-end+else-counts w ↦ lines-other c.lines.invariant c.piece_end-end.ensures c.read_line-line.ensures.read adds (record { is = c.at-then-end-text.ensures.is ∙ c.fault-then-end-text.ensures; at = c.at-then-end-text.ensures.at }) c.if-end-text.true w.if-at-end.true (sym w.counts.ensures ∙ w.if-counts.false)
+      | else-at-end-via-else-at-end w ↦ lines-open c.lines.invariant c.piece_end-end.ensures c.read_line-line.ensures.read adds (record { is = c.at-then-end-text.ensures.is ∙ c.fault-then-end-text.ensures; at = c.at-then-end-text.ensures.at }) c.if-end-text.true w.if-at-end.false
     ]
 
 pub returns-in_default-step : goal.returns-in_default-step
 returns-in_default-step c =
-    lines-fault c.lines.invariant c.piece_end-end.ensures c.read_line-line.ensures (sym c.short_at.ensures ∙ c.in_default.is) c.if-end-text.false
+    lines-fault c.lines.invariant c.piece_end-end.ensures c.read_line-line.ensures.read (sym c.short_at.ensures ∙ c.in_default.is) c.if-end-text.false
     (record { is = c.at-in_default-step.ensures.is ∙ c.fault-in_default-step.ensures; at = c.at-in_default-step.ensures.at }) c.in_default-step.ensures
 
 pub lines-preserved : goal.lines-preserved
 lines-preserved c =
-    lines-turn c.lines.invariant c.piece_end-end.ensures c.read_line-line.ensures (sym c.short_at.ensures ∙ c.in_default.is) c.if-end-text.false c.in-Some-step.ensures
+    lines-turn c.lines.invariant c.piece_end-end.ensures c.read_line-line.ensures.read (sym c.short_at.ensures ∙ c.in_default.is) c.if-end-text.false c.in-Some-step.ensures

@@ -1,17 +1,19 @@
--- `piece_end` meets its contract.
-use Rattle.std.proofs.Common.{rules, ◌≡◌, ◌<◌, ℕ, length, get_or}
-use Rattle.text_fields.specs.FieldLaws.{parts-at, parts-never}
+-- `piece_end` meets its contract. The invariant: no byte that parts lies between the beginning and here.
+use native.Mathlib.Omega.{arith}
+use Rattle.std.proofs.Common.{◌≡◌, subst, length}
+use Rattle.text_fields.specs.FieldLaws.{NoneParts, none_yet, parts-not, parts-here}
 use Rattle.text_fields.proofs.piece_end.Goals as goal
 
-pub returns-in-Some : goal.returns-in-Some
-returns-in-Some c =
-    let t = c.iter.result.rest.now in
-    let clear : (k : ℕ) → k < c.in-Some.i → get_or t k 0 ≡ c.args.parting → ⊥ = search rules in
-    let here : get_or t c.in-Some.i 0 ≡ c.args.parting = search rules in
-    parts-at _ _ _ c.requires c.iter.ensures.rest clear here c.in-Some.ensures.bound
+pub loop-at-init : goal.loop-at-init
+loop-at-init c = none_yet _ _ _ (omega arith)
 
-pub returns-in-None : goal.returns-in-None
-returns-in-None c =
-    let t = c.iter.result.rest.now in
-    let clear : (k : ℕ) → k < length t → get_or t k 0 ≡ c.args.parting → ⊥ = search rules in
-    parts-never _ _ _ c.requires c.iter.ensures.rest clear
+pub returns-then-s-at : goal.returns-then-s-at
+returns-then-s-at c = parts-here c.loop-at.invariant (λ h. c.if-s-at.true)
+
+pub loop-at-preserved : goal.loop-at-preserved
+loop-at-preserved c = parts-not c.loop-at.invariant (omega arith) c.if-s-at.false
+
+pub returns : goal.returns
+returns c =
+    let last : c.loop-at.at ≡ length c.args.s.now = omega arith in
+    parts-here (subst (NoneParts c.args.s.now c.args.from c.args.parting) last c.loop-at.invariant) (λ h. absurd (omega arith))

@@ -1,7 +1,7 @@
--- `Answer::numbered` meets its contract.
+-- `without_place` meets its contract.
 use Rattle.rules.specs.definitions.Answers.{answer_without_place}
 use mathlib.Core.Path.{refl}
-use Rattle.answer.proofs.Answer.numbered.Goals as goal
+use Rattle.answer.proofs.without_place.Goals as goal
 
 pub returns : goal.returns
 unfolding answer_without_place

@@ -1,9 +1,0 @@
--- `Answer::of_file` meets its contract: one answer without room, one with it.
-use native.Mathlib.Omega.{arith}
-use Rattle.answer.proofs.Answer.of_file.Goals as goal
-
-pub returns-then-room-size : goal.returns-then-room-size
-returns-then-room-size c = record { few = λ h. c.refused.ensures; enough = λ h. absurd (omega arith) }
-
-pub returns : goal.returns
-returns c = record { few = λ h. absurd (omega arith); enough = λ h. c.written.ensures }

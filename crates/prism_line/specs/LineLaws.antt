@@ -41,6 +41,7 @@ record LineOf (a b t p name : List ℕ) (x : prism.Line) : Type 0 where
   source : is_number a ≡ true
   choice : is_number b ≡ true
   target : is_number t ≡ true
+  some : ten_thousandths p ≡ 0 → ⊥
   whole : record { source = value_of a; choice = value_of b; target = value_of t; parts = ten_thousandths p; name = name } ≡ x
 
 by-line : (a b t p name : List ℕ) (x : prism.Line) → line_by a b t p name ≡ prism.good x → LineOf a b t p name x
@@ -50,7 +51,7 @@ by-line a b t p name x g =
     let n2 = kept_true _ prism.broken (is_number b) (good-not x) n1.1 in
     let n3 = kept_true _ prism.broken (is_number t) (good-not x) n2.1 in
     let n4 = past_same prism.broken _ (ten_thousandths p) 0 (good-not x) n3.1 in
-    record { source = n1.0; choice = n2.0; target = n3.0; whole = cc n4.1 }
+    record { source = n1.0; choice = n2.0; target = n3.0; some = n4.0; whole = cc n4.1 }
 
 -- no line begins with two numbers
 abbrev pub unread : Line
@@ -198,9 +199,14 @@ module _ {s : List ℕ} {first second : ℕ} (two : TwoFields s first second) wh
   form-of (Some v) (Some w) e m None k = λ x g. absurd (good-not x (sym g ∙ its-fields ∙ k one other))
   form-of (Some v) (Some w) e m (Some r) k = form-to e m k r.target k.target
 
+  -- whatever else is known of it
+  pub line-so : {l : Line} → IsBelow 65536 (number_below 65536 one) l.source → IsBelow 65536 (number_below 65536 other) l.choice → FormRead s l → LineRead s l
+  line-so {l} source choice form =
+      record { prefix = begins-with l.source l.choice source choice; form = form }
+
   pub line-read : {l : Line} → IsBelow 65536 (number_below 65536 one) l.source → IsBelow 65536 (number_below 65536 other) l.choice → RestRead behind s l.rest → LineRead s l
   line-read {l} source choice rest =
-      record { prefix = begins-with l.source l.choice source choice; form = form-of l.source l.choice source choice l.rest rest }
+      line-so source choice (form-of l.source l.choice source choice l.rest rest)
 
 -- the part of the bytes from a place on
 to_end : (s : List ℕ) (at : ℕ) → take (length s - at) (drop at s) ≡ drop at s

@@ -199,14 +199,15 @@ module _ {s : List ℕ} {first second : ℕ} (two : TwoFields s first second) wh
   form-of (Some v) (Some w) e m None k = λ x g. absurd (good-not x (sym g ∙ its-fields ∙ k one other))
   form-of (Some v) (Some w) e m (Some r) k = form-to e m k r.target k.target
 
-  -- whatever else is known of it
-  pub line-so : {l : Line} → IsBelow 65536 (number_below 65536 one) l.source → IsBelow 65536 (number_below 65536 other) l.choice → FormRead s l → LineRead s l
-  line-so {l} source choice form =
+  -- a line with its first two numbers, by what it is read as
+  pub line-by-form : {l : Line} → IsBelow 65536 (number_below 65536 one) l.source → IsBelow 65536 (number_below 65536 other) l.choice → FormRead s l → LineRead s l
+  line-by-form {l} source choice form =
       record { prefix = begins-with l.source l.choice source choice; form = form }
 
+  -- or by what its rest is read as
   pub line-read : {l : Line} → IsBelow 65536 (number_below 65536 one) l.source → IsBelow 65536 (number_below 65536 other) l.choice → RestRead behind s l.rest → LineRead s l
   line-read {l} source choice rest =
-      line-so source choice (form-of l.source l.choice source choice l.rest rest)
+      line-by-form source choice (form-of l.source l.choice source choice l.rest rest)
 
 -- the part of the bytes from a place on
 to_end : (s : List ℕ) (at : ℕ) → take (length s - at) (drop at s) ≡ drop at s
